@@ -1,0 +1,9 @@
+pub mod Shape
+pub mod Geometry
+pub mod ByteFile
+pub mod Legal
+pub mod Kinds
+pub mod OfTrace
+pub mod Order
+pub mod Text
+pub mod Rows

@@ -1,0 +1,35 @@
+-- What reading a trace answers: the jobs whose printed text it is, or the first line at which it is no such text.
+use Rattle.std.specs.Prelude.{ℕ, ◌+◌, ◌≡◌, ◌<◌, ◌≤◌, List, ◌++◌, length, Result, Ok, Err}
+use Rattle.log_entry.specs.declared.calls.Job.{Job}
+use Rattle.trace_reader.specs.TraceText.{line_text, trace_text}
+use Rattle.trace_reader.specs.Trace.{Follows, IsTrace}
+use Rattle.trace_reader.specs.declared.refusals.BadTrace.{BadTrace}
+use Rattle.trace_reader.specs.declared.refusals.BadTrace.TheVariants.{BadLine, BadSeat, BadNumber, BadHex, TooMuch, TooLong}
+
+-- the most bytes that a trace may have
+abbrev pub trace_limit : ℕ
+trace_limit = 67108864
+
+-- a text that begins with the line of a job that may follow these
+abbrev pub GoesOn : ℕ → List Job → List ℕ → Type 0
+GoesOn seats before text = (job : Job) × (rest : List ℕ) × Follows seats before job × (text ≡ line_text job ++ rest)
+
+-- the line is the first that is not the line of a job that may stand there
+pub record IsFirstBadLine (seats : ℕ) (bytes : List ℕ) (line : ℕ) : Type 0 where
+  pub before : List Job
+  pub rest : List ℕ
+  pub good : IsTrace seats before
+  pub split : bytes ≡ trace_text before ++ rest
+  pub place : line ≡ length before + 1
+  pub some : 0 < length rest
+  pub bad : GoesOn seats before rest → ⊥
+
+-- the answer for these bytes and so many seats
+abbrev pub Reads : ℕ → List ℕ → Result (List Job) BadTrace → Type 0
+Reads seats bytes (Ok jobs) = (length bytes ≤ trace_limit) × IsTrace seats jobs × (bytes ≡ trace_text jobs)
+Reads seats bytes (Err (BadLine line)) = (length bytes ≤ trace_limit) × IsFirstBadLine seats bytes line
+Reads seats bytes (Err TooLong) = trace_limit < length bytes
+Reads seats bytes (Err (BadSeat line seat)) = ⊥
+Reads seats bytes (Err (BadNumber line)) = ⊥
+Reads seats bytes (Err (BadHex line)) = ⊥
+Reads seats bytes (Err (TooMuch line)) = ⊥

@@ -1,0 +1,26 @@
+//! Why a trace is refused.
+
+/// The first thing that is wrong with a trace. Lines count from 1.
+#[derive(Clone, Copy, Debug, PartialEq, Eq)]
+pub enum BadTrace {
+    /// The line is no call.
+    BadLine { line: u64 },
+    /// The seat is none of the volume's.
+    BadSeat { line: u64, seat: u64 },
+    /// A number is none, or too great.
+    BadNumber { line: u64 },
+    /// The bytes are no hexadecimal digits.
+    BadHex { line: u64 },
+    /// All reads up to this line, with its own, are more than 268,435,456 bytes.
+    TooMuch { line: u64 },
+    /// The trace has more than 67,108,864 bytes.
+    TooLong,
+}
+
+/// Why reading a trace gave no jobs.
+#[derive(Clone, Copy, Debug, PartialEq, Eq)]
+pub enum TraceRefusal {
+    Bad(BadTrace),
+    /// Want of memory.
+    NoMemory,
+}
