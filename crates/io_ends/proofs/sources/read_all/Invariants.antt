@@ -1,0 +1,11 @@
+use Rattle.std.proofs.Common.{◌≡◌, ◌+◌, ◌-◌, ◌≤◌, ℕ, vec_len}
+use Rattle.io_ends.specs.Taking.{Takes}
+use Rattle.io_ends.proofs.sources.read_all.Given as goal
+
+abbrev pub invariant-loop-count : goal.invariant-loop-count
+invariant-loop-count g l = (vec_len l.buffer ≡ 65536) × (vec_len l.bytes ≤ l.limit)
+    × Takes (g.S.Source.left l.initial.source) (g.S.Source.left l.source) l.bytes.items
+    × (g.S.Source.faults l.source ≡ g.S.Source.faults l.initial.source)
+
+abbrev pub decreases-loop-count : goal.decreases-loop-count
+decreases-loop-count g l = l.limit + 1 - vec_len l.bytes
