@@ -1,6 +1,11 @@
 //! A source over std's readers and a sink over its writers. They tell no content, as none is known of
 //! a file or a standard stream; only their counts of faults bind them.
-ghost use Rattle.std.specs.Prelude.{◌≡◌, ◌<◌, ◌≤◌, ℕ, List, None, IfSome, length};
+ghost use Rattle.std.specs.Prelude.{◌≡◌, ◌<◌, ◌≤◌, ℕ, List, None, IfSome, MatchOption, length, take};
+ghost use Rattle.std.specs.Io.KnownBytes.{Appends};
+ghost use Rattle.io_ends.specs.Faults.{ReadCounts, WriteCounts};
+ghost use Rattle.io_ends.specs.Taking.{IsGivenCount, ReadTakes};
+ghost use Rattle.io_ends.specs.Giving.{IsTakenCount, WriteGives};
+ghost use Rattle.io_ends.specs.Standard.{ReaderLoses, WriterGains, AppendsPrefix};
 
 use crate::sinks::{Put, Sink};
 use crate::sources::{Got, Source};
@@ -27,7 +32,14 @@ impl<R: Read> Source for FromRead<R> {
 
     ghost faults = { λ source. source.failed };
 
-    fn read(&mut self, into: &mut [u8]) -> Got {
+    fn read(&mut self, into: &mut [u8]) -> Got
+        requires { 0 < length into.old }
+        ensures count { IsGivenCount result (length into.old) }
+        ensures bytes { ReadTakes result None None into.new }
+        ensures cause { ReadCounts result self.old.failed self.new.failed }
+        ensures later { self.old.failed ≤ self.new.failed }
+        ensures reader { ReaderLoses result (R.remaining self.old.reader) (R.remaining self.new.reader) into.new }
+    {
         match self.reader.read(into) {
             Ok(0) => Got::End,
             Ok(count) => Got::Bytes(count),
@@ -64,7 +76,14 @@ impl<W: Write> Sink for ToWrite<W> {
 
     ghost faults = { λ sink. sink.failed };
 
-    fn write(&mut self, piece: &[u8]) -> Put {
+    fn write(&mut self, piece: &[u8]) -> Put
+        requires { 0 < length piece.now }
+        ensures count { IsTakenCount result (length piece.now) }
+        ensures bytes { WriteGives result None None piece.now }
+        ensures cause { WriteCounts result self.old.failed self.new.failed }
+        ensures later { self.old.failed ≤ self.new.failed }
+        ensures writer { WriterGains result (W.contents self.old.writer) (W.contents self.new.writer) piece.now }
+    {
         match flushed_write(&mut self.writer, piece) {
             Some(count) => Put::Took(count),
             None => {
@@ -78,7 +97,9 @@ impl<W: Write> Sink for ToWrite<W> {
 // How many bytes were written and flushed, at least 1; `None` where the write failed or took nothing,
 // and where the flush failed.
 fn flushed_write<W: Write>(writer: &mut W, piece: &[u8]) -> Option<usize>
-    ensures { IfSome result (λ count. (0 < count) × (count ≤ length piece.now)) }
+    ensures count { IfSome result (λ count. (0 < count) × (count ≤ length piece.now)) }
+    ensures bytes { MatchOption result (AppendsPrefix (W.contents writer.old) (W.contents writer.new) piece.now)
+        (λ count. Appends (W.contents writer.old) (W.contents writer.new) (take count piece.now)) }
 {
     let count = writer.write(piece).ok()?;
     if count == 0 {
