@@ -1,11 +1,11 @@
 -- Which replies an operation may have, whatever the file is.
-use Rattle.std.specs.Prelude.{ℕ, ◌<◌, ◌↔◌, List, IsSome}
+use Rattle.std.specs.Prelude.{◌<◌, ◌↔◌, List, IsSome}
 use Rattle.std.specs.List.{AllByRecursion}
-use Rattle.log_entry.specs.declared.shapes.Area.TheVariants.{Data, Log, Spare}
+use Rattle.log_entry.specs.declared.shapes.Area.TheVariants.{Spare}
 use Rattle.log_entry.specs.declared.calls.Op.{Op}
 use Rattle.log_entry.specs.declared.calls.Op.TheVariants.{Pwrite, Append, Pread, Size, Sync, Collect}
 use Rattle.log_entry.specs.declared.calls.WriteRefusal.{WriteRefusal}
-use Rattle.log_entry.specs.declared.calls.WriteRefusal.TheVariants.{TooLong, TooLarge, NoSpace, PositionLimit}
+use Rattle.log_entry.specs.declared.calls.WriteRefusal.TheVariants.{NoSpace}
 use Rattle.log_entry.specs.declared.calls.Reply.{Reply}
 use Rattle.log_entry.specs.declared.calls.Reply.TheVariants.{Wrote, Appended, NotWritten, Bytes, Size as FileSize, Synced, Collected, NotCollected}
 use Rattle.log_entry.specs.declared.calls.Call.{Call}
@@ -31,3 +31,12 @@ IsReplyTo _ _ = ⊥
 -- each call has a reply of a kind that its operation has
 abbrev pub HaveKinds : List Call → Type 0
 HaveKinds calls = AllByRecursion (λ (call : Call). IsReplyTo call.op call.reply) calls
+
+-- the reply is no refusal for want of space
+abbrev pub IsNoWantOfSpace : Reply → Type 0
+IsNoWantOfSpace (NotWritten (NoSpace area)) = ⊥
+IsNoWantOfSpace _ = Unit {0}
+
+-- no call was refused for want of space
+abbrev pub NoneLackSpace : List Call → Type 0
+NoneLackSpace calls = AllByRecursion (λ (call : Call). IsNoWantOfSpace call.reply) calls
