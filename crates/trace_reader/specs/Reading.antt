@@ -5,6 +5,8 @@ use Rattle.trace_reader.specs.TraceText.{line_text, trace_text}
 use Rattle.trace_reader.specs.Trace.{Follows, IsTrace}
 use Rattle.trace_reader.specs.declared.refusals.BadTrace.{BadTrace}
 use Rattle.trace_reader.specs.declared.refusals.BadTrace.TheVariants.{BadLine, BadSeat, BadNumber, BadHex, TooMuch, TooLong}
+use Rattle.trace_reader.specs.declared.refusals.TraceRefusal.{TraceRefusal}
+use Rattle.trace_reader.specs.declared.refusals.TraceRefusal.TheVariants.{Bad, NoMemory}
 
 -- the most bytes that a trace may have
 abbrev pub trace_limit : ℕ
@@ -33,3 +35,8 @@ Reads seats bytes (Err (BadSeat line seat)) = ⊥
 Reads seats bytes (Err (BadNumber line)) = ⊥
 Reads seats bytes (Err (BadHex line)) = ⊥
 Reads seats bytes (Err (TooMuch line)) = ⊥
+
+-- why these bytes gave no jobs; want of memory may come at any
+abbrev pub Refuses : ℕ → List ℕ → TraceRefusal → Type 0
+Refuses seats bytes (Bad why) = Reads seats bytes (Err why)
+Refuses seats bytes NoMemory = Unit {0}
