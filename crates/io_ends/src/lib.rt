@@ -6,6 +6,8 @@ mod in_memory;
 mod sinks;
 mod sources;
 mod standard;
+#[cfg(test)]
+mod tests;
 mod word_list;
 
 pub use failing::{FailingBytes, FailingGathered};

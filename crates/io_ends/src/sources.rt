@@ -52,11 +52,7 @@ const PIECE: usize = 65536;
 ///
 /// Reads until the end. It stops at the first read that fails, with `ReadFault`; as soon as the
 /// source gave `limit` + 1 bytes, with `TooLong`; and where the bytes find no room, with `NoMemory`.
-pub fn read_all<S: Source>(
-    alloc: Global,
-    source: &mut S,
-    limit: usize,
-) -> Result<Vec<u8>, ReadAll>
+pub fn read_all<S: Source>(alloc: Global, source: &mut S, limit: usize) -> Result<Vec<u8>, ReadAll>
     ensures fits { IfOk result (λ bytes. vec_len bytes ≤ limit) }
     ensures all { IfOk result (λ bytes. TakesAll (S.left source.old) (S.left source.new) bytes.items) }
     ensures part { IfErr result (λ cause. ReadAllTakes cause (S.left source.old) (S.left source.new) limit) }
