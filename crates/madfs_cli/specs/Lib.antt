@@ -1,0 +1,4 @@
+pub mod Commands
+pub mod Serving
+pub mod Histories
+pub mod Outcomes

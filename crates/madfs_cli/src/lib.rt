@@ -1,0 +1,9 @@
+//! Decides what a command does: what it reads, what it writes, and the status it ends with.
+#![tactic(auto)]
+
+pub mod commands;
+pub mod histories;
+pub mod plain_file;
+pub mod statuses;
+
+pub use statuses::Status;
