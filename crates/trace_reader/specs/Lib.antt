@@ -1,3 +1,4 @@
 pub mod TraceText
 pub mod Trace
+pub mod Fronts
 pub mod Reading

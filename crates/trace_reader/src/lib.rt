@@ -1,8 +1,12 @@
 //! Decides what a trace's text says: the jobs that it asks, or the first line that it refuses.
 #![tactic(auto)]
 
+mod fields;
+mod lines;
+pub mod printing;
 pub mod reading;
 pub mod refusals;
 
+pub use printing::print_trace;
 pub use reading::read_trace;
 pub use refusals::{BadTrace, TraceRefusal};

@@ -1,0 +1,4 @@
+pub mod NumberLemmas
+pub mod BytesLemmas
+pub mod LineLemmas
+pub mod FrontLemmas

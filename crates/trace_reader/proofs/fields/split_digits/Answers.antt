@@ -1,0 +1,10 @@
+use Rattle.std.proofs.Common.{◌≡◌, true, false, length, take, get_or, refl, sym, ◌∙◌, arith}
+use Rattle.std.proofs.lemmas.Grind.{common_steps}
+use Rattle.std.proofs.lemmas.List.{take_all, get_or_past}
+use Rattle.std.specs.Char.{is_ascii_digit}
+use Rattle.trace_reader.proofs.NumberLemmas.{digits_more, digits_front}
+use Rattle.trace_reader.proofs.fields.split_digits.Goals as goal
+
+pub loop-count-preserved : goal.loop-count-preserved
+loop-count-preserved c =
+    digits_more c.args.text.now c.loop-count.count c.loop-count-test.true c.loop-count.invariant (sym c.is_ascii_digit.ensures.value ∙ c.if-not-is_ascii_digit.false)
