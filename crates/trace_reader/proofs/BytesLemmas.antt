@@ -1,9 +1,8 @@
 -- The text of some bytes, told apart from every other text.
-use Rattle.std.proofs.Common.{◌≡◌, ℕ, zero, suc, ◌+◌, ◌*◌, ◌/◌, ◌%◌, ◌<◌, ◌≤◌, ◌≢◌, ◌==◌, Bool, true, false, not, ◌||◌, ◌&&◌, ◌⊎◌, List, [], ◌∷◌, ◌++◌, length, get_or, take, drop, Option, None, Some, Result, Ok, Err, inl, inr, codes, refl, sym, ap, ◌∙◌, arith}
-use Rattle.std.proofs.lemmas.Bool.{and_parts, cases_lt, false≢true}
-use Rattle.std.proofs.lemmas.Grind.{common_steps}
+use Rattle.std.proofs.Common.{◌≡◌, ℕ, zero, suc, ◌+◌, ◌*◌, ◌/◌, ◌%◌, ◌<◌, ◌≤◌, ◌≢◌, ◌==◌, Bool, true, false, not, ◌||◌, ◌&&◌, ◌⊎◌, List, [], ◌∷◌, length, get_or, Option, None, Some, Result, Ok, Err, inl, inr, codes, refl, sym, ap, ◌∙◌, arith}
+use Rattle.std.proofs.lemmas.Bool.{and_parts, cases_lt}
 use Rattle.std.proofs.lemmas.List.{get_or_past}
-use Rattle.std.proofs.lemmas.List.Elements.{All-cons, All-head, All-nil, All-tail, All-from_get_or, All-get_or}
+use Rattle.std.proofs.lemmas.List.Elements.{All-cons, All-head, All-nil, All-tail, All-from_get_or}
 use Rattle.std.specs.Char.{is_ascii_uppercase}
 use Rattle.std.specs.List.{All, list_any}
 use Rattle.std.specs.Result.{result_unwrap_or}
@@ -136,11 +135,10 @@ encode_plain (byte ∷ bytes) all =
     let small : byte < 256 = All-head IsByte byte bytes all in
     let high = plain_digit (byte / 16) (omega arith) in
     let low = plain_digit (byte % 16) (omega arith) in
-    let rest = encode_plain bytes (All-tail IsByte byte bytes all) in
-    (
+    let rest = encode_plain bytes (All-tail IsByte byte bytes all) in (
       rw (high.0, low.0) rest.0,
       All-cons IsNoNewline (get_or lower_digits (byte / 16) 0) (get_or lower_digits (byte % 16) 0 ∷ encode_lower bytes) high.1
-      (All-cons IsNoNewline (get_or lower_digits (byte % 16) 0) (encode_lower bytes) low.1 rest.1),
+          (All-cons IsNoNewline (get_or lower_digits (byte % 16) 0) (encode_lower bytes) low.1 rest.1),
     )
 
 -- no letter of the text of bytes is of upper case

@@ -1,11 +1,9 @@
 -- The parts of a line, and a line told apart from every other.
-use Rattle.std.proofs.Common.{◌≡◌, ℕ, ◌+◌, ◌^◌, ◌<◌, ◌≤◌, ◌⊎◌, inl, inr, List, [], ◌∷◌, ◌++◌, append_assoc, codes, decimal, refl, sym, ap, ◌∙◌, arith}
-use Rattle.std.specs.List.{All}
+use Rattle.std.proofs.Common.{◌≡◌, ℕ, ◌<◌, ◌≤◌, ◌⊎◌, inl, inr, List, ◌∷◌, ◌++◌, append_assoc, get_or, codes, decimal, refl, sym, ap, ◌∙◌, arith}
 use Rattle.log_entry.specs.Text.{bytes_text}
 use Rattle.log_entry.specs.declared.calls.Op.{Op}
 use Rattle.log_entry.specs.declared.calls.Op.TheVariants.{Pwrite, Append, Pread, Size, Sync, Collect}
-use Rattle.trace_reader.specs.TraceText.{op_text, call_text}
-use Rattle.trace_reader.specs.Trace.{IsReadable}
+use Rattle.trace_reader.specs.TraceText.{op_text}
 use Rattle.trace_reader.specs.Fronts.{NumberFront, LineFront, IsBytesText, OpFront, CallFront}
 use Rattle.trace_reader.proofs.NumberLemmas.{number_apart}
 use Rattle.trace_reader.proofs.BytesLemmas.{no_newline, bytes_apart}
@@ -47,7 +45,9 @@ pread_parts text (Pread offset count) rest there =
       second = record { small = omega (arith, there.readable.1); split = refl };
       few = there.readable.1;
     }
-pread_parts text (Pwrite offset bytes) rest there = cc (there.split)
+pread_parts text (Pwrite offset bytes) rest there =
+    let letter : ◌≡◌ {A = ℕ} 114 119 = ap (λ (xs : List ℕ). get_or xs 1 0) there.split in
+    absurd (omega arith)
 pread_parts text (Append bytes) rest there = absurd there.readable
 pread_parts text Size rest there = absurd there.readable
 pread_parts text Sync rest there = absurd there.readable
@@ -65,7 +65,9 @@ pwrite_parts text (Pwrite offset bytes) rest there =
       line = record { split = refl; whole = no_newline bytes there.readable.1 };
       printed = record { range = there.readable.1; printed = refl };
     }
-pwrite_parts text (Pread offset count) rest there = cc (there.split)
+pwrite_parts text (Pread offset count) rest there =
+    let letter : ◌≡◌ {A = ℕ} 119 114 = ap (λ (xs : List ℕ). get_or xs 1 0) there.split in
+    absurd (omega arith)
 pwrite_parts text (Append bytes) rest there = absurd there.readable
 pwrite_parts text Size rest there = absurd there.readable
 pwrite_parts text Sync rest there = absurd there.readable
@@ -156,3 +158,42 @@ call_apart text m n a b r s one other =
     let first = number_apart 32 text m n p.behind q.behind refl p.seat_front q.seat_front in
     let second = op_apart p.behind a b r s p.op_front (op_at q.behind p.behind b s (sym first.1) q.op_front) in
     record { seat = first.0; op = second.0; rest = second.1 }
+
+-- ---- where there is no such line
+
+-- no number of bytes follows the offset of a `pread`
+pub no_count : (text behind : List ℕ) (offset : ℕ) → NumberFront 32 text offset behind → ((count : ℕ) (rest : List ℕ) → NumberFront 10 behind count rest → ⊥) → (op : Op) (rest : List ℕ) → OpFront (codes "pread " ++ text) op rest → ⊥
+no_count text behind offset first none op rest there =
+    let p = pread_parts text op rest there in
+    let same = number_apart 32 text offset p.offset behind p.behind refl first p.first in
+    none p.count rest (number_at 10 p.behind behind p.count rest (sym same.1) p.second)
+
+-- a `pread` of too many bytes is not readable
+pub too_many : (text behind : List ℕ) (offset count : ℕ) (after : List ℕ) → NumberFront 32 text offset behind → NumberFront 10 behind count after → 1048576 < count → (op : Op) (rest : List ℕ) → OpFront (codes "pread " ++ text) op rest → ⊥
+too_many text behind offset count after first second many op rest there =
+    let p = pread_parts text op rest there in
+    let same = number_apart 32 text offset p.offset behind p.behind refl first p.first in
+    let counts = number_apart 10 behind count p.count after rest refl second (number_at 10 p.behind behind p.count rest (sym same.1) p.second) in
+    omega (arith, counts.0, p.few)
+
+-- no newline follows the offset of a `pwrite`
+pub no_end : (text behind : List ℕ) (offset : ℕ) → NumberFront 32 text offset behind → ((line rest : List ℕ) → LineFront behind line rest → ⊥) → (op : Op) (rest : List ℕ) → OpFront (codes "pwrite " ++ text) op rest → ⊥
+no_end text behind offset first none op rest there =
+    let p = pwrite_parts text op rest there in
+    let same = number_apart 32 text offset p.offset behind p.behind refl first p.first in
+    none (bytes_text p.bytes) rest (line_at p.behind behind (bytes_text p.bytes) rest (sym same.1) p.line)
+
+-- what follows the offset of a `pwrite` is no text of bytes
+pub no_bytes : (text behind line after : List ℕ) (offset : ℕ) → NumberFront 32 text offset behind → LineFront behind line after → ((bytes : List ℕ) → IsBytesText line bytes → ⊥) → (op : Op) (rest : List ℕ) → OpFront (codes "pwrite " ++ text) op rest → ⊥
+no_bytes text behind line after offset first second none op rest there =
+    let p = pwrite_parts text op rest there in
+    let same = number_apart 32 text offset p.offset behind p.behind refl first p.first in
+    let lines = line_apart behind line (bytes_text p.bytes) after rest second (line_at p.behind behind (bytes_text p.bytes) rest (sym same.1) p.line) in
+    none p.bytes (record { range = p.printed.range; printed = lines.0 })
+
+-- no operation follows the seat
+pub no_op : (text behind : List ℕ) (number : ℕ) → NumberFront 32 text number behind → ((op : Op) (rest : List ℕ) → OpFront behind op rest → ⊥) → (seat : ℕ) (op : Op) (rest : List ℕ) → CallFront text seat op rest → ⊥
+no_op text behind number first none seat op rest there =
+    let p = call_parts text seat op rest there in
+    let same = number_apart 32 text number seat behind p.behind refl first p.seat_front in
+    none op rest (op_at p.behind behind op rest (sym same.1) p.op_front)

@@ -2,3 +2,4 @@ pub mod NumberLemmas
 pub mod BytesLemmas
 pub mod LineLemmas
 pub mod FrontLemmas
+pub mod TraceLemmas

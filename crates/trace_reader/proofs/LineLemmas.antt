@@ -1,7 +1,6 @@
 -- The first line of a text, told apart from its rest.
-use Rattle.std.proofs.Common.{◌≡◌, ℕ, suc, ◌+◌, ◌<◌, ◌≤◌, ◌≢◌, ◌==◌, true, List, [], ◌∷◌, ◌++◌, length, get_or, take, drop, None, Some, add-one, drop-cons, eq-eqb, refl, sym, ap, ◌∙◌, arith}
+use Rattle.std.proofs.Common.{◌≡◌, ℕ, suc, ◌+◌, ◌<◌, List, [], ◌∷◌, ◌++◌, length, get_or, take, drop, eq-eqb, refl, sym, ap, ◌∙◌, arith}
 use Rattle.std.proofs.lemmas.Bool.{eqb-true}
-use Rattle.std.proofs.lemmas.Grind.{common_steps}
 use Rattle.std.proofs.lemmas.List.{get_or_at, take-append-drop, get_or-take, drop_more, length-append, length-take-le}
 use Rattle.std.proofs.lemmas.List.Elements.{All-head, All-tail, All-from_get_or}
 use Rattle.std.specs.List.{All}
@@ -44,7 +43,7 @@ line_front text end before here =
     record {
       split = sym (take-append-drop end text) ∙ ap (λ (xs : List ℕ). take end text ++ xs) next;
       whole = All-from_get_or IsNoNewline (take end text) 0 (λ i short.
-        let long : length (take end text) ≡ end = length-take-le end text (omega arith) in
-        let below : i < end = omega arith in
-        λ newline. before.before i (omega arith) below (eq-eqb (get_or text i 0) 10 (sym (get_or-take end text i 0 below) ∙ newline)));
+          let long : length (take end text) ≡ end = length-take-le end text (omega arith) in
+          let below : i < end = omega arith in
+          λ newline. before.before i (omega arith) below (eq-eqb (get_or text i 0) 10 (sym (get_or-take end text i 0 below) ∙ newline)));
     }

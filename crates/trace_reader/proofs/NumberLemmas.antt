@@ -1,5 +1,5 @@
 -- A number at the front of a text, told apart from every other.
-use Rattle.std.proofs.Common.{add-zero, ◌≡◌, ℕ, ◌+◌, ◌^◌, ◌<◌, ◌≤◌, Bool, true, false, ◌&&◌, List, [], ◌∷◌, ◌++◌, length, get_or, take, drop, None, Some, inl, inr, decimal, refl, sym, ap, ◌∙◌, arith}
+use Rattle.std.proofs.Common.{add-zero, ◌≡◌, ℕ, ◌+◌, ◌^◌, ◌<◌, true, false, List, [], ◌∷◌, ◌++◌, length, get_or, take, drop, Some, inl, inr, decimal, refl, sym, ap, ◌∙◌, arith}
 use Rattle.std.proofs.lemmas.Bool.{and_parts, cases_eq, false≢true}
 use Rattle.std.proofs.lemmas.Fmt.{digits_decimal, digits_value-decimal, decimal_injective, decimal_digit, decimal_nonempty, first_decimal, decimal-digits_value}
 use Rattle.std.proofs.lemmas.Grind.{common_steps}

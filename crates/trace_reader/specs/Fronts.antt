@@ -1,5 +1,5 @@
 -- What a text begins with: a number, the bytes of a write, a call, each up to the byte that ends it.
-use Rattle.std.specs.Prelude.{ℕ, ◌^◌, ◌≡◌, ◌≢◌, ◌<◌, ◌≤◌, false, List, ◌∷◌, ◌++◌, All, slice_index, codes, decimal, true}
+use Rattle.std.specs.Prelude.{ℕ, ◌^◌, ◌≡◌, ◌≢◌, ◌<◌, false, List, ◌∷◌, ◌++◌, All, slice_index, decimal, true}
 use Rattle.std.specs.Char.{is_ascii_digit}
 use Rattle.std.specs.Str.{all_ascii_digits}
 use Rattle.log_entry.specs.Text.{bytes_text}

@@ -1,8 +1,9 @@
 -- What reading a trace answers: the jobs whose printed text it is, or the first line at which it is no such text.
-use Rattle.std.specs.Prelude.{ℕ, ◌+◌, ◌≡◌, ◌<◌, ◌≤◌, List, ◌++◌, length, Result, Ok, Err}
+use Rattle.std.specs.Prelude.{ℕ, ◌+◌, ◌≡◌, ◌<◌, ◌≤◌, List, ◌++◌, length, slice_index, Result, Ok, Err}
+use Rattle.log_entry.specs.OfTrace.{asked_for}
 use Rattle.log_entry.specs.declared.calls.Job.{Job}
 use Rattle.trace_reader.specs.TraceText.{line_text, trace_text}
-use Rattle.trace_reader.specs.Trace.{Follows, IsTrace}
+use Rattle.trace_reader.specs.Trace.{Follows, IsTrace, read_total}
 use Rattle.trace_reader.specs.declared.refusals.BadTrace.{BadTrace}
 use Rattle.trace_reader.specs.declared.refusals.BadTrace.TheVariants.{BadLine, BadSeat, BadNumber, BadHex, TooMuch, TooLong}
 use Rattle.trace_reader.specs.declared.refusals.TraceRefusal.{TraceRefusal}
@@ -40,3 +41,13 @@ Reads seats bytes (Err (TooMuch line)) = ⊥
 abbrev pub Refuses : ℕ → List ℕ → TraceRefusal → Type 0
 Refuses seats bytes (Bad why) = Reads seats bytes (Err why)
 Refuses seats bytes NoMemory = Unit {0}
+
+-- how far a reader has come: the jobs so far, how many calls each seat has, how many bytes they read, and the text that is left
+pub record IsReadSoFar (seats : ℕ) (bytes : List ℕ) (jobs : List Job) (counts : List ℕ) (sum : ℕ) (rest : List ℕ) : Type 0 where
+  pub short : length bytes ≤ trace_limit
+  pub good : IsTrace seats jobs
+  pub split : bytes ≡ trace_text jobs ++ rest
+  pub seated : length counts ≡ seats
+  pub counted : (seat : ℕ) → seat < seats → slice_index counts seat ≡ length (asked_for seat jobs)
+  pub read : sum ≡ read_total jobs
+  pub few : sum ≤ 268435456

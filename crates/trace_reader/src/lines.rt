@@ -36,7 +36,11 @@ pub fn read_line(alloc: Global, text: &[u8]) -> Result<Option<Line<'_>>, AllocEr
         return Ok(None);
     };
     match read_op(alloc, call)? {
-        Some(asked) => Ok(Some(Line { seat, op: asked.op, rest: asked.rest })),
+        Some(asked) => Ok(Some(Line {
+            seat,
+            op: asked.op,
+            rest: asked.rest,
+        })),
         None => Ok(None),
     }
 }

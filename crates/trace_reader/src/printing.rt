@@ -1,7 +1,7 @@
 //! Printing a trace.
 
 ghost use Rattle.std.specs.Prelude.{◌≡◌, ◌++◌, IfOk, OnOk, decimal};
-ghost use Rattle.trace_reader.specs.TraceText.{op_text, trace_text};
+ghost use Rattle.trace_reader.specs.TraceText.{line_text, op_text, trace_text};
 
 use log_entry::text::{push_bytes, push_number};
 use log_entry::{Job, Op};
@@ -13,12 +13,19 @@ pub fn print_trace(alloc: Global, jobs: &[Job]) -> Result<Vec<u8>, AllocError>
 {
     let mut out = Vec::new(alloc);
     for job in jobs {
-        push_number(&mut out, u64::from(job.seat))?;
-        out.extend_from_slice(b" ")?;
-        push_op(alloc, &mut out, &job.op)?;
-        out.extend_from_slice(b"\n")?;
+        push_line(alloc, &mut out, job)?;
     }
     Ok(out)
+}
+
+/// Adds the line of a job.
+fn push_line(alloc: Global, out: &mut Vec<u8>, job: &Job) -> Result<(), AllocError>
+    ensures { OnOk result (out.new.items ≡ out.old.items ++ line_text job.now) }
+{
+    push_number(out, u64::from(job.seat))?;
+    out.extend_from_slice(b" ")?;
+    push_op(alloc, out, &job.op)?;
+    out.extend_from_slice(b"\n")
 }
 
 /// Adds what a line says after the seat.

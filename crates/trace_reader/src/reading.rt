@@ -32,7 +32,9 @@ pub fn read_trace(alloc: Global, bytes: &[u8], seats: u8) -> Result<Vec<Job>, Tr
     'lines: while !rest.is_empty() {
         let line = jobs.len() as u64 + 1;
         let bad = TraceRefusal::Bad(BadTrace::BadLine { line });
-        let found = read_line(alloc, rest).map_err(|_| TraceRefusal::NoMemory)?;
+        let Ok(found) = read_line(alloc, rest) else {
+            return Err(TraceRefusal::NoMemory);
+        };
         let Some(asked) = found else {
             return Err(bad);
         };
@@ -50,7 +52,9 @@ pub fn read_trace(alloc: Global, bytes: &[u8], seats: u8) -> Result<Vec<Job>, Tr
             number,
             op: asked.op,
         };
-        jobs.push(job).map_err(|_| TraceRefusal::NoMemory)?;
+        let Ok(()) = jobs.push(job) else {
+            return Err(TraceRefusal::NoMemory);
+        };
         rest = asked.rest;
     }
     Ok(jobs)

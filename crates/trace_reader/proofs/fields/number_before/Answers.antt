@@ -1,7 +1,7 @@
-use Rattle.std.proofs.Common.{◌≡◌, ◌<◌, ◌^◌, length, decimal, get_or, None, Some, refl, ap, sym, ◌∙◌, arith}
+use Rattle.std.proofs.Common.{ap, sym, ◌∙◌}
 use Rattle.std.proofs.lemmas.Bool.{false≢true}
 use Rattle.log_entry.specs.Text.{number_of}
-use Rattle.trace_reader.proofs.NumberLemmas.{front_digits, no_leading_zero, number_of-decimal, decimal-number_of, number_front}
+use Rattle.trace_reader.proofs.NumberLemmas.{front_digits, no_leading_zero, number_of-decimal, number_front}
 use Rattle.trace_reader.proofs.fields.number_before.Goals as goal
 
 pub returns-then-has_leading_zero : goal.returns-then-has_leading_zero

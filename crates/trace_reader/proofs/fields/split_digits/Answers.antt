@@ -1,8 +1,5 @@
-use Rattle.std.proofs.Common.{◌≡◌, true, false, length, take, get_or, refl, sym, ◌∙◌, arith}
-use Rattle.std.proofs.lemmas.Grind.{common_steps}
-use Rattle.std.proofs.lemmas.List.{take_all, get_or_past}
-use Rattle.std.specs.Char.{is_ascii_digit}
-use Rattle.trace_reader.proofs.NumberLemmas.{digits_more, digits_front}
+use Rattle.std.proofs.Common.{sym, ◌∙◌}
+use Rattle.trace_reader.proofs.NumberLemmas.{digits_more}
 use Rattle.trace_reader.proofs.fields.split_digits.Goals as goal
 
 pub loop-count-preserved : goal.loop-count-preserved

@@ -1,4 +1,3 @@
-use Rattle.std.proofs.Common.{◌≡◌, refl, sym, ap, ◌∙◌, arith}
 use Rattle.trace_reader.proofs.LineLemmas.{no_line, line_front}
 use Rattle.trace_reader.proofs.fields.split_line.Goals as goal
 

@@ -1,12 +1,10 @@
-use Rattle.std.proofs.Common.{rules, ◌++◌, ℕ, List, MatchOption, IfOk, codes, ◌≡◌, ◌+◌, ◌-◌, ◌*◌, ◌<◌, ◌≤◌, length, ◌/◌, ◌%◌, Bool, true, false, nat_eq, nat_lt, [], ◌∷◌, slice_index_or, slice_set, bit_and, bit_or, Fits, w8, w32, w64, Bor, MutBor}
-use Rattle.log_entry.specs.declared.calls.Op.{Op}
-use Rattle.trace_reader.specs.Fronts.{OpFront, CallFront}
+use Rattle.trace_reader.proofs.FrontLemmas.{no_count, too_many}
 use Rattle.trace_reader.proofs.lines.read_pread.Goals as goal
 
--- src/lines.rt:69:9
 pub returns-in_default-number_before : goal.returns-in_default-number_before
-returns-in_default-number_before c = ?
+returns-in_default-number_before c =
+    no_count c.args.text.now c.in-Some.behind.now c.in-Some.offset c.in-Some.ensures c.in_default-number_before.ensures
 
--- src/lines.rt:72:9
 pub returns-then-length-gt-MAX_READ : goal.returns-then-length-gt-MAX_READ
-returns-then-length-gt-MAX_READ c = ?
+returns-then-length-gt-MAX_READ c =
+    too_many c.args.text.now c.in-Some.behind.now c.in-Some.offset c.in-Some-number_before.length c.in-Some-number_before.rest.now c.in-Some.ensures c.in-Some-number_before.ensures c.if-length-gt-MAX_READ.true

@@ -1,12 +1,10 @@
-use Rattle.std.proofs.Common.{rules, ◌++◌, ℕ, List, MatchOption, IfOk, codes, ◌≡◌, ◌+◌, ◌-◌, ◌*◌, ◌<◌, ◌≤◌, length, ◌/◌, ◌%◌, Bool, true, false, nat_eq, nat_lt, [], ◌∷◌, slice_index_or, slice_set, bit_and, bit_or, Fits, w8, w32, w64, Bor, MutBor}
-use Rattle.log_entry.specs.declared.calls.Op.{Op}
-use Rattle.trace_reader.specs.Fronts.{OpFront, CallFront}
+use Rattle.trace_reader.proofs.FrontLemmas.{no_end, no_bytes}
 use Rattle.trace_reader.proofs.lines.read_pwrite.Goals as goal
 
--- src/lines.rt:90:9
 pub returns-in_default-split_line : goal.returns-in_default-split_line
-returns-in_default-split_line c = ?
+returns-in_default-split_line c =
+    no_end c.args.text.now c.in-Some.behind.now c.in-Some.offset c.in-Some.ensures c.in_default-split_line.ensures
 
--- src/lines.rt:81:1
 pub returns-in-None : goal.returns-in-None
-returns-in-None c = ?
+returns-in-None c =
+    no_bytes c.args.text.now c.in-Some.behind.now c.in-Some-split_line.line.now c.in-Some-split_line.rest.now c.in-Some.offset c.in-Some.ensures c.in-Some-split_line.ensures (rw c.in-None.is at c.in_ok-bytes.ensures)
