@@ -3,12 +3,14 @@
 ghost use Rattle.std.specs.Prelude.{◌≡◌, ◌++◌, codes, decimal, OnOk};
 ghost use Rattle.history_report.specs.Report.{answer_text, area_text, collect_refusal_text, collection_text, held_text, write_refusal_text};
 
+use crate::numbers::push_named;
 use itoa::Buffer;
 use log_entry::text::{push_bytes, push_number};
 use log_entry::{Area, CollectRefusal, Collected, Held, Reply, WriteRefusal};
 use std::alloc::{AllocError, Global};
 
 /// Adds what was answered. Only want of memory refuses it.
+#[tactic(auto, unfolding(crate::specs::Report::answer_text))]
 pub fn push_answer(alloc: Global, out: &mut Vec<u8>, reply: &Reply) -> Result<(), AllocError>
     ensures { OnOk result (out.new.items ≡ out.old.items ++ answer_text reply.now) }
 {
@@ -28,18 +30,15 @@ fn push_appended(out: &mut Vec<u8>, at: u64, length: u64) -> Result<(), AllocErr
     ensures { OnOk result (out.new.items ≡ out.old.items ++ (decimal length ++ (codes " at " ++ decimal at))) }
 {
     push_number(out, length)?;
-    out.extend_from_slice(b" at ")?;
-    push_number(out, at)
+    push_named(out, b" at ", at)
 }
 
+#[tactic(auto, unfolding(crate::specs::Report::write_refusal_text))]
 fn push_write_refusal(out: &mut Vec<u8>, why: WriteRefusal) -> Result<(), AllocError>
     ensures { OnOk result (out.new.items ≡ out.old.items ++ write_refusal_text why) }
 {
     match why {
-        WriteRefusal::TooLong { blocks } => {
-            out.extend_from_slice(b"TooLong ")?;
-            push_number(out, blocks)
-        }
+        WriteRefusal::TooLong { blocks } => push_named(out, b"TooLong ", blocks),
         WriteRefusal::TooLarge { end } => {
             let mut buffer = Buffer::new();
             out.extend_from_slice(b"TooLarge ")?;
@@ -63,40 +62,45 @@ fn area_name(area: Area) -> &'static [u8]
     }
 }
 
+#[tactic(auto, unfolding(crate::specs::Report::collect_refusal_text))]
 fn push_collect_refusal(out: &mut Vec<u8>, why: CollectRefusal) -> Result<(), AllocError>
     ensures { OnOk result (out.new.items ≡ out.old.items ++ collect_refusal_text why) }
 {
     match why {
         CollectRefusal::Nothing => out.extend_from_slice(b"Nothing"),
         CollectRefusal::NoSpace => out.extend_from_slice(b"NoSpace spare"),
-        CollectRefusal::Overtaken { generation } => {
-            out.extend_from_slice(b"Overtaken ")?;
-            push_number(out, u64::from(generation))
-        }
+        CollectRefusal::Overtaken { generation } => push_named(
+            out,
+            b"Overtaken ",
+            u64::from(generation),
+        ),
         CollectRefusal::GenerationLimit => out.extend_from_slice(b"GenerationLimit"),
     }
 }
 
+#[tactic(auto, unfolding(crate::specs::Report::collection_text))]
 fn push_collection(out: &mut Vec<u8>, done: Collected) -> Result<(), AllocError>
     ensures { OnOk result (out.new.items ≡ out.old.items ++ collection_text done) }
 {
-    out.extend_from_slice(b"generation ")?;
-    push_number(out, u64::from(done.generation))?;
-    out.extend_from_slice(b" freed ")?;
-    push_number(out, u64::from(done.freed))?;
-    out.extend_from_slice(b" kept ")?;
-    push_number(out, u64::from(done.kept))?;
+    push_named(out, b"generation ", u64::from(done.generation))?;
+    push_blocks(out, done.freed, done.kept)?;
     push_held(out, done.held)
 }
 
+fn push_blocks(out: &mut Vec<u8>, freed: u32, kept: u32) -> Result<(), AllocError>
+    ensures { OnOk result (out.new.items ≡ out.old.items ++ (codes " freed " ++ (decimal freed ++ (codes " kept " ++ decimal kept)))) }
+{
+    push_named(out, b" freed ", u64::from(freed))?;
+    push_named(out, b" kept ", u64::from(kept))
+}
+
+#[tactic(auto, unfolding(crate::specs::Report::held_text))]
 fn push_held(out: &mut Vec<u8>, held: Option<Held>) -> Result<(), AllocError>
     ensures { OnOk result (out.new.items ≡ out.old.items ++ held_text held) }
 {
     let Some(held) = held else {
         return Ok(());
     };
-    out.extend_from_slice(b" pin ")?;
-    push_number(out, u64::from(held.seat))?;
-    out.extend_from_slice(b" at ")?;
-    push_number(out, u64::from(held.generation))
+    push_named(out, b" pin ", u64::from(held.seat))?;
+    push_named(out, b" at ", u64::from(held.generation))
 }

@@ -3,6 +3,7 @@
 
 pub mod answers;
 pub mod lines;
+pub mod numbers;
 pub mod places;
 pub mod reports;
 

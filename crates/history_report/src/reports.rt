@@ -5,8 +5,8 @@ ghost use Rattle.log_entry.specs.Kinds.{HaveKinds};
 ghost use Rattle.history_report.specs.Report.{end_text, report_text};
 
 use crate::lines::push_call;
+use crate::numbers::push_named;
 use log_entry::Call;
-use log_entry::text::push_number;
 use std::alloc::{AllocError, Global};
 
 /// A line for each call, in this order, and a last line with the position and the size in bytes at the end. Each reply is of a kind
@@ -28,12 +28,11 @@ pub fn print_report(
     Ok(out)
 }
 
+#[tactic(auto, unfolding(crate::specs::Report::end_text))]
 fn push_end(out: &mut Vec<u8>, position: u64, size: u64) -> Result<(), AllocError>
     ensures { OnOk result (out.new.items ≡ out.old.items ++ end_text position size) }
 {
-    out.extend_from_slice(b"end ")?;
-    push_number(out, position)?;
-    out.extend_from_slice(b" ")?;
-    push_number(out, size)?;
+    push_named(out, b"end ", position)?;
+    push_named(out, b" ", size)?;
     out.extend_from_slice(b"\n")
 }
