@@ -2,10 +2,13 @@
 #![tactic(auto)]
 
 pub mod answers;
+pub mod laws;
 pub mod lines;
 pub mod numbers;
 pub mod places;
 pub mod reports;
+#[cfg(test)]
+mod tests;
 
 pub use lines::line;
 pub use places::order;

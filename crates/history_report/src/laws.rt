@@ -1,0 +1,18 @@
+//! Laws of the definitions, each the contract of a function that does nothing, and worked rows that they compute.
+
+ghost use Rattle.history_report.specs.Rows.{Written, ReadBytes, ReadNoBytes, TooManyBlocks, PastLimit, NoSpaceForData, AppendedAt, KeptNothing, KeptForPin, LastLine, TwoCalls};
+
+/// Worked lines of calls, and a worked report.
+pub fn law_rows()
+    ensures written { Written }
+    ensures read_bytes { ReadBytes }
+    ensures read_no_bytes { ReadNoBytes }
+    ensures too_many_blocks { TooManyBlocks }
+    ensures past_limit { PastLimit }
+    ensures no_space_for_data { NoSpaceForData }
+    ensures appended_at { AppendedAt }
+    ensures kept_nothing { KeptNothing }
+    ensures kept_for_pin { KeptForPin }
+    ensures last_line { LastLine }
+    ensures two_calls { TwoCalls }
+{}
