@@ -10,4 +10,4 @@ unfolding collection_text
 joined out named whole done first second = rw (second, first) (simp append_assoc)
 
 pub returns : goal.returns
-returns c = IfOk-equal _ _ _ _ c.push_held.ensures (joined _ _ _ _ c.in_ok-push_named.ensures c.in_ok-push_blocks.ensures)
+returns c = IfOk-equal _ _ _ _ c.push_held.ensures (joined _ _ _ c.args.done (rw c.from.ensures at c.in_ok-push_named.ensures) c.in_ok-push_blocks.ensures)
