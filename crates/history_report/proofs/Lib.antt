@@ -1,1 +1,3 @@
 pub mod ReportLemmas
+pub mod SplitLemmas
+pub mod AnswerLemmas
