@@ -11,7 +11,7 @@ use crate::sources::{Got, Source};
 use std::alloc::Global;
 use std::marker::Model;
 
-// Which calls are to fail, and what was called so far. Each count stands still at 2^64 - 1.
+// Which calls are to fail, how many were made, and how many of them failed.
 #[derive(Drop)]
 struct FaultPlan {
     numbers: Vec<u64>,
@@ -54,7 +54,7 @@ impl FaultPlan {
 }
 
 /// A source of given bytes that fails at given calls. Contracts see the bytes that it has left, and
-/// the calls that are to fail with the counts of calls and of faults.
+/// the calls that are to fail with the counts of calls and of faults, which stand still at 2^64 - 1.
 #[derive(Drop)]
 pub struct FailingBytes {
     bytes: Bytes,
@@ -104,7 +104,8 @@ impl Source for FailingBytes {
 }
 
 /// A sink that keeps what was written to it and fails at given calls. Contracts see the bytes that it
-/// took, and the calls that are to fail with the counts of calls and of faults.
+/// took, and the calls that are to fail with the counts of calls and of faults, which stand still at
+/// 2^64 - 1.
 #[derive(Drop)]
 pub struct FailingGathered {
     gathered: Gathered,

@@ -1,4 +1,4 @@
-use Rattle.std.proofs.Common.{◌≡◌, ◌<◌, length, arith, ◌∙◌}
+use Rattle.std.proofs.Common.{arith, ◌∙◌}
 use Rattle.io_ends.proofs.GivingLemmas.{gives-next, next-fits}
 use Rattle.io_ends.proofs.sinks.write_all.Goals as goal
 

@@ -1,4 +1,4 @@
-use Rattle.std.proofs.Common.{◌≡◌, ◌+◌, ◌≤◌, ◌++◌, length, take, vec_len, arith, length-append, length-take}
+use Rattle.std.proofs.Common.{◌++◌, take, arith, length-take}
 use Rattle.io_ends.proofs.TakingLemmas.{takes-twice, length-with_taken}
 use Rattle.io_ends.proofs.sources.read_all.Goals as goal
 

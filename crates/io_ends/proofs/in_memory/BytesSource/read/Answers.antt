@@ -1,4 +1,4 @@
-use Rattle.std.proofs.Common.{◌≡◌, Some, sym, ◌∙◌, ap}
+use Rattle.std.proofs.Common.{Some, sym, ◌∙◌, ap}
 use Rattle.io_ends.proofs.TakingLemmas.{left-splits}
 use Rattle.io_ends.proofs.in_memory.BytesSource.read.Goals as goal
 
