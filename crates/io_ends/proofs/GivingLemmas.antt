@@ -1,12 +1,7 @@
--- Giving nothing, giving twice, and what a write of the rest of some bytes gives.
-use Rattle.std.proofs.Common.{◌≡◌, ℕ, ◌+◌, ◌-◌, ◌≤◌, List, [], ◌++◌, length, take, drop, Option, None, Some, refl, sym, ◌∙◌, ap, subst, append_assoc, append-nil, length-drop, take-append-drop, take-take, arith}
+-- Giving twice, and what a write of the rest of some bytes gives.
+use Rattle.std.proofs.Common.{◌≡◌, ℕ, ◌+◌, ◌-◌, ◌≤◌, List, ◌++◌, length, take, drop, Option, None, Some, ◌∙◌, ap, subst, append_assoc, length-drop, take-append-drop, take-take, arith}
 use Rattle.std.proofs.lemmas.List.{drop-take, take_rest}
 use Rattle.io_ends.specs.Giving.{with_back, Gives}
-
--- no bytes at the back change nothing
-pub gives-nothing : (written : Option (List ℕ)) → Gives written written []
-gives-nothing None = refl
-gives-nothing (Some written) = ap Some (sym (append-nil written))
 
 -- what was given first and what was given then were given together
 pub gives-twice : (before middle after : Option (List ℕ)) (first then : List ℕ) → Gives before middle first → Gives middle after then → Gives before after (first ++ then)

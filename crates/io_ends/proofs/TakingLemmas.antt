@@ -1,12 +1,7 @@
--- Taking nothing, taking twice, and taking all.
-use Rattle.std.proofs.Common.{◌≡◌, ℕ, ◌+◌, ◌-◌, ◌≤◌, ◌<◌, List, [], ◌++◌, length, take, drop, Option, None, Some, unwrap_or, refl, sym, ◌∙◌, ap, subst, take-append-drop, drop-drop, append_assoc, length-append, arith}
+-- Taking twice, and what a read leaves.
+use Rattle.std.proofs.Common.{◌≡◌, ℕ, ◌+◌, ◌-◌, ◌≤◌, List, ◌++◌, length, take, drop, Option, None, Some, sym, ◌∙◌, ap, subst, take-append-drop, drop-drop, append_assoc, length-append, arith}
 use Rattle.std.proofs.lemmas.List.{length-take-le, take_rest}
-use Rattle.io_ends.specs.Taking.{with_front, Takes, TakesCount}
-
--- no bytes in front change nothing
-pub takes-nothing : (left : Option (List ℕ)) → Takes left left []
-takes-nothing None = refl
-takes-nothing (Some left) = refl
+use Rattle.io_ends.specs.Taking.{with_front, Takes}
 
 -- what was taken first and what was taken then were taken together
 pub takes-twice : (before middle after : Option (List ℕ)) (first then : List ℕ) → Takes before middle first → Takes middle after then → Takes before after (first ++ then)
@@ -26,10 +21,3 @@ left-splits all seen buffer at count same laid =
     let here : take count buffer ≡ take count (take (length all - at) (drop at all)) = subst (λ xs. take count buffer ≡ take count (take (length xs - at) (drop at xs))) same laid in
     let next : take count buffer ≡ take count (drop at all) = here ∙ ap (take count) (take_rest all at) in
     cc (next, take-append-drop count (drop at all), drop-drop count at all)
-
--- a source that gave more than the limit had more than the limit left
-pub too_long-exceeds : (left : List ℕ) (after : Option (List ℕ)) (limit : ℕ) → TakesCount (Some left) after (limit + 1) → limit < length left
-too_long-exceeds left None limit taken = cc taken.2
-too_long-exceeds left (Some rest) limit taken =
-    let parts : left ≡ taken.0 ++ rest = ap (λ known. unwrap_or known left) taken.2 in
-    omega (arith, ap length parts, length-append taken.0 rest, taken.1)

@@ -45,7 +45,7 @@ ReadTakes End before after buffer = (after ≡ before) × IsAtEnd before
 ReadTakes Failed before after buffer = after ≡ before
 
 -- a read to the end that failed took a first part: one byte more than the limit where that is the cause,
--- and no more than the limit where a read failed
+-- and otherwise no more than the limit
 abbrev pub ReadAllTakes : ReadAll → Option (List ℕ) → Option (List ℕ) → ℕ → Type 0
 ReadAllTakes ReadFault before after limit = TakesUpTo before after limit
 ReadAllTakes TooLong before after limit = TakesCount before after (limit + 1)
