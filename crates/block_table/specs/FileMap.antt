@@ -1,5 +1,5 @@
 -- The map and the size that a table keeps, as clauses see them.
-use Rattle.std.specs.Prelude.{ℕ, ◌+◌, Bool, not, ◌&&◌, ◌==◌, nat_le, nat_lt, if◌then◌else◌, List, Option, None, Some, slice_index, count_by}
+use Rattle.std.specs.Prelude.{ℕ, ◌+◌, Bool, ◌&&◌, ◌==◌, nat_le, nat_lt, if◌then◌else◌, List, Option, None, Some, is_some, slice_index, count_by}
 
 -- a block's bytes, the file's size in bytes, and for each virtual block its physical block, or 0 where it is unmapped
 pub record FileMap : Type 0 where
@@ -17,7 +17,7 @@ block_at map virt = held_by (slice_index map.blocks virt)
 
 -- how many virtual blocks are mapped
 abbrev pub mapped_count : FileMap → ℕ
-mapped_count map = count_by (λ place. not (place == 0)) map.blocks
+mapped_count map = count_by (λ place. is_some (held_by place)) map.blocks
 
 -- whether v is one of the count virtual blocks from virt on
 abbrev pub is_named : ℕ → ℕ → ℕ → Bool
