@@ -3,3 +3,4 @@ pub mod BytesLemmas
 pub mod LineLemmas
 pub mod FrontLemmas
 pub mod TraceLemmas
+pub mod LawLemmas

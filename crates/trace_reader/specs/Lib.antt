@@ -2,3 +2,5 @@ pub mod TraceText
 pub mod Trace
 pub mod Fronts
 pub mod Reading
+pub mod Laws
+pub mod Rows

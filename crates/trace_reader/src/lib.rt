@@ -2,10 +2,13 @@
 #![tactic(auto)]
 
 mod fields;
+pub mod laws;
 mod lines;
 pub mod printing;
 pub mod reading;
 pub mod refusals;
+#[cfg(test)]
+mod tests;
 
 pub use printing::print_trace;
 pub use reading::read_trace;
