@@ -1,5 +1,5 @@
 -- The calls answered so far, one more, and all of them.
-use Rattle.std.proofs.Common.{◌≡◌, ℕ, ◌+◌, ◌<◌, ◌≤◌, List, [], ◌∷◌, ◌++◌, length, refl, sym, ap, ◌∙◌, subst, arith, length-append}
+use Rattle.std.proofs.Common.{◌≡◌, ℕ, ◌+◌, List, [], ◌∷◌, ◌++◌, length, refl, sym, ap, ◌∙◌, arith, length-append}
 use Rattle.std.proofs.lemmas.List.{length_push, map-append}
 use Rattle.std.proofs.lemmas.List.Elements.{filter-append}
 use Rattle.log_entry.specs.Legal.{Legal, Answers, last_file, last_position_of, file_after, position_after}
@@ -7,10 +7,9 @@ use Rattle.log_entry.specs.OfTrace.{asked_for}
 use Rattle.log_entry.specs.Kinds.{NoneLackSpace, IsNoWantOfSpace}
 use Rattle.log_entry.specs.declared.calls.Call.{Call}
 use Rattle.log_entry.specs.declared.calls.Job.{Job}
-use Rattle.log_entry.specs.declared.calls.Op.{Op}
 use Rattle.log_entry.specs.declared.calls.Reply.{Reply}
 use Rattle.log_entry.proofs.HistoryLemmas.{Mirrors, Mirrors-push, Legal-push, last_file-push, last_position_of-push, AllByRecursion-push, AreOfOneSeat, OfTrace-Mirrors, IsInOrder-one_seat}
-use Rattle.trace_reader.specs.Trace.{Follows, AllFollow, IsTrace}
+use Rattle.trace_reader.specs.Trace.{AllFollow, IsTrace}
 use Rattle.madfs_cli.specs.Histories.{IsHistory}
 use Rattle.madfs_cli.specs.Serving.{Serves}
 use Rattle.madfs_cli.specs.declared.plain_file.PlainFile.{PlainFile}
@@ -29,7 +28,7 @@ record_of job new reply = record { position = new.position; seat = job.seat; num
 
 -- one more call
 pub SoFar-push : (block_bytes : ℕ) (jobs : List Job) (calls : List Call) (old new : PlainFile) (job : Job) (reply : Reply) → SoFar block_bytes jobs calls old.bytes.items old.position → old.shape.block_bytes ≡ block_bytes
-  → Serves old new job.op reply → SoFar block_bytes (jobs ++ job ∷ []) (calls ++ record_of job new reply ∷ []) new.bytes.items new.position
+    → Serves old new job.op reply → SoFar block_bytes (jobs ++ job ∷ []) (calls ++ record_of job new reply ∷ []) new.bytes.items new.position
 SoFar-push block_bytes jobs calls old new job reply far shape serves =
     let answers : Answers block_bytes (last_position_of 0 calls) (last_file [] calls) job.op reply = rw (← shape, ← far.bytes_are, ← far.position_is) serves.answers in
     let position : new.position ≡ position_after (last_position_of 0 calls) job.op reply = rw (← far.position_is) serves.position in
@@ -71,8 +70,8 @@ one_seat before (job ∷ jobs) [] follow zero mirrors = absurd mirrors
 -- all of a trace's calls are a history of it
 pub IsHistory-all : (block_bytes : ℕ) (jobs : List Job) (calls : List Call) (bytes : List ℕ) (position : ℕ) → IsTrace 1 jobs → SoFar block_bytes jobs calls bytes position → IsHistory block_bytes jobs calls
 IsHistory-all block_bytes jobs calls bytes position trace far = record {
-      of_trace = OfTrace-Mirrors calls jobs far.mirrors;
-      legal = far.legal;
-      in_order = IsInOrder-one_seat block_bytes [] 0 0 1 calls far.legal (one_seat [] jobs calls trace refl far.mirrors);
-      space = far.space;
-    }
+  of_trace = OfTrace-Mirrors calls jobs far.mirrors;
+  legal = far.legal;
+  in_order = IsInOrder-one_seat block_bytes [] 0 0 1 calls far.legal (one_seat [] jobs calls trace refl far.mirrors);
+  space = far.space;
+}

@@ -7,7 +7,7 @@ use Rattle.log_entry.specs.declared.shapes.Geometry.{Geometry}
 
 -- five words that were read at their places are the list
 pub five_words : (words : List (List ℕ)) (a b c d e : List ℕ) → length words ≡ 5 → slice_get words 0 ≡ Some a → slice_get words 1 ≡ Some b → slice_get words 2 ≡ Some c → slice_get words 3 ≡ Some d → slice_get words 4 ≡ Some e
-  → words ≡ a ∷ b ∷ c ∷ d ∷ e ∷ []
+    → words ≡ a ∷ b ∷ c ∷ d ∷ e ∷ []
 five_words [] a b c d e five at0 at1 at2 at3 at4 = absurd (omega arith)
 five_words (v ∷ []) a b c d e five at0 at1 at2 at3 at4 = absurd (omega arith)
 five_words (v ∷ w ∷ []) a b c d e five at0 at1 at2 at3 at4 = absurd (omega arith)

@@ -1,5 +1,5 @@
 -- One call on a plain file: its reply, and the file and position after it.
-use Rattle.std.specs.Prelude.{ℕ, ◌≡◌, List}
+use Rattle.std.specs.Prelude.{◌≡◌}
 use Rattle.log_entry.specs.Legal.{Answers, file_after, position_after}
 use Rattle.log_entry.specs.Kinds.{IsNoWantOfSpace}
 use Rattle.log_entry.specs.declared.calls.Op.{Op}

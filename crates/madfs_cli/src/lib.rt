@@ -5,5 +5,7 @@ pub mod commands;
 pub mod histories;
 pub mod plain_file;
 pub mod statuses;
+pub mod top;
 
 pub use statuses::Status;
+pub use top::run;

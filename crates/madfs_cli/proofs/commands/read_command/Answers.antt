@@ -1,6 +1,4 @@
-use Rattle.std.proofs.Common.{sym, ap, ◌≡◌, ◌∙◌, Some, codes, rules, arith}
-use Rattle.std.proofs.lemmas.Grind.{common_steps}
-use Rattle.std.specs.Prelude.{slice_get}
+use Rattle.std.proofs.Common.{ap, ◌≡◌, ◌∙◌, Some, codes, rules, arith}
 use Rattle.madfs_cli.proofs.CommandLemmas.{five_words, read_word, shaped}
 use Rattle.madfs_cli.proofs.commands.read_command.Goals as goal
 

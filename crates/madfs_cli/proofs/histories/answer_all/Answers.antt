@@ -1,4 +1,4 @@
-use Rattle.std.proofs.Common.{length, rules, ap, sym, refl, ◌∙◌, subst, ◌≡◌, List, [], ◌∷◌}
+use Rattle.std.proofs.Common.{length, ap, ◌∙◌, ◌≡◌}
 use Rattle.std.proofs.lemmas.List.{map-id}
 use Rattle.std.proofs.lemmas.Iterator.Adapters.{YieldsList-from_vec}
 use Rattle.std.proofs.lemmas.Iterator.Consumers.{YieldsList-end}

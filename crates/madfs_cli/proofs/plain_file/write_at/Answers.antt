@@ -1,6 +1,6 @@
 use Rattle.std.proofs.Common.{sym, ◌≡◌, ◌+◌, ◌∙◌, length, ap, arith}
 use Rattle.std.proofs.lemmas.Grind.{common_steps}
-use Rattle.log_entry.specs.ByteFile.{lengthened, laid_over}
+use Rattle.log_entry.specs.ByteFile.{lengthened}
 use Rattle.madfs_cli.proofs.FileLemmas.{lent_back, laid_is_write}
 use Rattle.madfs_cli.proofs.plain_file.write_at.Goals as goal
 
