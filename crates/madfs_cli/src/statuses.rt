@@ -1,5 +1,8 @@
 //! How a command ends.
 
+ghost use Rattle.std.specs.Prelude.{◌≡◌};
+
+use std::fmt;
 use trace_reader::BadTrace;
 
 /// How a command ended. Each but `Done` and `NoMemory` comes exactly for its cause.
@@ -17,4 +20,41 @@ pub enum Status {
     WriteFault,
     /// Want of memory. A first part of the text may have been written.
     NoMemory,
+}
+
+impl Status {
+    ghost use Rattle.madfs_cli.specs.Endings.{exit_code_of};
+
+    /// The exit status of the program: 0 for `Done`, and 2 and 4 to 7 for the others.
+    pub fn exit_code(&self) -> u8
+        ensures { result ≡ exit_code_of self.now }
+    {
+        match self {
+            Status::Done => 0,
+            Status::Usage => 2,
+            Status::BadTrace(_) => 4,
+            Status::ReadFault => 5,
+            Status::WriteFault => 6,
+            Status::NoMemory => 7,
+        }
+    }
+}
+
+/// The line on standard error, without its newline; for `Done` there is none.
+impl fmt::Display for Status {
+    ghost use Rattle.std.specs.Prelude.{Some};
+    ghost use Rattle.madfs_cli.specs.Endings.{ending_line};
+
+    ghost output = { λ status. Some (ending_line status) };
+
+    fn fmt<W: fmt::Write>(&self, f: &mut fmt::Formatter<W>) -> fmt::Result {
+        match self {
+            Status::Done => Ok(()),
+            Status::Usage => write!(f, "madfs: usage: madfs <image> <command> <arguments>"),
+            Status::BadTrace(why) => write!(f, "madfs: trace: {why}"),
+            Status::ReadFault => write!(f, "madfs: read fault"),
+            Status::WriteFault => write!(f, "madfs: write fault"),
+            Status::NoMemory => write!(f, "madfs: no memory"),
+        }
+    }
 }

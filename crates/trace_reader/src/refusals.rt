@@ -1,5 +1,7 @@
 //! Why a trace is refused.
 
+use std::fmt;
+
 /// The first thing that is wrong with a trace. Lines count from 1.
 #[derive(Clone, Copy, Debug, PartialEq, Eq)]
 pub enum BadTrace {
@@ -23,4 +25,23 @@ pub enum TraceRefusal {
     Bad(BadTrace),
     /// Want of memory.
     NoMemory,
+}
+
+/// The name of the refusal, a space and the line, and for a seat a space and the seat; `TooLong` alone has no line.
+impl fmt::Display for BadTrace {
+    ghost use Rattle.std.specs.Prelude.{Some};
+    ghost use Rattle.trace_reader.specs.RefusalText.{refusal_text};
+
+    ghost output = { λ why. Some (refusal_text why) };
+
+    fn fmt<W: fmt::Write>(&self, f: &mut fmt::Formatter<W>) -> fmt::Result {
+        match self {
+            BadTrace::BadLine { line } => write!(f, "BadLine {line}"),
+            BadTrace::BadSeat { line, seat } => write!(f, "BadSeat {line} {seat}"),
+            BadTrace::BadNumber { line } => write!(f, "BadNumber {line}"),
+            BadTrace::BadHex { line } => write!(f, "BadHex {line}"),
+            BadTrace::TooMuch { line } => write!(f, "TooMuch {line}"),
+            BadTrace::TooLong => write!(f, "TooLong"),
+        }
+    }
 }

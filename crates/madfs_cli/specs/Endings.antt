@@ -1,0 +1,23 @@
+-- How the program shows the way in which a command ended.
+use Rattle.std.specs.Prelude.{ℕ, List, [], ◌++◌, codes}
+use Rattle.trace_reader.specs.RefusalText.{refusal_text}
+use Rattle.madfs_cli.specs.declared.statuses.Status.{Status}
+use Rattle.madfs_cli.specs.declared.statuses.Status.TheVariants.{Done, Usage, BadTrace, ReadFault, WriteFault, NoMemory}
+
+-- the exit status
+abbrev pub exit_code_of : Status → ℕ
+exit_code_of Done = 0
+exit_code_of Usage = 2
+exit_code_of (BadTrace why) = 4
+exit_code_of ReadFault = 5
+exit_code_of WriteFault = 6
+exit_code_of NoMemory = 7
+
+-- the line on standard error, without its newline
+abbrev pub ending_line : Status → List ℕ
+ending_line Done = []
+ending_line Usage = codes "madfs: usage: madfs <image> <command> <arguments>"
+ending_line (BadTrace why) = codes "madfs: trace: " ++ refusal_text why
+ending_line ReadFault = codes "madfs: read fault"
+ending_line WriteFault = codes "madfs: write fault"
+ending_line NoMemory = codes "madfs: no memory"
