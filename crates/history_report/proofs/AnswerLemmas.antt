@@ -1,7 +1,7 @@
 -- An answer can be read off its text: the replies of one operation that print alike are the same.
-use Rattle.std.proofs.Common.{◌≡◌, ℕ, ◌%◌, ◌<◌, ◌≤◌, List, [], ◌∷◌, ◌++◌, Option, Some, None, codes, decimal, refl, sym, ap, append_assoc, arith}
+use Rattle.std.proofs.Common.{◌≡◌, ℕ, ◌%◌, ◌<◌, List, [], ◌∷◌, ◌++◌, Option, Some, None, codes, decimal, refl, sym, ap, append_assoc, arith}
 use Rattle.std.proofs.lemmas.List.{append_cancel_left}
-use Rattle.hex.specs.Hex.{encode_lower, encode_with, lower_digits}
+use Rattle.hex.specs.Hex.{encode_with}
 use Rattle.log_entry.specs.Text.{bytes_text}
 use Rattle.log_entry.specs.Kinds.{IsReplyTo}
 use Rattle.log_entry.specs.declared.shapes.Area.{Area}

@@ -1,5 +1,5 @@
 -- The lines of calls, one more at the end.
-use Rattle.std.proofs.Common.{◌≡◌, ℕ, ◌+◌, ◌<◌, List, [], ◌∷◌, ◌++◌, length, get_or, take, drop, refl, ap, append_assoc, add-one, arith, drop-cons}
+use Rattle.std.proofs.Common.{◌≡◌, ℕ, ◌+◌, ◌<◌, List, ◌∷◌, ◌++◌, length, get_or, drop, refl, append_assoc, add-one, drop-cons}
 use Rattle.log_entry.specs.declared.calls.Call.{Call}
 use Rattle.history_report.specs.Report.{call_text, calls_text}
 

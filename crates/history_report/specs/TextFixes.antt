@@ -3,10 +3,8 @@ use Rattle.std.specs.Prelude.{ℕ, ◌^◌, ◌≡◌, ◌<◌, List, Option, So
 use Rattle.std.specs.List.{AllByRecursion}
 use Rattle.hex.specs.Hex.{IsBytes}
 use Rattle.log_entry.specs.Kinds.{HaveKinds}
-use Rattle.log_entry.specs.declared.calls.Op.{Op}
 use Rattle.log_entry.specs.declared.calls.WriteRefusal.{WriteRefusal}
 use Rattle.log_entry.specs.declared.calls.WriteRefusal.TheVariants.{TooLong, TooLarge}
-use Rattle.log_entry.specs.declared.calls.CollectRefusal.{CollectRefusal}
 use Rattle.log_entry.specs.declared.calls.CollectRefusal.TheVariants.{Overtaken}
 use Rattle.log_entry.specs.declared.calls.Held.{Held}
 use Rattle.log_entry.specs.declared.calls.Reply.{Reply}

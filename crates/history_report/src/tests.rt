@@ -166,9 +166,15 @@ fn prints_lines_of_collections(rt: HostRuntime) -> Result<(), Fail> {
         held: None,
     };
     prints(&rt, alloc, Op::Collect, Reply::Collected(done), all)?;
-    let pin = Held {
+    let held = Some(Held {
         seat: 4,
         generation: 1,
+    });
+    let done = Collected {
+        generation: 2,
+        freed: 1,
+        kept: 3,
+        held,
     };
     let some = "5 15 3 collect = generation 2 freed 1 kept 3 pin 4 at 1\n";
     prints(&rt, alloc, Op::Collect, Reply::Collected(done), some)?;

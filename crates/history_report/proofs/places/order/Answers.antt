@@ -1,4 +1,4 @@
-use Rattle.std.proofs.Common.{◌≡◌, ◌++◌, length, drop, rules}
+use Rattle.std.proofs.Common.{◌≡◌, length, drop, rules}
 use Rattle.std.proofs.Math.Seq.{take-append_seam}
 use Rattle.std.proofs.lemmas.List.Sorted.{answers_always}
 use Rattle.log_entry.specs.Order.{place_of}
