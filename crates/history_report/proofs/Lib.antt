@@ -1,4 +1,3 @@
-pub mod ReportLemmas
 pub mod SplitLemmas
 pub mod AnswerLemmas
 pub mod TextLemmas
