@@ -16,11 +16,13 @@ use Rattle.history_report.specs.Report.{report_text}
 abbrev pub IsShort : ℕ → Type 0
 IsShort number = number < 10 ^ 64
 
+-- so have those of a refusal of a write
 abbrev pub HasShortRefusal : WriteRefusal → Type 0
 HasShortRefusal (TooLong blocks) = IsShort blocks
 HasShortRefusal (TooLarge end) = IsShort end
 HasShortRefusal _ = Unit {0}
 
+-- and those of a pin, where there is one
 abbrev pub HasShortHeld : Option Held → Type 0
 HasShortHeld None = Unit {0}
 HasShortHeld (Some held) = IsShort held.seat × IsShort held.generation
