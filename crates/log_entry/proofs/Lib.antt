@@ -1,2 +1,4 @@
 pub mod NumberLemmas
 pub mod HistoryLemmas
+pub mod FieldLemmas
+pub mod WordBytesLemmas

@@ -6,4 +6,9 @@ pub mod Kinds
 pub mod OfTrace
 pub mod Order
 pub mod Text
+pub mod Fields
+pub mod Words
+pub mod WordBytes
+pub mod WordLaws
+pub mod WordRows
 pub mod Rows

@@ -3,10 +3,22 @@
 
 pub mod calls;
 pub mod content;
+pub mod entries;
+pub mod fields;
 pub mod laws;
+pub mod layouts;
 pub mod shapes;
+#[cfg(test)]
+mod tests;
 pub mod text;
+pub mod word_bytes;
+pub mod word_laws;
+pub mod words;
 
 pub use calls::{Call, CollectRefusal, Collected, Held, Job, Op, Reply, WriteRefusal};
 pub use content::Blob;
+pub use entries::{Entry, decode, encode};
+pub use fields::Field;
 pub use shapes::{Area, BadShape, Geometry};
+pub use word_bytes::{of_bytes, to_bytes};
+pub use words::{BlockKind, BlockWord, Head, IndirectWord, RunWord, SnapshotWord};
