@@ -7,6 +7,8 @@ pub mod entries;
 pub mod fields;
 pub mod laws;
 pub mod layouts;
+#[cfg(test)]
+mod shape_tests;
 pub mod shapes;
 #[cfg(test)]
 mod tests;

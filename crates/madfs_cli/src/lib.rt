@@ -5,6 +5,8 @@ pub mod commands;
 pub mod histories;
 pub mod plain_file;
 pub mod statuses;
+#[cfg(test)]
+mod tests;
 pub mod top;
 
 pub use statuses::Status;
