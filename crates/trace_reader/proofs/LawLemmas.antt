@@ -1,13 +1,12 @@
 -- Traces told apart by their text, and the laws of reading.
-use Rattle.std.proofs.Common.{◌≡◌, ℕ, suc, ◌+◌, ◌^◌, ◌<◌, ◌≤◌, ◌⊎◌, List, [], ◌∷◌, ◌++◌, append_assoc, append-nil, length, Result, Ok, Err, inl, inr, codes, refl, sym, ap, ◌∙◌, arith}
+use Rattle.std.proofs.Common.{◌≡◌, ℕ, ◌+◌, ◌<◌, ◌⊎◌, List, [], ◌∷◌, ◌++◌, append_assoc, append-nil, length, Result, Ok, Err, inl, inr, codes, refl, sym, ap, ◌∙◌, arith}
 use Rattle.std.proofs.lemmas.List.{length-append}
 use Rattle.log_entry.specs.OfTrace.{asked_for}
 use Rattle.log_entry.specs.declared.calls.Op.{Op}
 use Rattle.log_entry.specs.declared.calls.Job.{Job}
 use Rattle.trace_reader.specs.TraceText.{call_text, line_text, trace_text}
 use Rattle.trace_reader.specs.Trace.{Follows, AllFollow, IsTrace}
-use Rattle.trace_reader.specs.Fronts.{CallFront}
-use Rattle.trace_reader.specs.Reading.{GoesOn, IsFirstBadLine, Reads, trace_limit}
+use Rattle.trace_reader.specs.Reading.{GoesOn, IsFirstBadLine, Reads}
 use Rattle.trace_reader.specs.declared.refusals.BadTrace.{BadTrace}
 use Rattle.trace_reader.specs.declared.refusals.BadTrace.TheVariants.{BadLine, BadSeat, BadNumber, BadHex, TooMuch, TooLong}
 use Rattle.trace_reader.proofs.FrontLemmas.{call_apart}
