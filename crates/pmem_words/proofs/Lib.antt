@@ -1,0 +1,6 @@
+mod GoesMore
+mod MapLemmas
+pub mod AmongLemmas
+pub mod LeadsLemmas
+pub mod PlainLemmas
+pub mod StageLemmas

@@ -1,0 +1,10 @@
+pub mod Asks
+pub mod Conducts
+pub mod Courses
+pub mod Drives
+pub mod Leads
+pub mod Maps
+pub mod Parts
+pub mod PlainWords
+pub mod Scripts
+pub mod Seats
