@@ -1,7 +1,7 @@
 -- A list of answers and one more.
 use Rattle.std.proofs.Common.{ℕ, ◌≡◌, List, [], ◌∷◌, ◌++◌, refl, subst, sym}
 use Rattle.pmem_words.specs.Seats.{Seat}
-use Rattle.pmem_words.specs.Scripts.{After, Script}
+use Rattle.pmem_words.specs.Scripts.{Script}
 use Rattle.pmem_words.specs.Courses.{Course}
 use Rattle.pmem_words.specs.Drives.{Goes}
 use Rattle.pmem_words.specs.declared.asks.Turn.TheVariants.{Go}

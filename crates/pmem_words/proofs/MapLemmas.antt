@@ -1,6 +1,6 @@
 -- A table's map as a list, after each call on the table.
-use Rattle.std.proofs.Common.{ℕ, zero, suc, ◌≡◌, ◌+◌, ◌-◌, ◌<◌, if◌then◌else◌, List, [], ◌∷◌, refl, ap, sym, ◌∙◌, subst, arith}
-use Rattle.std.specs.Prelude.{Option, None, Some, slice_index_or}
+use Rattle.std.proofs.Common.{ℕ, zero, suc, ◌≡◌, ◌+◌, ◌-◌, ◌<◌, if◌then◌else◌, ◌∷◌, refl, ap, sym, ◌∙◌, arith}
+use Rattle.std.specs.Prelude.{Option, None, Some}
 use Rattle.block_table.specs.FileMap.{FileMap, block_at, is_named}
 use Rattle.block_table.specs.declared.TheConstants.{VIRTUAL_BLOCKS}
 use Rattle.pmem_words.specs.Maps.{listed, map_of, unmapped, with_run_at, with_run, map_at}

@@ -3,14 +3,13 @@ use Rattle.std.proofs.Common.{ℕ, ◌≡◌, ◌<◌, ◌^◌, refl, subst, sym
 use Rattle.std.proofs.lemmas.List.{set-get_or}
 use Rattle.pmem_words.specs.Asks.{place, becomes}
 use Rattle.pmem_words.specs.Seats.{Seat}
-use Rattle.pmem_words.specs.Scripts.{After, Script}
-use Rattle.pmem_words.specs.Courses.{IsReady, over}
+use Rattle.pmem_words.specs.Scripts.{Script}
+use Rattle.pmem_words.specs.Courses.{over}
 use Rattle.pmem_words.specs.Leads.{Leads, LeadsAfter}
-use Rattle.pmem_words.specs.PlainWords.{PlainWords, word_at, with_word, plain_takes, plain_answer, plain_after, found_by, PlainStep, plain}
+use Rattle.pmem_words.specs.PlainWords.{PlainWords, word_at, with_word, plain_takes, plain_answer, plain_after, found_by, plain}
 use Rattle.pmem_words.proofs.LeadsLemmas.{asking_each}
 use Rattle.pmem_words.specs.declared.asks.Place.{Place}
 use Rattle.pmem_words.specs.declared.asks.Place.TheVariants.{Image, Pin, Map, FenceOf}
-use Rattle.pmem_words.specs.declared.asks.Ask.{Ask}
 
 -- a word put back where it was found
 pub with_same : (p : PlainWords) (at : Place) → with_word p at (word_at p at) ≡ p

@@ -3,7 +3,7 @@ use Rattle.std.proofs.Common.{ℕ, ◌≡◌, refl, subst, sym, ap, ◌∙◌}
 use Rattle.pmem_words.specs.Seats.{Seat}
 use Rattle.pmem_words.specs.Scripts.{After, Script}
 use Rattle.pmem_words.specs.Conducts.{Conduct}
-use Rattle.pmem_words.specs.Courses.{Course, IsReady, over}
+use Rattle.pmem_words.specs.Courses.{Course, over}
 use Rattle.pmem_words.specs.Leads.{Leads, asking}
 use Rattle.pmem_words.specs.Parts.{Next, Into, End, moved, onward, onward_at, Embeds, LeadsOn}
 use Rattle.pmem_words.proofs.LeadsLemmas.{leads_weaker}

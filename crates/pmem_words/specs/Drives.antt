@@ -1,9 +1,8 @@
 -- What a list of answers leads to, and what it is to drive a machine.
 use Rattle.std.specs.Prelude.{ℕ, ◌≡◌, List, [], ◌∷◌}
 use Rattle.pmem_words.specs.Seats.{Seat}
-use Rattle.pmem_words.specs.Scripts.{After, Script}
+use Rattle.pmem_words.specs.Scripts.{Script}
 use Rattle.pmem_words.specs.Courses.{Course}
-use Rattle.pmem_words.specs.declared.asks.Turn.{Turn}
 use Rattle.pmem_words.specs.declared.asks.Turn.TheVariants.{Go, Done}
 
 -- these answers, in order, lead from one machine, seat and memory to another, and the machine goes on after each

@@ -1,5 +1,5 @@
 -- What contracts see of a seat's state, in groups by who uses them.
-use Rattle.std.specs.Prelude.{◌≡◌, ℕ, ◌+◌, ◌*◌, List, [], replicate, slice_index_or, slice_set, Bool, true, false, Option, None}
+use Rattle.std.specs.Prelude.{ℕ, ◌+◌, ◌*◌, List, [], replicate, slice_index_or, slice_set, Bool, true, false, Option, None}
 use Rattle.std.specs.List.{remove_range}
 use Rattle.log_entry.specs.Shape.{words_of_block, snapshot_blocks_of, total_of, longest_of, ceiling}
 use Rattle.log_entry.specs.declared.shapes.Geometry.{Geometry}

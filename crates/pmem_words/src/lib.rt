@@ -7,6 +7,8 @@ pub mod machine;
 pub mod memory;
 pub mod plain;
 pub mod seat;
+#[cfg(test)]
+mod tests;
 pub mod written;
 
 pub use asks::{Ask, Place, Turn};

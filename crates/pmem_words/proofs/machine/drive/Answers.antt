@@ -1,7 +1,5 @@
-use Rattle.std.proofs.Common.{ℕ, List, [], ◌∷◌, ◌++◌, sym, subst, ◌≡◌}
-use Rattle.pmem_words.specs.Seats.{Seat}
+use Rattle.std.proofs.Common.{[], ◌∷◌, ◌++◌, sym}
 use Rattle.pmem_words.specs.Courses.{over}
-use Rattle.pmem_words.specs.Drives.{Goes}
 use Rattle.pmem_words.proofs.GoesMore.{goes_more}
 use Rattle.pmem_words.proofs.machine.drive.Goals as goal
 

@@ -1,4 +1,4 @@
-use Rattle.std.proofs.Common.{◌≡◌, List, ℕ}
+use Rattle.std.proofs.Common.{List, ℕ}
 use Rattle.pmem_words.specs.Courses.{over}
 use Rattle.pmem_words.specs.Drives.{Goes}
 use Rattle.pmem_words.proofs.machine.drive.Given as goal

@@ -1,4 +1,4 @@
-use Rattle.std.proofs.Common.{◌≡◌, ◌∙◌, ap, sym, arith}
+use Rattle.std.proofs.Common.{◌∙◌, ap, sym, arith}
 use Rattle.pmem_words.specs.Seats.{Seat}
 use Rattle.pmem_words.specs.Maps.{map_at}
 use Rattle.pmem_words.proofs.MapLemmas.{map_at_of}

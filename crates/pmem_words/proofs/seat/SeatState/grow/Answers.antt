@@ -1,4 +1,4 @@
-use Rattle.std.proofs.Common.{◌≡◌, ◌∙◌, ap, max}
+use Rattle.std.proofs.Common.{◌∙◌, ap, max}
 use Rattle.block_table.specs.FileMap.{FileMap, block_at}
 use Rattle.pmem_words.specs.Seats.{Seat}
 use Rattle.pmem_words.specs.contracts.seat.SeatState.{the_view}

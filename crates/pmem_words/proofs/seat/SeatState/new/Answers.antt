@@ -1,4 +1,4 @@
-use Rattle.std.proofs.Common.{◌≡◌, ◌∙◌, ap, ℕ, List, replicate}
+use Rattle.std.proofs.Common.{◌∙◌, ap, ℕ, replicate}
 use Rattle.pmem_words.specs.Seats.{Seat, new_seat}
 use Rattle.pmem_words.proofs.MapLemmas.{unmapped_of}
 use Rattle.pmem_words.proofs.seat.SeatState.new.Goals as goal

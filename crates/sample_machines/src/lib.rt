@@ -1,0 +1,10 @@
+//! Small machines that show how a machine is written, composed and proved over a plain memory. Nothing else stands on them.
+#![tactic(auto)]
+
+pub mod lay;
+pub mod offer;
+pub mod post;
+
+pub use lay::Lay;
+pub use offer::Offer;
+pub use post::{Post, Stage};
