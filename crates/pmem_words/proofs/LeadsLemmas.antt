@@ -56,6 +56,16 @@ pub leads_weaker : {M W Out : Type 0} (script : Script M Out) (course : Course M
 leads_weaker script course Q R f {m} {s} {w} (asking ready goes ends) =
     asking ready (λ a v st go. leads_weaker script course Q R f (goes a v st go)) (λ a v out st done. f out (script.after m s a).seat v (ends a v out st done))
 
+-- a promise, and what an invariant of the way adds at its ends
+module _ {M W Out : Type 0} (script : Script M Out) (course : Course M W) (K : M → Seat → W → Type 0) (Q E : Out → Seat → W → Type 0)
+    (goes_on : (m : M) (s : Seat) (w : W) (a : ℕ) (v : W) → K m s w → course.ready m s w → course.step m s w a v → (script.after m s a).turn ≡ Go → K (script.after m s a).machine (script.after m s a).seat v)
+    (ends_so : (m : M) (s : Seat) (w : W) (a : ℕ) (v : W) (out : Out) → K m s w → course.ready m s w → course.step m s w a v → (script.after m s a).turn ≡ Done out → E out (script.after m s a).seat v) where
+  pub leads_with : {m : M} {s : Seat} {w : W} → K m s w → Leads script course Q m s w → Leads script course (λ out t v. Q out t v × E out t v) m s w
+  leads_with {m} {s} {w} k (asking ready goes ends) =
+      asking ready
+      (λ a v st go. leads_with (goes_on m s w a v k ready st go) (goes a v st go))
+      (λ a v out st done. (ends a v out st done, ends_so m s w a v out k ready st done))
+
 module _ {M W Out : Type 0} (script : Script M Out) (course : Course M W) (I : M → Seat → W → Type 0) (Q : Out → Seat → W → Type 0)
     (lowers : Lowers script) (keeps : (m : M) (s : Seat) (w : W) → I m s w → Keeps script course I Q m s w) where
   leads_below : (n : ℕ) (m : M) (s : Seat) (w : W) → script.measure m s < n → I m s w → Leads script course Q m s w
