@@ -31,6 +31,7 @@ impl SeatState {
         ensures map { (v : ℕ) → v < VIRTUAL_BLOCKS → block_at result.now v ≡ map_at self.now.walk.map v }
         ensures size { result.now.size ≡ self.now.walk.size }
         ensures unit { result.now.block_bytes ≡ self.now.geometry.block_bytes }
+        ensures len { length self.now.walk.map ≡ VIRTUAL_BLOCKS }
     {
         &self.table
     }
