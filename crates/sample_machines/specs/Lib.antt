@@ -1,3 +1,5 @@
+pub mod Laid
 pub mod Laying
 pub mod Offering
+pub mod Posted
 pub mod Posting

@@ -34,14 +34,15 @@ post_of first value limit = record { first = first; value = value; limit = limit
 abbrev pub laid : Post → Unit {0} → Seat → Next Post Bool
 laid m _ s = Into (offering m) s
 
+-- once more, if a slot is left
 abbrev pub again_if : Bool → Post → Seat → Next Post Bool
-again_if true m s = Into (laying m) s
-again_if false m s = End false s
+again_if true again s = Into again s
+again_if false again s = End false s
 
 -- after the offer
 abbrev pub offered : Post → Bool → Seat → Next Post Bool
 offered m true s = End true s
-offered m false s = again_if (nat_lt s.walk.tail_slot m.limit) m s
+offered m false s = again_if (nat_lt s.walk.tail_slot m.limit) (laying m) s
 
 abbrev pub stage_asks : Stage → Seat → Ask
 stage_asks (Laying p) s = lay_script.asks p s
@@ -78,7 +79,7 @@ post_script = record {
 }
 
 again_lowers : (b : Bool) (m : Post) (s : Seat) → s.walk.tail_slot < m.limit → length s.calling.bytes < 65536
-    → LowersOn post_measure ((m.limit - s.walk.tail_slot) * 65540 + 0) (again_if b m (next_slot s))
+    → LowersOn post_measure ((m.limit - s.walk.tail_slot) * 65540 + 0) (again_if b (laying m) (next_slot s))
 again_lowers true m s slot few = omega arith
 again_lowers false m s slot few = tt
 

@@ -1,10 +1,14 @@
 //! Small machines that show how a machine is written, composed and proved over a plain memory. Nothing else stands on them.
 #![tactic(auto)]
 
+pub mod alone;
 pub mod lay;
 pub mod offer;
 pub mod post;
+#[cfg(test)]
+mod tests;
 
+pub use alone::{lay_alone, post_alone};
 pub use lay::Lay;
 pub use offer::Offer;
 pub use post::{Post, Stage};

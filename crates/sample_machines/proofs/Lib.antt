@@ -1,0 +1,4 @@
+pub mod LaidLemmas
+pub mod LayOverPlain
+pub mod OfferOverPlain
+pub mod PostOverPlain
