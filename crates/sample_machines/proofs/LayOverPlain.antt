@@ -1,12 +1,11 @@
 -- Laying over a plain memory, for whatever is to hold afterwards.
-use Rattle.std.proofs.Common.{ℕ, zero, suc, ◌≡◌, ◌+◌, ◌-◌, ◌<◌, ◌≤◌, nat_lt, Bool, true, false, List, length, slice_index, slice_set, refl, ap, sym, ◌∙◌, subst, arith}
+use Rattle.std.proofs.Common.{ℕ, zero, suc, ◌≡◌, ◌+◌, ◌<◌, ◌≤◌, nat_lt, Bool, true, false, List, length, slice_index, slice_set, refl, subst, arith}
 use Rattle.std.proofs.lemmas.Bool.{ltb-true, ltb-false}
 use Rattle.pmem_words.specs.Seats.{Seat}
 use Rattle.pmem_words.specs.Courses.{over}
 use Rattle.pmem_words.specs.Leads.{Leads, LeadsAt}
 use Rattle.pmem_words.specs.PlainWords.{PlainWords, plain}
 use Rattle.pmem_words.proofs.PlainLemmas.{leads_plain}
-use Rattle.sample_machines.specs.declared.lay.Lay.{Lay}
 use Rattle.sample_machines.specs.Laid.{IsLaid}
 use Rattle.sample_machines.specs.Laying.{lay_script, if_more}
 use Rattle.sample_machines.specs.Posted.{with_words}

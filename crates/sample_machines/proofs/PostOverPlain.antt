@@ -1,5 +1,5 @@
 -- A post over a plain memory, from what its parts promise alone.
-use Rattle.std.proofs.Common.{ℕ, zero, suc, ◌≡◌, ◌≢◌, ◌+◌, ◌-◌, ◌<◌, ◌≤◌, nat_lt, Bool, true, false, List, length, slice_index, slice_set, refl, ap, sym, ◌∙◌, ◌==◌, subst, arith}
+use Rattle.std.proofs.Common.{ℕ, zero, suc, ◌≡◌, ◌≢◌, ◌+◌, ◌<◌, ◌≤◌, nat_lt, Bool, true, false, List, length, slice_index, refl, sym, ◌∙◌, ◌==◌, subst, arith}
 use Rattle.std.proofs.lemmas.Bool.{ltb-true, ltb-false}
 use Rattle.std.proofs.lemmas.Bool.Decides.{nat_tests}
 use Rattle.pmem_words.specs.Seats.{Seat}
@@ -15,9 +15,9 @@ use Rattle.sample_machines.specs.declared.post.Stage.TheVariants.{Laying, Offeri
 use Rattle.sample_machines.specs.Laid.{IsLaid}
 use Rattle.sample_machines.specs.Laying.{lay_script}
 use Rattle.sample_machines.specs.Offering.{offer_script, offer_ends}
-use Rattle.sample_machines.specs.Posting.{post_script, post_of, at_stage, laying, offering, laid, offered, again_if}
+use Rattle.sample_machines.specs.Posting.{post_script, post_of, at_stage, laid, offered, again_if}
 use Rattle.sample_machines.specs.Posted.{CanPost, IsPosted, at_slot, with_words}
-use Rattle.sample_machines.proofs.LaidLemmas.{none_laid, laid_again, laid_before}
+use Rattle.sample_machines.proofs.LaidLemmas.{laid_again, laid_before}
 use Rattle.sample_machines.proofs.LayOverPlain.{lay_over_plain}
 use Rattle.sample_machines.proofs.OfferOverPlain.{offer_over_plain}
 
