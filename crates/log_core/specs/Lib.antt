@@ -1,0 +1,14 @@
+pub mod Image
+pub mod Header
+pub mod Entries
+pub mod Maps
+pub mod Blocks
+pub mod Chains
+pub mod Positions
+pub mod Format
+pub mod Stands
+pub mod Holes
+pub mod Taken
+pub mod Keeps
+pub mod Recovered
+pub mod Rows
