@@ -1,1 +1,2 @@
 pub mod JustMadeRows
+pub mod OneChain

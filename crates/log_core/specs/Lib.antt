@@ -11,4 +11,5 @@ pub mod Holes
 pub mod Taken
 pub mod Keeps
 pub mod Recovered
+pub mod Laws
 pub mod Rows
