@@ -1,2 +1,5 @@
 pub mod JustMadeRows
 pub mod OneChain
+pub mod HoldingLemmas
+pub mod StandingRows
+pub mod FailingRows

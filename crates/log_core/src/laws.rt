@@ -1,11 +1,26 @@
 //! Laws of the definitions, each the contract of a function that does nothing, and worked rows that they compute.
 
 ghost use Rattle.log_core.specs.Laws.{HaveOneChain, StandForOne};
-ghost use Rattle.log_core.specs.Rows.{JustMade};
+ghost use Rattle.log_core.specs.Rows.{JustMade, AcrossBlocks, AfterCollection, RunsInBlock, MapWithRuns, BehindHole, WrongHeader, SealFirst, LinkInCircle, BlockNamedTwice, BytePastEnd, BaseOffByOne, BaseAfterSnapshot, BlockNotInData, UnnamedBit, RunsDoNotAddUp};
 
 /// Worked images: what they stand for, and images that stand for nothing.
 pub fn law_rows()
     ensures just_made { JustMade }
+    ensures across_blocks { AcrossBlocks }
+    ensures after_collection { AfterCollection }
+    ensures runs_in_block { RunsInBlock }
+    ensures map_with_runs { MapWithRuns }
+    ensures behind_hole { BehindHole }
+    ensures wrong_header { WrongHeader }
+    ensures seal_first { SealFirst }
+    ensures link_in_circle { LinkInCircle }
+    ensures block_named_twice { BlockNamedTwice }
+    ensures byte_past_end { BytePastEnd }
+    ensures base_off_by_one { BaseOffByOne }
+    ensures base_after_snapshot { BaseAfterSnapshot }
+    ensures block_not_in_data { BlockNotInData }
+    ensures unnamed_bit { UnnamedBit }
+    ensures runs_do_not_add_up { RunsDoNotAddUp }
 {}
 
 /// The words of an image have one chain, and stand for one file at one position.
