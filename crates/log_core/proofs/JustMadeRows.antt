@@ -9,8 +9,8 @@ use Rattle.log_core.specs.Rows.{two_blocks}
 pub holds_nothing : (words : List ℕ) (shape : Shape) → HoldsFile words shape [] []
 holds_nothing words shape = record { mapped = λ virt block is. cc; unmapped = λ virt is at inside. refl }
 
-pub just_made : Stands two_blocks [] 0
-just_made = (3 ∷ [], record {
+pub just_made_by : StandsBy two_blocks (3 ∷ []) [] 0
+just_made_by = record {
   header = record { magic = refl; version = refl; unnamed = refl; allowed = refl; whole = refl; head_unnamed = refl; generation = omega arith };
   stands = record {
     is_chain = record { linked = (refl, refl); different = refl; snapshots = tt; logs = (refl, refl, tt) };
@@ -19,4 +19,7 @@ just_made = (3 ∷ [], record {
     ends_with = refl;
     holds = holds_nothing two_blocks (shape_of two_blocks);
   };
-})
+}
+
+pub just_made : Stands two_blocks [] 0
+just_made = (3 ∷ [], just_made_by)

@@ -3,3 +3,4 @@ pub mod OneChain
 pub mod HoldingLemmas
 pub mod StandingRows
 pub mod FailingRows
+pub mod StartRows

@@ -4,5 +4,7 @@
 pub mod header;
 pub mod laws;
 pub mod starts;
+#[cfg(test)]
+mod tests;
 
 pub use starts::Start;
