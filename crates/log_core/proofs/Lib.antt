@@ -4,3 +4,6 @@ pub mod HoldingLemmas
 pub mod StandingRows
 pub mod FailingRows
 pub mod StartRows
+pub mod ImageLemmas
+pub mod EmptyLog
+pub mod MadeImages

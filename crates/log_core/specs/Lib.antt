@@ -11,5 +11,6 @@ pub mod Holes
 pub mod Taken
 pub mod Keeps
 pub mod Recovered
+pub mod JustMade
 pub mod Laws
 pub mod Rows

@@ -1,6 +1,6 @@
 //! Laws of the definitions, each the contract of a function that does nothing, and worked rows that they compute.
 
-ghost use Rattle.log_core.specs.Laws.{HaveOneChain, StandForOne};
+ghost use Rattle.log_core.specs.Laws.{HaveOneChain, StandForOne, JustMadeStands};
 ghost use Rattle.log_core.specs.Rows.{JustMade, AcrossBlocks, AfterCollection, RunsInBlock, MapWithRuns, BehindHole, WrongHeader, SealFirst, LinkInCircle, BlockNamedTwice, BytePastEnd, BaseOffByOne, BaseAfterSnapshot, BlockNotInData, UnnamedBit, RunsDoNotAddUp};
 
 /// Worked images: what they stand for, and images that stand for nothing.
@@ -27,4 +27,9 @@ pub fn law_rows()
 pub fn law_one_meaning()
     ensures one_chain { HaveOneChain }
     ensures one_file { StandForOne }
+{}
+
+/// A just-made image of any shape stands for the empty file at position 0.
+pub fn law_just_made()
+    ensures { JustMadeStands }
 {}
