@@ -1,12 +1,11 @@
 -- An image whose chain is one log block with an empty first slot stands for the empty file.
-use Rattle.std.proofs.Common.{◌≡◌, ◌≤◌, ◌<◌, ◌+◌, ◌-◌, ◌*◌, ◌/◌, ◌%◌, ◌^◌, ◌==◌, ◌&&◌, ◌||◌, not, nat_lt, ℕ, zero, suc, Bool, true, false, List, [], ◌∷◌, ◌++◌, length, get_or, if◌then◌else◌, refl, sym, ap, ◌∙◌, subst, arith}
-use Rattle.std.specs.List.{list_all}
+use Rattle.std.proofs.Common.{◌≡◌, ◌<◌, ℕ, true, false, List, [], ◌∷◌, length, get_or, refl, arith}
 use Rattle.log_core.specs.Image.{Shape, block_words, is_in_log}
 use Rattle.log_core.specs.Header.{head_block}
-use Rattle.log_core.specs.Blocks.{link_of, kind_of, is_snapshot, base_of, slots_of, entry_words, is_closed, leads_on}
-use Rattle.log_core.specs.Chains.{snapshots_of, logs_of, IsLinked, HaveOneBase, AreLogsFrom, IsChain}
-use Rattle.log_core.specs.Positions.{snapshot_entries, log_words, log_entries, entries_of, position_of, size_at_end}
-use Rattle.log_core.specs.Format.{is_kind_word, is_log_block, is_log_entry, is_seal_last, is_seal_placed, HasFormat}
+use Rattle.log_core.specs.Blocks.{kind_of, is_snapshot, base_of, slots_of, entry_words, is_closed, leads_on}
+use Rattle.log_core.specs.Chains.{snapshots_of, logs_of}
+use Rattle.log_core.specs.Positions.{log_words, entries_of, position_of, size_at_end}
+use Rattle.log_core.specs.Format.{is_log_block, is_seal_placed}
 use Rattle.log_core.specs.Stands.{StandsIn}
 use Rattle.log_core.proofs.JustMadeRows.{holds_nothing}
 

@@ -1,11 +1,11 @@
 -- Worked images that stand for nothing, and an entry that does not count.
-use Rattle.std.proofs.Common.{◌≡◌, ◌≤◌, ℕ, zero, suc, ◌+◌, ◌^◌, Bool, true, false, List, [], ◌∷◌, length, take, get_or, refl, sym, ap, ◌∙◌, subst, arith}
+use Rattle.std.proofs.Common.{◌≡◌, ℕ, ◌+◌, ◌^◌, true, false, List, [], ◌∷◌, length, get_or, refl, sym, subst, arith}
 use Rattle.std.proofs.lemmas.List.{get_or_past}
-use Rattle.log_core.specs.Header.{shape_of, head_block}
-use Rattle.log_core.specs.Image.{Shape, block_words}
+use Rattle.log_core.specs.Header.{shape_of}
+use Rattle.log_core.specs.Image.{block_words}
 use Rattle.log_core.specs.Blocks.{leads_on, link_of}
-use Rattle.log_core.specs.Chains.{all_different, Leads, IsLinked}
-use Rattle.log_core.specs.Stands.{HoldsFile, StandsIn, StandsBy, Stands}
+use Rattle.log_core.specs.Chains.{all_different, IsLinked}
+use Rattle.log_core.specs.Stands.{StandsBy, Stands}
 use Rattle.log_core.specs.Rows.{with_words, two_blocks, collected, with_runs, one_byte, behind_hole, StandForNothing, BehindHole, WrongHeader, SealFirst, LinkInCircle, BlockNamedTwice, BytePastEnd, BaseOffByOne, BaseAfterSnapshot, BlockNotInData, UnnamedBit, RunsDoNotAddUp}
 use Rattle.log_core.proofs.OneChain.{one_linked, one_meaning}
 use Rattle.log_core.proofs.JustMadeRows.{holds_nothing}
@@ -21,10 +21,11 @@ nothing_by words chain linked none file position stands = none file position (by
 
 pub wrong_header : WrongHeader
 wrong_header = (
-    λ file position stands. omega (arith, stands.1.header.magic),
-    λ file position stands. omega (arith, stands.1.header.version),
-    λ file position stands. omega (arith, stands.1.header.generation),
-    λ file position stands. omega (arith, stands.1.header.whole))
+  λ file position stands. omega (arith, stands.1.header.magic),
+  λ file position stands. omega (arith, stands.1.header.version),
+  λ file position stands. omega (arith, stands.1.header.generation),
+  λ file position stands. omega (arith, stands.1.header.whole),
+)
 
 pub seal_first : SealFirst
 seal_first = nothing_by (with_words ((27, 3) ∷ []) two_blocks) (3 ∷ []) (refl, refl) (λ file position stands. cc)
@@ -72,18 +73,27 @@ runs_do_not_add_up = nothing_by (with_words ((40, 8590131204) ∷ []) with_runs)
 
 -- the entry behind the hole is in no chain
 stands_behind : Stands behind_hole [] 0
-stands_behind = (3 ∷ [], record {
-  header = record { magic = refl; version = refl; unnamed = refl; allowed = refl; whole = refl; head_unnamed = refl; generation = omega arith };
-  stands = record {
-    is_chain = record { linked = (refl, refl); different = refl; snapshots = tt; logs = (refl, refl, tt) };
-    format = record { areas = refl; kinds = refl; snapshots = refl; logs = refl; named_once = refl; below_limit = omega arith };
-    ends_at = refl;
-    ends_with = refl;
-    holds = holds_nothing behind_hole (shape_of behind_hole);
-  };
-})
+stands_behind = (
+  3 ∷ [],
+  record {
+    header = record { magic = refl; version = refl; unnamed = refl; allowed = refl; whole = refl; head_unnamed = refl; generation = omega arith };
+    stands = record {
+      is_chain = record { linked = (refl, refl); different = refl; snapshots = tt; logs = (refl, refl, tt) };
+      format = record { areas = refl; kinds = refl; snapshots = refl; logs = refl; named_once = refl; below_limit = omega arith };
+      ends_at = refl;
+      ends_with = refl;
+      holds = holds_nothing behind_hole (shape_of behind_hole);
+    };
+  },
+)
 
 pub entry_behind_hole : BehindHole
-entry_behind_hole = (stands_behind,
-    λ file position stands. (one_meaning behind_hole stands.0 stands_behind.0 file [] position 0 stands.1 stands_behind.1).2,
-    refl, refl, refl, refl, refl)
+entry_behind_hole = (
+  stands_behind,
+  λ file position stands. (one_meaning behind_hole stands.0 stands_behind.0 file [] position 0 stands.1 stands_behind.1).2,
+  refl,
+  refl,
+  refl,
+  refl,
+  refl,
+)

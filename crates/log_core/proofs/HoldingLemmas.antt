@@ -1,11 +1,10 @@
 -- Blocks that hold a file, told from the contents of the first virtual blocks.
-use Rattle.std.proofs.Common.{◌≡◌, ℕ, zero, suc, ◌+◌, ◌-◌, ◌*◌, ◌<◌, ◌≤◌, ◌==◌, ◌&&◌, nat_le, Bool, true, false, List, [], ◌∷◌, ◌++◌, length, get_or, Option, Some, None, if◌then◌else◌, refl, sym, ap, ◌∙◌, subst, arith}
+use Rattle.std.proofs.Common.{◌≡◌, ℕ, zero, suc, ◌+◌, ◌-◌, ◌*◌, ◌<◌, ◌≤◌, ◌==◌, ◌&&◌, Bool, true, false, List, [], ◌∷◌, ◌++◌, length, get_or, Some, None, refl, sym, ap, ◌∙◌, arith}
 use Rattle.std.specs.Prelude.{replicate}
 use Rattle.std.specs.List.{flat_map, slice_get, list_all}
 use Rattle.std.proofs.lemmas.Bool.{le-leb, eqb-true}
 use Rattle.std.proofs.lemmas.Option.{slice_get_past, slice_get_within}
 use Rattle.std.proofs.lemmas.List.{get_or_past, get_or-append-add}
-use Rattle.std.proofs.lemmas.Grind.{common_steps}
 use Rattle.std.proofs.Math.ListN.{get_or-append}
 use Rattle.log_core.specs.Image.{Shape, block_content}
 use Rattle.log_core.specs.Entries.{Meaning}
@@ -62,9 +61,9 @@ pub holds_by : (words : List ℕ) (shape : Shape) (entries : List Meaning) (file
     HoldsFile words shape entries file
 holds_by words shape entries file blocks count same_map sizes contents short = record {
   mapped = λ virt block is at inside.
-    sym (in_contents (block_content words shape) shape.block_bytes blocks virt block at sizes (sym (same_map virt) ∙ is) inside)
-    ∙ ap (λ (l : List ℕ). get_or l (virt * shape.block_bytes + at) 0) contents
-    ∙ zeros_after file count (virt * shape.block_bytes + at);
+      sym (in_contents (block_content words shape) shape.block_bytes blocks virt block at sizes (sym (same_map virt) ∙ is) inside)
+      ∙ ap (λ (l : List ℕ). get_or l (virt * shape.block_bytes + at) 0) contents
+      ∙ zeros_after file count (virt * shape.block_bytes + at);
   unmapped = λ virt is at inside.
-    get_or_past file (virt * shape.block_bytes + at) 0 (past_all blocks virt at shape.block_bytes (length file) short (sym (same_map virt) ∙ is));
+      get_or_past file (virt * shape.block_bytes + at) 0 (past_all blocks virt at shape.block_bytes (length file) short (sym (same_map virt) ∙ is));
 }

@@ -1,5 +1,5 @@
 -- The words of a block by the image's, and what the numbers of an allowed shape are.
-use Rattle.std.proofs.Common.{◌≡◌, ◌≤◌, ◌<◌, ◌+◌, ◌-◌, ◌*◌, ◌/◌, ◌==◌, ◌||◌, not, nat_lt, ℕ, zero, suc, Bool, true, false, List, [], ◌∷◌, length, get_or, take, drop, Option, Some, None, if◌then◌else◌, ◌⊎◌, inl, inr, refl, sym, ap, ◌∙◌, subst, arith, min}
+use Rattle.std.proofs.Common.{◌≡◌, ◌≤◌, ◌<◌, ◌+◌, ◌-◌, ◌*◌, ◌==◌, ◌||◌, not, nat_lt, ℕ, zero, suc, Bool, true, false, List, length, get_or, drop, Some, None, if◌then◌else◌, ◌⊎◌, inl, inr, refl, ap, ◌∙◌, arith, min}
 use Rattle.std.specs.List.{slice_range}
 use Rattle.std.proofs.lemmas.Bool.{eqb-true, ltb-false}
 use Rattle.std.proofs.lemmas.List.{get_or-take, get_or-drop, length-take, length-drop}
@@ -8,7 +8,7 @@ use Rattle.log_entry.specs.Geometry.{shape_refusal}
 use Rattle.log_entry.specs.declared.shapes.Area.TheVariants.{Data, Log}
 use Rattle.log_entry.specs.declared.shapes.BadShape.{BadShape}
 use Rattle.log_entry.specs.declared.shapes.BadShape.TheVariants.{BadBlock, BadArea, TooManyBlocks}
-use Rattle.log_core.specs.Image.{Shape, words_in, total, block_words, word_at}
+use Rattle.log_core.specs.Image.{Shape, words_in, block_words, word_at}
 
 -- a word of a stretch of words
 pub in_range : (words : List ℕ) (at count index : ℕ) → index < count → get_or (slice_range words at (at + count)) index 0 ≡ get_or words (at + index) 0

@@ -1,8 +1,8 @@
 -- A just-made image stands for the empty file.
-use Rattle.std.proofs.Common.{◌≡◌, ℕ, List, [], ◌∷◌, refl, arith}
+use Rattle.std.proofs.Common.{ℕ, List, [], ◌∷◌, refl, arith}
 use Rattle.log_core.specs.Image.{Shape}
 use Rattle.log_core.specs.Header.{shape_of}
-use Rattle.log_core.specs.Stands.{HoldsFile, StandsIn, StandsBy, Stands}
+use Rattle.log_core.specs.Stands.{HoldsFile, StandsBy, Stands}
 use Rattle.log_core.specs.Rows.{two_blocks}
 
 -- no entries hold the empty file

@@ -1,6 +1,5 @@
 -- A just-made image of any shape stands for the empty file.
-use Rattle.std.proofs.Common.{◌≡◌, ◌≢◌, ◌≤◌, ◌<◌, ◌+◌, ◌-◌, ◌*◌, ◌/◌, ◌%◌, ◌^◌, ◌==◌, ◌&&◌, nat_lt, ℕ, zero, suc, Bool, true, false, List, [], ◌∷◌, length, get_or, drop, None, ◌⊎◌, inl, inr, if◌then◌else◌, refl, sym, ap, ◌∙◌, subst, arith}
-use Rattle.std.specs.List.{slice_range}
+use Rattle.std.proofs.Common.{◌≡◌, ◌≤◌, ◌<◌, ◌+◌, ◌*◌, ◌/◌, ◌^◌, ◌==◌, ℕ, Bool, true, false, List, [], ◌∷◌, length, get_or, None, ◌⊎◌, inl, inr, if◌then◌else◌, refl, sym, ap, ◌∙◌, subst, arith}
 use Rattle.std.proofs.lemmas.Bool.{ne_eqb, lt-ltb, eq-eqb, eqb-true, eqb-false}
 use Rattle.std.proofs.lemmas.List.{get_or-drop, length-drop}
 use Rattle.std.proofs.Math.Nat.{mul-le-mul_right}
@@ -8,10 +7,9 @@ use Rattle.log_entry.specs.Fields.{field, placed}
 use Rattle.log_entry.specs.Geometry.{shape_refusal}
 use Rattle.log_entry.specs.Words.{head_word}
 use Rattle.log_entry.specs.declared.layouts.TheConstants.{HEAD_BLOCK, HEAD_UNNAMED, HEAD_GENERATION}
-use Rattle.log_core.specs.Image.{Shape, words_in, total, is_in_log, block_words, word_at}
+use Rattle.log_core.specs.Image.{Shape, words_in, total, is_in_log, block_words}
 use Rattle.log_core.specs.Header.{shape_of, head_block, generation_of, HasHeader}
-use Rattle.log_core.specs.Blocks.{slots_of}
-use Rattle.log_core.specs.Stands.{StandsIn, StandsBy}
+use Rattle.log_core.specs.Stands.{StandsIn}
 use Rattle.log_core.specs.JustMade.{block_power, first_log, made_word, IsJustMade}
 use Rattle.log_core.specs.Laws.{JustMadeStands}
 use Rattle.log_core.specs.declared.header.TheConstants.{VERSION, HEADER_VERSION, HEADER_BLOCK_POWER, HEADER_UNNAMED, HEADER_DATA, HEADER_LOG}
@@ -125,9 +123,11 @@ made_header shape words is allowed = record {
 
 pub just_made_stands : JustMadeStands
 just_made_stands shape words allowed made =
-    let is : Made shape words = record { allowed = allowed_shape shape.data_blocks shape.log_blocks shape.block_bytes allowed; made = made } in
-    (shape_is shape words is, record {
-      header = made_header shape words is allowed;
-      stands = subst (λ (s : Shape). StandsIn words s (first_log shape ∷ []) [] 0) (sym (shape_is shape words is))
-      (stands_empty words shape (first_log shape) (head_is shape words is).0 (in_log_area shape words is) (empty_log shape words is));
-    })
+    let is : Made shape words = record { allowed = allowed_shape shape.data_blocks shape.log_blocks shape.block_bytes allowed; made = made } in (
+      shape_is shape words is,
+      record {
+        header = made_header shape words is allowed;
+        stands = subst (λ (s : Shape). StandsIn words s (first_log shape ∷ []) [] 0) (sym (shape_is shape words is))
+            (stands_empty words shape (first_log shape) (head_is shape words is).0 (in_log_area shape words is) (empty_log shape words is));
+      },
+    )

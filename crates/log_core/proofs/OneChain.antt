@@ -1,16 +1,15 @@
 -- The words of an image have one chain, and stand for one file at one position.
-use Rattle.std.proofs.Common.{◌≡◌, ℕ, zero, suc, ◌+◌, ◌*◌, ◌/◌, ◌%◌, ◌<◌, ◌≤◌, ◌==◌, Bool, true, false, List, [], ◌∷◌, length, get_or, Option, Some, None, if◌then◌else◌, refl, sym, ap, ◌∙◌, subst, arith}
+use Rattle.std.proofs.Common.{◌≡◌, ℕ, zero, suc, ◌+◌, ◌*◌, ◌/◌, ◌%◌, ◌<◌, List, [], ◌∷◌, length, get_or, Option, Some, None, refl, sym, ap, ◌∙◌, subst, arith}
 use Rattle.std.proofs.lemmas.List.{ext_get_or}
 use Rattle.std.proofs.Math.Nat.{mod-lt, div-add-mod}
-use Rattle.std.proofs.lemmas.Grind.{common_steps}
 use Rattle.log_entry.specs.Geometry.{shape_refusal}
-use Rattle.log_core.specs.Image.{Shape, block_words}
-use Rattle.log_core.specs.Header.{shape_of, head_block}
+use Rattle.log_core.specs.Image.{Shape}
+use Rattle.log_core.specs.Header.{shape_of}
 use Rattle.log_core.specs.Entries.{Meaning}
 use Rattle.log_core.specs.Maps.{map_of}
-use Rattle.log_core.specs.Chains.{Leads, IsLinked, IsChain}
-use Rattle.log_core.specs.Positions.{entries_of, size_at_end}
-use Rattle.log_core.specs.Stands.{HoldsFile, StandsIn, StandsBy}
+use Rattle.log_core.specs.Chains.{Leads, IsLinked}
+use Rattle.log_core.specs.Positions.{entries_of}
+use Rattle.log_core.specs.Stands.{HoldsFile, StandsBy}
 use Rattle.log_core.specs.Laws.{HaveOneChain, StandForOne}
 
 -- from one block on there is one way
@@ -54,10 +53,12 @@ some_bytes data_blocks log_blocks (suc bytes) allowed = omega arith
 
 -- by one chain, one file and one position
 one_by_chain : (words chain file another : List ℕ) (position elsewhere : ℕ) → StandsBy words chain file position → StandsBy words chain another elsewhere → (file ≡ another) × (position ≡ elsewhere)
-one_by_chain words chain file another position elsewhere here there =
-    (one_file words (shape_of words) (entries_of words (shape_of words) chain) file another
-    (some_bytes (shape_of words).data_blocks (shape_of words).log_blocks (shape_of words).block_bytes here.header.allowed)
-    here.stands.holds there.stands.holds (sym here.stands.ends_with ∙ there.stands.ends_with), sym here.stands.ends_at ∙ there.stands.ends_at)
+one_by_chain words chain file another position elsewhere here there = (
+  one_file words (shape_of words) (entries_of words (shape_of words) chain) file another
+      (some_bytes (shape_of words).data_blocks (shape_of words).log_blocks (shape_of words).block_bytes here.header.allowed)
+      here.stands.holds there.stands.holds (sym here.stands.ends_with ∙ there.stands.ends_with),
+  sym here.stands.ends_at ∙ there.stands.ends_at,
+)
 
 pub one_meaning : StandForOne
 one_meaning words chain other file another position elsewhere here there =

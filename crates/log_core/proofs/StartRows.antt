@@ -1,13 +1,12 @@
 -- A run may start from a just-made image.
-use Rattle.std.proofs.Common.{◌≡◌, ◌≤◌, ◌<◌, ◌+◌, ◌==◌, ◌&&◌, ◌||◌, not, nat_lt, ℕ, zero, suc, Bool, true, false, List, [], ◌∷◌, length, get_or, if◌then◌else◌, refl, sym, ap, ◌∙◌, subst, arith}
+use Rattle.std.proofs.Common.{◌≡◌, ◌<◌, ◌==◌, ◌&&◌, ◌||◌, not, nat_lt, ℕ, zero, suc, Bool, true, false, List, [], ◌∷◌, get_or, if◌then◌else◌, refl, sym, subst, arith}
 use Rattle.std.proofs.lemmas.Bool.{eqb-true, ltb-true, ltb-false}
 use Rattle.std.proofs.lemmas.List.{get_or_past}
 use Rattle.log_entry.specs.Geometry.{HasShape}
 use Rattle.log_entry.specs.declared.shapes.Geometry.{Geometry}
 use Rattle.log_core.specs.Header.{shape_of}
-use Rattle.log_core.specs.Stands.{StandsBy}
-use Rattle.log_core.specs.Holes.{AtSlot, is_after, hole_of, IsClear}
-use Rattle.log_core.specs.Taken.{bit_of, is_taken, HasTaken}
+use Rattle.log_core.specs.Holes.{AtSlot, is_after, IsClear}
+use Rattle.log_core.specs.Taken.{bit_of, is_taken}
 use Rattle.log_core.specs.Keeps.{Keeps}
 use Rattle.log_core.specs.Rows.{two_blocks}
 use Rattle.log_core.proofs.HoldingLemmas.{both_left, both_right}
@@ -45,7 +44,7 @@ clear_two place after = at_place (nat_lt place 192) refl
   where
     at_place : (inside : Bool) → nat_lt place 192 ≡ inside → get_or two_blocks place 0 ≡ 0
     at_place true is = eqb-true (get_or two_blocks place 0) 0 (where_so (is_after (shape_of two_blocks) (AtSlot 3 3) place) (get_or two_blocks place 0 == 0)
-      (at_each (λ (k : ℕ). not (is_after (shape_of two_blocks) (AtSlot 3 3) k) || get_or two_blocks k 0 == 0) 192 place refl (ltb-true place 192 is)) after)
+        (at_each (λ (k : ℕ). not (is_after (shape_of two_blocks) (AtSlot 3 3) k) || get_or two_blocks k 0 == 0) 192 place refl (ltb-true place 192 is)) after)
     at_place false is = get_or_past two_blocks place 0 (ltb-false place 192 is)
 
 pub kept_two : (geometry : Geometry) → HasShape geometry 2 1 64 → Keeps geometry two_blocks (9 ∷ []) 1 0 0

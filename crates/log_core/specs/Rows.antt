@@ -1,12 +1,13 @@
 -- Worked images: what they stand for, and images that stand for nothing.
-use Rattle.std.specs.Prelude.{ℕ, ◌+◌, ◌^◌, ◌≡◌, true, false, List, [], ◌∷◌, ◌++◌, replicate, set, take, Some, None}
-use Rattle.log_core.specs.Image.{word_at}
+use Rattle.std.specs.Prelude.{ℕ, ◌+◌, ◌^◌, ◌≡◌, true, false, List, [], ◌∷◌, ◌++◌, replicate, set, take, map, Some, None}
+use Rattle.std.specs.List.{range_with_len}
 use Rattle.log_core.specs.Header.{shape_of}
 use Rattle.log_core.specs.Entries.{meaning}
 use Rattle.log_core.specs.Chains.{IsChain}
 use Rattle.log_core.specs.Positions.{position_of, size_at_end, map_at}
 use Rattle.log_core.specs.Format.{HasFormat}
 use Rattle.log_core.specs.Stands.{Stands}
+use Rattle.log_core.specs.JustMade.{made_word}
 use Rattle.log_core.specs.Holes.{AtSlot, hole_of, is_after}
 
 -- the words with other numbers at some places
@@ -21,6 +22,10 @@ two_blocks = with_words ((0, 3552576303075180877) ∷ (1, 393217) ∷ (2, 429496
 -- it stands for the empty file at position 0
 abbrev pub JustMade : Type 0
 JustMade = Stands two_blocks [] 0
+
+-- the words that the rule for a just-made image gives, place by place, are those of the worked one
+abbrev pub MadeByRule : Type 0
+MadeByRule = map (made_word (record { data_blocks = 2; log_blocks = 1; block_bytes = 64 })) (range_with_len 0 192) ≡ two_blocks
 
 -- the words stand for no file at any position
 abbrev pub StandForNothing : List ℕ → Type 0

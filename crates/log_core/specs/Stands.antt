@@ -11,9 +11,9 @@ use Rattle.log_core.specs.Format.{HasFormat}
 -- a mapped virtual block holds the file's bytes, and 0 past the file's end; the file is 0 in a virtual block that is not mapped
 pub record HoldsFile (words : List ℕ) (shape : Shape) (entries : List Meaning) (file : List ℕ) : Type 0 where
   pub mapped : (virt block : ℕ) → map_of entries virt ≡ Some block → (at : ℕ) → at < shape.block_bytes →
-    slice_index (block_content words shape block) at ≡ slice_index file (virt * shape.block_bytes + at)
+      slice_index (block_content words shape block) at ≡ slice_index file (virt * shape.block_bytes + at)
   pub unmapped : (virt : ℕ) → map_of entries virt ≡ None → (at : ℕ) → at < shape.block_bytes →
-    slice_index file (virt * shape.block_bytes + at) ≡ 0
+      slice_index file (virt * shape.block_bytes + at) ≡ 0
 
 -- the words, in this shape, meet the rules of the format; this chain is theirs and ends at this position, with the file's
 -- length as the size; and the mapped blocks hold the file

@@ -1,11 +1,12 @@
 //! Laws of the definitions, each the contract of a function that does nothing, and worked rows that they compute.
 
 ghost use Rattle.log_core.specs.Laws.{HaveOneChain, StandForOne, JustMadeStands};
-ghost use Rattle.log_core.specs.Rows.{JustMade, AcrossBlocks, AfterCollection, RunsInBlock, MapWithRuns, BehindHole, WrongHeader, SealFirst, LinkInCircle, BlockNamedTwice, BytePastEnd, BaseOffByOne, BaseAfterSnapshot, BlockNotInData, UnnamedBit, RunsDoNotAddUp};
+ghost use Rattle.log_core.specs.Rows.{JustMade, MadeByRule, AcrossBlocks, AfterCollection, RunsInBlock, MapWithRuns, BehindHole, WrongHeader, SealFirst, LinkInCircle, BlockNamedTwice, BytePastEnd, BaseOffByOne, BaseAfterSnapshot, BlockNotInData, UnnamedBit, RunsDoNotAddUp};
 
 /// Worked images: what they stand for, and images that stand for nothing.
 pub fn law_rows()
     ensures just_made { JustMade }
+    ensures made_by_rule { MadeByRule }
     ensures across_blocks { AcrossBlocks }
     ensures after_collection { AfterCollection }
     ensures runs_in_block { RunsInBlock }

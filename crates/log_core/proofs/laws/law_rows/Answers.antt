@@ -1,3 +1,4 @@
+use Rattle.std.proofs.Common.{refl}
 use Rattle.log_core.proofs.JustMadeRows.{just_made}
 use Rattle.log_core.proofs.StandingRows.{across_blocks, after_collection, runs_in_block, map_with_runs}
 use Rattle.log_core.proofs.FailingRows.{entry_behind_hole, wrong_header, seal_first, link_in_circle, block_named_twice, byte_past_end, base_off_by_one, base_after_snapshot, block_not_in_data, unnamed_bit, runs_do_not_add_up}
@@ -6,6 +7,7 @@ use Rattle.log_core.proofs.laws.law_rows.Goals as goal
 pub returns : goal.returns
 returns c = record {
   just_made = just_made;
+  made_by_rule = refl;
   across_blocks = across_blocks;
   after_collection = after_collection;
   runs_in_block = runs_in_block;
