@@ -72,20 +72,20 @@ pub runs_do_not_add_up : RunsDoNotAddUp
 runs_do_not_add_up = nothing_by (with_words ((40, 8590131204) ∷ []) with_runs) (11 ∷ 10 ∷ []) (refl, (refl, refl, refl)) (λ file position stands. cc)
 
 -- the entry behind the hole is in no chain
+pub stands_behind_by : StandsBy behind_hole (3 ∷ []) [] 0
+stands_behind_by = record {
+  header = record { magic = refl; version = refl; unnamed = refl; allowed = refl; whole = refl; head_unnamed = refl; generation = omega arith };
+  stands = record {
+    is_chain = record { linked = (refl, refl); different = refl; snapshots = tt; logs = (refl, refl, tt) };
+    format = record { areas = refl; kinds = refl; snapshots = refl; logs = refl; named_once = refl; below_limit = omega arith };
+    ends_at = refl;
+    ends_with = refl;
+    holds = holds_nothing behind_hole (shape_of behind_hole);
+  };
+}
+
 stands_behind : Stands behind_hole [] 0
-stands_behind = (
-  3 ∷ [],
-  record {
-    header = record { magic = refl; version = refl; unnamed = refl; allowed = refl; whole = refl; head_unnamed = refl; generation = omega arith };
-    stands = record {
-      is_chain = record { linked = (refl, refl); different = refl; snapshots = tt; logs = (refl, refl, tt) };
-      format = record { areas = refl; kinds = refl; snapshots = refl; logs = refl; named_once = refl; below_limit = omega arith };
-      ends_at = refl;
-      ends_with = refl;
-      holds = holds_nothing behind_hole (shape_of behind_hole);
-    };
-  },
-)
+stands_behind = (3 ∷ [], stands_behind_by)
 
 pub entry_behind_hole : BehindHole
 entry_behind_hole = (

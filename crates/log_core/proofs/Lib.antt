@@ -7,3 +7,7 @@ pub mod StartRows
 pub mod ImageLemmas
 pub mod EmptyLog
 pub mod MadeImages
+pub mod Clearing
+pub mod ClearedChains
+pub mod ClearedEntries
+pub mod ClearedImages

@@ -17,7 +17,7 @@ use Rattle.log_core.proofs.ImageLemmas.{in_block, length_range, Allowed, allowed
 use Rattle.log_core.proofs.EmptyLog.{IsEmptyLog, stands_empty}
 
 -- what a block's bytes are, and what follows for each of the three
-by_bytes : (P : ℕ → Type 0) (bytes : ℕ) → (bytes ≡ 64) ⊎ ((bytes ≡ 512) ⊎ (bytes ≡ 4096)) → P 64 → P 512 → P 4096 → P bytes
+pub by_bytes : (P : ℕ → Type 0) (bytes : ℕ) → (bytes ≡ 64) ⊎ ((bytes ≡ 512) ⊎ (bytes ≡ 4096)) → P 64 → P 512 → P 4096 → P bytes
 by_bytes P bytes (inl is) small medium large = subst P (sym is) small
 by_bytes P bytes (inr (inl is)) small medium large = subst P (sym is) medium
 by_bytes P bytes (inr (inr is)) small medium large = subst P (sym is) large

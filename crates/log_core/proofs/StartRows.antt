@@ -5,12 +5,14 @@ use Rattle.std.proofs.lemmas.List.{get_or_past}
 use Rattle.log_entry.specs.Geometry.{HasShape}
 use Rattle.log_entry.specs.declared.shapes.Geometry.{Geometry}
 use Rattle.log_core.specs.Header.{shape_of}
-use Rattle.log_core.specs.Holes.{AtSlot, is_after, IsClear}
+use Rattle.log_core.specs.Holes.{AtSlot, is_after, IsClear, IsCleared}
+use Rattle.log_core.specs.Stands.{Stands}
 use Rattle.log_core.specs.Taken.{bit_of, is_taken}
 use Rattle.log_core.specs.Keeps.{Keeps}
-use Rattle.log_core.specs.Rows.{two_blocks}
+use Rattle.log_core.specs.Rows.{two_blocks, behind_hole, RecoveredBeforeHole}
 use Rattle.log_core.proofs.HoldingLemmas.{both_left, both_right}
-use Rattle.log_core.proofs.JustMadeRows.{just_made_by}
+use Rattle.log_core.proofs.JustMadeRows.{just_made_by, just_made}
+use Rattle.log_core.proofs.FailingRows.{stands_behind_by}
 
 -- a test holds of each number below another
 abbrev pub each_below : (ℕ → Bool) → ℕ → Bool
@@ -62,3 +64,25 @@ kept_two geometry shaped = record {
 pub kept_made : (geometry : Geometry) (words taken : List ℕ) → HasShape geometry 2 1 64 → words ≡ two_blocks → taken ≡ 9 ∷ [] → Keeps geometry words taken 1 0 0
 kept_made geometry words taken shaped same_words same_taken =
     subst (λ (l : List ℕ). Keeps geometry l taken 1 0 0) (sym same_words) (subst (λ (l : List ℕ). Keeps geometry two_blocks l 1 0 0) (sym same_taken) (kept_two geometry shaped))
+
+either_way : (b : Bool) (number : ℕ) → (if b then number else number) ≡ number
+either_way true number = refl
+either_way false number = refl
+
+-- clearing the slots after the hole makes the just-made image of it
+cleared_behind : IsCleared (shape_of behind_hole) (AtSlot 3 3) behind_hole two_blocks
+cleared_behind = record { same_length = refl; each = λ place. at_place place (nat_lt place 192) refl }
+  where
+    at_place : (place : ℕ) (inside : Bool) → nat_lt place 192 ≡ inside → get_or two_blocks place 0 ≡ (if is_after (shape_of behind_hole) (AtSlot 3 3) place then 0 else get_or behind_hole place 0)
+    at_place place true is = eqb-true (get_or two_blocks place 0) (if is_after (shape_of behind_hole) (AtSlot 3 3) place then 0 else get_or behind_hole place 0)
+        (at_each (λ (k : ℕ). get_or two_blocks k 0 == (if is_after (shape_of behind_hole) (AtSlot 3 3) k then 0 else get_or behind_hole k 0)) 192 place refl (ltb-true place 192 is))
+    at_place place false is =
+        rw (get_or_past two_blocks place 0 (ltb-false place 192 is), get_or_past behind_hole place 0 (ltb-false place 192 is)) (sym (either_way (is_after (shape_of behind_hole) (AtSlot 3 3) place) 0))
+
+pub recovered_before_hole : RecoveredBeforeHole
+recovered_before_hole start same = record {
+  chain = 3 ∷ [];
+  of_words = stands_behind_by.stands.is_chain;
+  cleared = subst (λ (l : List ℕ). IsCleared (shape_of behind_hole) (AtSlot 3 3) behind_hole l) (sym same) cleared_behind;
+  stands = subst (λ (l : List ℕ). Stands l [] 0) (sym same) just_made;
+}

@@ -8,6 +8,8 @@ use Rattle.log_core.specs.Positions.{position_of, size_at_end, map_at}
 use Rattle.log_core.specs.Format.{HasFormat}
 use Rattle.log_core.specs.Stands.{Stands}
 use Rattle.log_core.specs.JustMade.{made_word}
+use Rattle.log_core.specs.Recovered.{Recovered}
+use Rattle.log_core.specs.declared.starts.Start.{Start}
 use Rattle.log_core.specs.Holes.{AtSlot, hole_of, is_after}
 
 -- the words with other numbers at some places
@@ -97,6 +99,10 @@ BehindHole =
     × (is_after (shape_of behind_hole) (AtSlot 3 3) 24 ≡ true)
     × (is_after (shape_of behind_hole) (AtSlot 3 3) 27 ≡ false)
     × (is_after (shape_of behind_hole) (AtSlot 3 3) 32 ≡ false)
+
+-- a start of the just-made image is what is recovered from these words: the empty file at position 0
+abbrev pub RecoveredBeforeHole : Type 0
+RecoveredBeforeHole = (start : Start) → start.words.items ≡ two_blocks → Recovered behind_hole start [] 0
 
 -- one number of the header is wrong: the name of the format, its version, the generation; or a word is missing
 abbrev pub WrongHeader : Type 0
