@@ -5,7 +5,7 @@ use Rattle.log_entry.specs.Fields.{field}
 use Rattle.log_entry.specs.declared.layouts.TheConstants.{BLOCK_KIND, BLOCK_BASE, SNAPSHOT, SNAPSHOT_SIZE}
 use Rattle.log_core.specs.Image.{Shape, is_in_data, block_words}
 use Rattle.log_core.specs.Header.{head_block}
-use Rattle.log_core.specs.Blocks.{is_snapshot, base_of, size_of, slots_of, entry_words}
+use Rattle.log_core.specs.Blocks.{is_snapshot, base_of, file_size, slots_of, entry_words}
 use Rattle.log_core.specs.Chains.{snapshots_of, logs_of, Leads, IsLinked, first_base, first_size, HaveOneBase, AreLogsFrom, IsChain}
 use Rattle.log_core.proofs.HoldingLemmas.{both_left, both_right}
 use Rattle.log_core.proofs.Clearing.{SameReading}
@@ -30,7 +30,7 @@ same_kind shape old new same block = ap (λ (w : ℕ). field BLOCK_KIND w == SNA
 same_base : (shape : Shape) (old new : List ℕ) → SameImage shape old new → (block : ℕ) → base_of (block_words new shape block) ≡ base_of (block_words old shape block)
 same_base shape old new same block = ap (λ (w : ℕ). field BLOCK_BASE w) (same.reads block).word
 
-same_size : (shape : Shape) (old new : List ℕ) → SameImage shape old new → (block : ℕ) → size_of (block_words new shape block) ≡ size_of (block_words old shape block)
+same_size : (shape : Shape) (old new : List ℕ) → SameImage shape old new → (block : ℕ) → file_size (block_words new shape block) ≡ file_size (block_words old shape block)
 same_size shape old new same block = ap (λ (w : ℕ). field SNAPSHOT_SIZE w) (same.reads block).third
 
 pub same_snapshots : (shape : Shape) (old new : List ℕ) → SameImage shape old new → (chain : List ℕ) → snapshots_of new shape chain ≡ snapshots_of old shape chain

@@ -11,7 +11,7 @@ use Rattle.log_entry.specs.declared.layouts.TheConstants.{ENTRY_KIND, DIRECT, IN
 use Rattle.log_core.specs.Image.{Shape, words_in, is_in_data, block_words}
 use Rattle.log_core.specs.Entries.{Meaning, direct_meaning, indirect_meaning, meaning, all_names}
 use Rattle.log_core.specs.Maps.{block_in, map_of, size_after}
-use Rattle.log_core.specs.Blocks.{is_snapshot, count_of, size_of, slots_of, entry_words}
+use Rattle.log_core.specs.Blocks.{is_snapshot, entry_count, file_size, slots_of, entry_words}
 use Rattle.log_core.specs.Chains.{all_different, snapshots_of, logs_of, snapshot_base, snapshot_size}
 use Rattle.log_core.specs.Positions.{snapshot_entries, log_words, log_entries, entries_of, position_of, size_at_end}
 use Rattle.log_core.specs.Format.{all_zero, fits, is_direct, is_indirect, is_indirect_block, has_runs, is_log_entry, is_log_block, is_seal_placed, is_snapshot_entry, is_snapshot_block, is_kind_word, HasFormat}
@@ -97,12 +97,12 @@ same_log_entries shape old new same chain format =
 
 -- the entries of a snapshot block
 abbrev kept_in : Shape → List ℕ → ℕ → List Meaning
-kept_in shape words block = map direct_meaning (take (count_of (block_words words shape block)) (slots_of (block_words words shape block)))
+kept_in shape words block = map direct_meaning (take (entry_count (block_words words shape block)) (slots_of (block_words words shape block)))
 
 same_kept : (shape : Shape) (old new : List ℕ) → SameImage shape old new → (block : ℕ) → is_snapshot (block_words old shape block) ≡ true → kept_in shape new block ≡ kept_in shape old block
 same_kept shape old new same block is =
     ap (λ (w : ℕ). map direct_meaning (take (field SNAPSHOT_COUNT w) (slots_of (block_words new shape block)))) (same.reads block).third
-    ∙ ap (λ (l : List ℕ). map direct_meaning (take (count_of (block_words old shape block)) l)) ((same.reads block).kept is)
+    ∙ ap (λ (l : List ℕ). map direct_meaning (take (entry_count (block_words old shape block)) l)) ((same.reads block).kept is)
 
 same_snapshot_kept : (shape : Shape) (old new : List ℕ) → SameImage shape old new → (chain : List ℕ) → flat_map (kept_in shape new) (snapshots_of old shape chain) ≡ flat_map (kept_in shape old) (snapshots_of old shape chain)
 same_snapshot_kept shape old new same [] = refl
@@ -230,12 +230,12 @@ kept_in_data shape words [] good = refl
 kept_in_data shape words (block ∷ blocks) good =
     list_all-append (in_data shape) (kept_in shape words block) (flat_map (kept_in shape words) blocks)
     ∙ both (list_all (in_data shape) (kept_in shape words block)) (list_all (in_data shape) (flat_map (kept_in shape words) blocks))
-    (direct_in_data shape (take (count_of (block_words words shape block)) (slots_of (block_words words shape block)))
-    (both_right (nat_le (count_of (block_words words shape block)) (words_in shape - 3) && nat_le (size_of (block_words words shape block)) (limit_of shape.block_bytes))
-    (list_all (is_snapshot_entry shape) (take (count_of (block_words words shape block)) (slots_of (block_words words shape block))))
-    (both_left (nat_le (count_of (block_words words shape block)) (words_in shape - 3) && nat_le (size_of (block_words words shape block)) (limit_of shape.block_bytes)
-    && list_all (is_snapshot_entry shape) (take (count_of (block_words words shape block)) (slots_of (block_words words shape block))))
-    (all_zero (drop (count_of (block_words words shape block)) (slots_of (block_words words shape block))))
+    (direct_in_data shape (take (entry_count (block_words words shape block)) (slots_of (block_words words shape block)))
+    (both_right (nat_le (entry_count (block_words words shape block)) (words_in shape - 3) && nat_le (file_size (block_words words shape block)) (limit_of shape.block_bytes))
+    (list_all (is_snapshot_entry shape) (take (entry_count (block_words words shape block)) (slots_of (block_words words shape block))))
+    (both_left (nat_le (entry_count (block_words words shape block)) (words_in shape - 3) && nat_le (file_size (block_words words shape block)) (limit_of shape.block_bytes)
+    && list_all (is_snapshot_entry shape) (take (entry_count (block_words words shape block)) (slots_of (block_words words shape block))))
+    (all_zero (drop (entry_count (block_words words shape block)) (slots_of (block_words words shape block))))
     (both_left (is_snapshot_block shape (block_words words shape block)) (list_all (λ (b : ℕ). is_snapshot_block shape (block_words words shape b)) blocks) good))))
     (kept_in_data shape words blocks (both_right (is_snapshot_block shape (block_words words shape block)) (list_all (λ (b : ℕ). is_snapshot_block shape (block_words words shape b)) blocks) good))
 

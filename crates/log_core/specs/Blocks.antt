@@ -11,6 +11,7 @@ link_of block = slice_index block 0
 abbrev pub kind_of : List ℕ → ℕ
 kind_of block = field BLOCK_KIND (slice_index block 1)
 
+-- a block of a snapshot of the map, and no log block
 abbrev pub is_snapshot : List ℕ → Bool
 is_snapshot block = kind_of block == SNAPSHOT
 
@@ -18,12 +19,13 @@ is_snapshot block = kind_of block == SNAPSHOT
 abbrev pub base_of : List ℕ → ℕ
 base_of block = field BLOCK_BASE (slice_index block 1)
 
--- the entries of a snapshot block, and the file's size at the snapshot's position
-abbrev pub count_of : List ℕ → ℕ
-count_of block = field SNAPSHOT_COUNT (slice_index block 2)
+-- the number of entries of a snapshot block
+abbrev pub entry_count : List ℕ → ℕ
+entry_count block = field SNAPSHOT_COUNT (slice_index block 2)
 
-abbrev pub size_of : List ℕ → ℕ
-size_of block = field SNAPSHOT_SIZE (slice_index block 2)
+-- the file's size in bytes at a snapshot's position, as one of its blocks says it
+abbrev pub file_size : List ℕ → ℕ
+file_size block = field SNAPSHOT_SIZE (slice_index block 2)
 
 -- the slots
 abbrev pub slots_of : List ℕ → List ℕ

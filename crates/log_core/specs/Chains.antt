@@ -4,7 +4,7 @@ use Rattle.std.specs.List.{AllByRecursion, list_any}
 use Rattle.log_entry.specs.declared.layouts.TheConstants.{LOG}
 use Rattle.log_core.specs.Image.{Shape, block_words}
 use Rattle.log_core.specs.Header.{head_block}
-use Rattle.log_core.specs.Blocks.{link_of, kind_of, is_snapshot, base_of, size_of, slots_of, entry_words, leads_on}
+use Rattle.log_core.specs.Blocks.{link_of, kind_of, is_snapshot, base_of, file_size, slots_of, entry_words, leads_on}
 
 -- no number stands twice
 abbrev pub all_different : List ℕ → Bool
@@ -34,26 +34,28 @@ abbrev pub IsLinked : List ℕ → Shape → List ℕ → Type 0
 IsLinked words shape [] = ⊥
 IsLinked words shape (first ∷ rest) = (head_block words ≡ first) × Leads words shape first rest
 
--- the base and the size that the first of some snapshot blocks says; 0 where there is none
+-- the base that the first of some snapshot blocks says; 0 where there is none
 abbrev pub first_base : List ℕ → Shape → List ℕ → ℕ
 first_base words shape [] = 0
 first_base words shape (block ∷ blocks) = base_of (block_words words shape block)
 
+-- the size that the first of some snapshot blocks says; 0 where there is none
 abbrev pub first_size : List ℕ → Shape → List ℕ → ℕ
 first_size words shape [] = 0
-first_size words shape (block ∷ blocks) = size_of (block_words words shape block)
+first_size words shape (block ∷ blocks) = file_size (block_words words shape block)
 
--- the position whose map the snapshot holds, and the file's size there; 0 where there is no snapshot
+-- the position whose map the snapshot holds; 0 where there is no snapshot
 abbrev pub snapshot_base : List ℕ → Shape → List ℕ → ℕ
 snapshot_base words shape chain = first_base words shape (snapshots_of words shape chain)
 
+-- the file's size at the snapshot's position; 0 where there is no snapshot
 abbrev pub snapshot_size : List ℕ → Shape → List ℕ → ℕ
 snapshot_size words shape chain = first_size words shape (snapshots_of words shape chain)
 
 -- the snapshot blocks have one base and one size
 abbrev pub HaveOneBase : List ℕ → Shape → ℕ → ℕ → List ℕ → Type 0
 HaveOneBase words shape base size blocks =
-    AllByRecursion (λ (block : ℕ). (base_of (block_words words shape block) ≡ base) × (size_of (block_words words shape block) ≡ size)) blocks
+    AllByRecursion (λ (block : ℕ). (base_of (block_words words shape block) ≡ base) × (file_size (block_words words shape block) ≡ size)) blocks
 
 -- log blocks, the first with this base, and each other with the base before it plus the number of entries before it
 abbrev pub AreLogsFrom : List ℕ → Shape → ℕ → List ℕ → Type 0

@@ -7,7 +7,7 @@ use Rattle.log_entry.specs.Words.{entry_unnamed}
 use Rattle.log_entry.specs.declared.layouts.TheConstants.{ENTRY_KIND, EMPTY, DIRECT, INDIRECT, SEAL, DIRECT_LEFTOVER, INDIRECT_BLOCK, BLOCK_UNNAMED, RUNS_COUNT, RUNS_RUNS, RUNS_UNNAMED, RUN_COUNT, RUN_UNNAMED}
 use Rattle.log_core.specs.Image.{Shape, words_in, is_in_data, is_in_log, block_words}
 use Rattle.log_core.specs.Entries.{Meaning, direct_meaning, run_words, indirect_blocks, meaning, all_names}
-use Rattle.log_core.specs.Blocks.{count_of, size_of, slots_of, entry_words}
+use Rattle.log_core.specs.Blocks.{entry_count, file_size, slots_of, entry_words}
 use Rattle.log_core.specs.Chains.{all_different, snapshots_of, logs_of}
 use Rattle.log_core.specs.Positions.{entries_of, position_of}
 
@@ -56,11 +56,12 @@ abbrev pub is_log_entry : List ℕ → Shape → ℕ → Bool
 is_log_entry words shape word =
     (is_direct word || (is_indirect word && has_runs words shape word)) && fits shape (longest_of shape.block_bytes) (meaning words shape word)
 
--- a seal is not the first slot, and no used slot follows it directly
+-- no used slot follows a seal directly
 abbrev pub is_seal_last : List ℕ → Bool
 is_seal_last [] = true
 is_seal_last (slot ∷ slots) = if slot == EMPTY then true else if slot == SEAL then slice_index slots 0 == EMPTY else is_seal_last slots
 
+-- a seal is not the first slot, and no used slot follows it directly
 abbrev pub is_seal_placed : List ℕ → Bool
 is_seal_placed slots = not (slice_index slots 0 == SEAL) && is_seal_last slots
 
@@ -76,9 +77,9 @@ is_snapshot_entry shape word = is_direct word && field DIRECT_LEFTOVER word == 0
 -- a snapshot block: as many entries as it says, at most one for each slot, and 0 in each slot after them; a size that a file may have
 abbrev pub is_snapshot_block : Shape → List ℕ → Bool
 is_snapshot_block shape block =
-    nat_le (count_of block) (words_in shape - 3) && nat_le (size_of block) (limit_of shape.block_bytes)
-    && list_all (is_snapshot_entry shape) (take (count_of block) (slots_of block))
-    && all_zero (drop (count_of block) (slots_of block))
+    nat_le (entry_count block) (words_in shape - 3) && nat_le (file_size block) (limit_of shape.block_bytes)
+    && list_all (is_snapshot_entry shape) (take (entry_count block) (slots_of block))
+    && all_zero (drop (entry_count block) (slots_of block))
 
 -- no unnamed bit of a chain block's second word is set
 abbrev pub is_kind_word : List ℕ → Bool
