@@ -1,6 +1,9 @@
 //! The program: makes the real things, calls the top call, and shows its status.
 #![tactic(auto)]
 
+ghost use Rattle.std.specs.Prelude.{◌≡◌, ◌↔◌, ◌⊎◌, IfErr};
+ghost use Rattle.madfs_cli.specs.Commands.{IsCommand};
+
 use io_ends::{Bytes, FromRead, Gathered, ToWrite, Words};
 use madfs_cli::{Status, run};
 use std::alloc::Global;
@@ -31,7 +34,11 @@ enum Invocation {
 }
 
 /// The arguments of the program: the image's name, and the words of a command after it.
-fn read_arguments<R: Env + AllocGlobal>(rt: &R) -> Result<Invocation, Status> {
+///
+/// An argument that is no text is a faulty command line.
+fn read_arguments<R: Env + AllocGlobal>(rt: &R) -> Result<Invocation, Status>
+    ensures { IfErr result (λ status. (status ≡ Status.Usage) ⊎ (status ≡ Status.NoMemory)) }
+{
     let mut words = Words::new(rt.alloc());
     let mut arguments = match env::args(rt) {
         Ok(arguments) => arguments,
@@ -57,7 +64,9 @@ fn read_arguments<R: Env + AllocGlobal>(rt: &R) -> Result<Invocation, Status> {
 }
 
 /// Runs a command on standard input and output.
-fn run_command<R: Input + Print + AllocGlobal>(rt: &R, words: &Words) -> Status {
+fn run_command<R: Input + Print + AllocGlobal>(rt: &R, words: &Words) -> Status
+    ensures { (result ≡ Status.Usage) ↔ (IsCommand words.now → ⊥) }
+{
     let alloc: Global = rt.alloc();
     let mut image = Bytes::new(Vec::new(alloc));
     let mut fresh = Gathered::new(alloc);
@@ -74,7 +83,9 @@ fn run_command<R: Input + Print + AllocGlobal>(rt: &R, words: &Words) -> Status 
 }
 
 /// Prints a text of the program's own. A write that fails is the program's write fault.
-fn print_text(rt: &impl Print, text: &str) -> Status {
+fn print_text(rt: &impl Print, text: &str) -> Status
+    ensures { (result ≡ Status.Done) ⊎ (result ≡ Status.WriteFault) }
+{
     match println!(rt; "{text}") {
         Ok(()) => Status::Done,
         Err(_) => Status::WriteFault,
