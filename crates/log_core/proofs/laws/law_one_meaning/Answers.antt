@@ -1,5 +1,0 @@
-use Rattle.log_core.proofs.OneChain.{one_chain, one_meaning}
-use Rattle.log_core.proofs.laws.law_one_meaning.Goals as goal
-
-pub returns : goal.returns
-returns c = record { one_chain = one_chain; one_file = one_meaning }

@@ -1,5 +1,0 @@
-use Rattle.log_core.proofs.StartRows.{kept_made}
-use Rattle.log_core.proofs.tests.made.Goals as goal
-
-pub new-requires : goal.new-requires
-new-requires c = ∣ kept_made c.args.geometry c.args.words.items c.args.taken.items c.requires.shape c.requires.words c.requires.taken ∣₁
