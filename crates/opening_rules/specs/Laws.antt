@@ -1,0 +1,22 @@
+-- What follows for every image.
+use Rattle.std.specs.Prelude.{ℕ, ◌*◌, ◌≡◌, List, length}
+use Rattle.log_image.specs.Header.{shape_of}
+use Rattle.log_image.specs.Stands.{StandsBy}
+use Rattle.opening_rules.specs.Opening.{Refuses, Accepts, chain_of}
+use Rattle.opening_rules.specs.declared.refusals.BadImage.{BadImage}
+
+-- an image has one refusal at most
+abbrev pub HasOneRefusal : Type 0
+HasOneRefusal = (bytes : ℕ) (words : List ℕ) (why other : BadImage) → Refuses bytes words why → Refuses bytes words other → why ≡ other
+
+-- an image that is refused is not accepted
+abbrev pub IsNotBoth : Type 0
+IsNotBoth = (bytes : ℕ) (words rest : List ℕ) (why : BadImage) → Refuses bytes words why → Accepts bytes words rest → ⊥
+
+-- the words of an accepted image stand for a file, by the chain that was walked
+abbrev pub AcceptedStands : Type 0
+AcceptedStands = (words rest : List ℕ) → Accepts (8 * length words) words rest → (file : List ℕ) × (position : ℕ) × StandsBy words (chain_of words rest) file position
+
+-- words that stand for a file are accepted
+abbrev pub StandingIsAccepted : Type 0
+StandingIsAccepted = (words chain file : List ℕ) (position : ℕ) → StandsBy words chain file position → (rest : List ℕ) × Accepts (8 * length words) words rest × (chain_of words rest ≡ chain)

@@ -1,0 +1,9 @@
+pub mod RefusalText
+pub mod Checks
+pub mod HeaderChecks
+pub mod SlotChecks
+pub mod BlockChecks
+pub mod Walks
+pub mod Slack
+pub mod Opening
+pub mod Laws

@@ -1,0 +1,9 @@
+//! Laws of the definitions, each the contract of a function that does nothing.
+
+ghost use Rattle.opening_rules.specs.Laws.{HasOneRefusal, IsNotBoth};
+
+/// An image has one answer: one refusal at most, and none where it is accepted.
+pub fn law_one_answer()
+    ensures one_refusal { HasOneRefusal }
+    ensures not_both { IsNotBoth }
+{}
