@@ -1,0 +1,27 @@
+-- What a reading says of the place where the walk stands.
+use Rattle.std.specs.Prelude.{ℕ, ◌*◌, ◌≡◌, ◌≤◌, ◌<◌, ◌^◌, ◌==◌, Bool, true, ◌||◌, if◌then◌else◌, List, ◌++◌, length}
+use Rattle.std.specs.List.{list_all}
+use Rattle.log_image.specs.Image.{Shape, total, is_in_data, is_in_log}
+use Rattle.log_image.specs.Entries.{all_names}
+use Rattle.log_image.specs.Taken.{bit_of}
+use Rattle.chain_reader.specs.Tables.{HasMap}
+use Rattle.opening_rules.specs.SlotChecks.{is_among}
+use Rattle.opening_rules.specs.BlockChecks.{Place}
+use Rattle.recovery.specs.declared.reading.Reading.{Reading}
+
+-- the bitmap has a bit for each block of the image, and of these the set ones are those of block 0 and of these blocks
+pub record HasBits (shape : Shape) (taken blocks : List ℕ) : Type 0 where
+  pub room : total shape ≤ 64 * length taken
+  pub bits : (block : ℕ) → block < total shape → bit_of taken block ≡ (if block == 0 || is_among block blocks then 1 else 0)
+
+-- the reading is what the blocks passed come to; those are of the log or spare area, and the ones that their entries name of the data area
+pub record Agrees (shape : Shape) (reading : Reading) (place : Place) : Type 0 where
+  pub chain : reading.chain.items ≡ place.before
+  pub in_logs : reading.in_logs ≡ place.in_logs
+  pub position : reading.position ≡ place.position
+  pub size : reading.table.size ≡ place.size
+  pub map : HasMap reading.table place.entries
+  pub bits : HasBits shape reading.taken.items (place.before ++ all_names place.entries)
+  pub in_log : list_all (is_in_log shape) place.before ≡ true
+  pub in_data : list_all (is_in_data shape) (all_names place.entries) ≡ true
+  pub below : place.position < 2 ^ 40

@@ -1,0 +1,26 @@
+-- What reading one block of the chain answers.
+use Rattle.std.specs.Prelude.{ℕ, ◌≡◌, ◌++◌, ◌∷◌, [], Bool, true, false, List, Option, Some, None, Result, Ok, Err}
+use Rattle.log_image.specs.Image.{Shape, is_in_log, block_words}
+use Rattle.log_image.specs.Blocks.{link_of, leads_on}
+use Rattle.opening_rules.specs.Checks.{first}
+use Rattle.opening_rules.specs.SlotChecks.{is_among}
+use Rattle.opening_rules.specs.BlockChecks.{Place, block_checks, after}
+use Rattle.opening_rules.specs.declared.refusals.BadImage.{BadImage}
+use Rattle.recovery.specs.declared.reading.Reading.{Reading}
+use Rattle.recovery.specs.Agrees.{Agrees}
+
+-- from a place, at a block: the refusal of the first condition that holds of it; or none holds, the reading takes it in, and the
+-- walk ends or goes on to a block of the log or spare area that was not passed
+abbrev pub ReadsBlock : Result (Option ℕ) BadImage → List ℕ → Shape → Place → ℕ → Reading → Type 0
+ReadsBlock (Err why) words shape place block reading = first (block_checks words shape place block (block_words words shape block)) ≡ Some why
+ReadsBlock (Ok None) words shape place block reading =
+    (first (block_checks words shape place block (block_words words shape block)) ≡ None)
+    × (leads_on (block_words words shape block) ≡ false)
+    × Agrees shape reading (after words shape place block (block_words words shape block))
+ReadsBlock (Ok (Some next)) words shape place block reading =
+    (first (block_checks words shape place block (block_words words shape block)) ≡ None)
+    × (leads_on (block_words words shape block) ≡ true)
+    × (link_of (block_words words shape block) ≡ next)
+    × (is_in_log shape next ≡ true)
+    × (is_among next (place.before ++ block ∷ []) ≡ false)
+    × Agrees shape reading (after words shape place block (block_words words shape block))

@@ -1,0 +1,4 @@
+//! Decides what an image holds: opens it, or refuses it for the first condition that holds, and clears what stands after the hole.
+#![tactic(auto)]
+
+pub mod reading;
