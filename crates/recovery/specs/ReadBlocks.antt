@@ -5,14 +5,16 @@ use Rattle.log_image.specs.Blocks.{link_of, leads_on}
 use Rattle.opening_rules.specs.Checks.{first}
 use Rattle.opening_rules.specs.SlotChecks.{is_among}
 use Rattle.opening_rules.specs.BlockChecks.{Place, block_checks, after}
-use Rattle.opening_rules.specs.declared.refusals.BadImage.{BadImage}
+use Rattle.recovery.specs.declared.refusals.OpenRefusal.{OpenRefusal}
+use Rattle.recovery.specs.declared.refusals.OpenRefusal.TheVariants.{Bad, NoMemory}
 use Rattle.recovery.specs.declared.reading.Reading.{Reading}
 use Rattle.recovery.specs.Agrees.{Agrees}
 
 -- from a place, at a block: the refusal of the first condition that holds of it; or none holds, the reading takes it in, and the
 -- walk ends or goes on to a block of the log or spare area that was not passed
-abbrev pub ReadsBlock : Result (Option ℕ) BadImage → List ℕ → Shape → Place → ℕ → Reading → Type 0
-ReadsBlock (Err why) words shape place block reading = first (block_checks words shape place block (block_words words shape block)) ≡ Some why
+abbrev pub ReadsBlock : Result (Option ℕ) OpenRefusal → List ℕ → Shape → Place → ℕ → Reading → Type 0
+ReadsBlock (Err (Bad why)) words shape place block reading = first (block_checks words shape place block (block_words words shape block)) ≡ Some why
+ReadsBlock (Err NoMemory) words shape place block reading = Unit {0}
 ReadsBlock (Ok None) words shape place block reading =
     (first (block_checks words shape place block (block_words words shape block)) ≡ None)
     × (leads_on (block_words words shape block) ≡ false)

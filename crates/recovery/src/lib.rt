@@ -2,3 +2,6 @@
 #![tactic(auto)]
 
 pub mod reading;
+pub mod refusals;
+
+pub use refusals::OpenRefusal;
