@@ -1,0 +1,6 @@
+//! Reads the chain of an image that stands for a file: its blocks, the table that its entries come to, and where it ends.
+#![tactic(auto)]
+
+pub mod taking;
+
+pub use taking::{block_at, take_in, take_in_snapshot};
