@@ -1,2 +1,6 @@
 pub mod Firsts
 mod OneAnswer
+pub mod Naming
+pub mod SlotFacts
+mod BlockFacts
+mod ChainFacts
