@@ -2,5 +2,9 @@ pub mod Firsts
 mod OneAnswer
 pub mod Naming
 pub mod SlotFacts
-mod BlockFacts
-mod ChainFacts
+pub mod BlockFacts
+pub mod ChainFacts
+pub mod HeaderFacts
+mod Fresh
+mod FileHeld
+pub mod Accepted
