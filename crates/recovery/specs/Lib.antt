@@ -1,2 +1,4 @@
 pub mod Agrees
 pub mod ReadBlocks
+pub mod WalkAnswers
+pub mod Slacks

@@ -4,5 +4,7 @@
 pub mod headers;
 pub mod reading;
 pub mod refusals;
+pub mod slacks;
+pub mod walks;
 
 pub use refusals::OpenRefusal;

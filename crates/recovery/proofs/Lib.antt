@@ -1,0 +1,4 @@
+pub mod ByteLemmas
+pub mod SlackLemmas
+pub mod HeaderBits
+pub mod Standing
