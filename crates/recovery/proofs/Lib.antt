@@ -2,3 +2,4 @@ pub mod ByteLemmas
 pub mod SlackLemmas
 pub mod HeaderBits
 pub mod Standing
+pub mod PassingLemmas

@@ -23,6 +23,8 @@ pub fn read_header(bytes: u64, words: &[u64]) -> Result<Geometry, BadImage>
         (λ geometry. (first (header_checks bytes words.now) ≡ None) × (shape_by geometry ≡ shape_of words.now))
         (λ why. first (header_checks bytes words.now) ≡ Some why) }
     ensures whole { IfOk result (λ geometry. length words.now ≡ total (shape_by geometry) * words_in (shape_by geometry)) }
+    ensures exact { IfOk result (λ geometry. bytes ≡ 8 * length words.now) }
+    ensures long { IfOk result (λ geometry. 4 ≤ length words.now) }
     ensures head { IfOk result (λ geometry. is_in_log (shape_by geometry) (head_block words.now) ≡ true) }
 {
     if bytes < 32 {

@@ -2,9 +2,14 @@
 #![tactic(auto)]
 
 pub mod headers;
+pub mod holes;
+pub mod opened;
+pub mod passing;
 pub mod reading;
 pub mod refusals;
 pub mod slacks;
 pub mod walks;
 
+pub use holes::Hole;
+pub use opened::Opened;
 pub use refusals::OpenRefusal;

@@ -1,0 +1,104 @@
+//! An image that opening accepts.
+
+ghost use Rattle.std.specs.Prelude.{◌≡◌, ◌*◌, length};
+ghost use Rattle.recovery.specs.Openings.{Holds};
+
+use crate::holes::Hole;
+use log_entry::Geometry;
+
+/// An image that opening accepts: its words, which stand for a file, a bitmap of the blocks that its chain names, and the hole
+/// that its chain ends with. What stands after the hole in its block is as it was.
+#[derive(Drop)]
+pub struct Opened {
+    geometry: Geometry,
+    words: Vec<u64>,
+    taken: Vec<u64>,
+    generation: u32,
+    position: u64,
+    size: u64,
+    hole: Hole,
+    pub ghost kept: { ∥ Holds geometry words.items taken.items generation position size hole ∥₁ },
+}
+
+impl Opened {
+    /// The opened image of these parts: the shape of the image, its words, the bitmap of its taken blocks (64 blocks a word), the
+    /// generation of its chain, the position of its file, the file's size in bytes, and the hole.
+    pub fn new(
+        geometry: Geometry,
+        words: Vec<u64>,
+        taken: Vec<u64>,
+        generation: u32,
+        position: u64,
+        size: u64,
+        hole: Hole,
+    ) -> Opened
+        requires { ∥ Holds geometry words.items taken.items generation position size hole ∥₁ }
+        ensures same_geometry { result.geometry ≡ geometry }
+        ensures same_words { result.words ≡ words }
+        ensures same_taken { result.taken ≡ taken }
+        ensures same_generation { result.generation ≡ generation }
+        ensures same_position { result.position ≡ position }
+        ensures same_size { result.size ≡ size }
+        ensures same_hole { result.hole ≡ hole }
+    {
+        Opened {
+            geometry,
+            words,
+            taken,
+            generation,
+            position,
+            size,
+            hole,
+        }
+    }
+
+    /// The shape of the image.
+    pub fn geometry(&self) -> &Geometry
+        ensures { result.now ≡ self.now.geometry }
+    {
+        &self.geometry
+    }
+
+    /// The words of the image. They stand for a file of the size that `size` gives, at the position that `position` gives.
+    pub fn words(&self) -> &[u64]
+        ensures value { result.now ≡ self.now.words.items }
+        ensures kept { ∥ Holds self.now.geometry result.now self.now.taken.items self.now.generation self.now.position self.now.size self.now.hole ∥₁ }
+    {
+        &self.words
+    }
+
+    /// The bitmap of the taken blocks, 64 blocks a word: block 0 and the blocks that the chain names.
+    pub fn taken(&self) -> &[u64]
+        ensures { result.now ≡ self.now.taken.items }
+    {
+        &self.taken
+    }
+
+    /// The generation of the chain, at least 1.
+    pub fn generation(&self) -> u32
+        ensures { result ≡ self.now.generation }
+    {
+        self.generation
+    }
+
+    /// The position of the file.
+    pub fn position(&self) -> u64
+        ensures { result ≡ self.now.position }
+    {
+        self.position
+    }
+
+    /// Bytes of the file.
+    pub fn size(&self) -> u64
+        ensures { result ≡ self.now.size }
+    {
+        self.size
+    }
+
+    /// The hole that the chain ends with.
+    pub fn hole(&self) -> Hole
+        ensures { result ≡ self.now.hole }
+    {
+        self.hole
+    }
+}
