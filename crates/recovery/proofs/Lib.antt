@@ -3,3 +3,4 @@ pub mod SlackLemmas
 pub mod HeaderBits
 pub mod Standing
 pub mod PassingLemmas
+pub mod OpeningLemmas

@@ -86,9 +86,9 @@ refused_by_slack bytes words shape reading block header same walk slack =
     BySlack header (subst (λ (s : Shape). SlackRefuses words s (BadSlack block)) same (record { rest = walk.0; passes = ends.passes; block = block; slack = here; gives = refl }))
 
 -- no condition holds
-pub all_passed : (bytes : ℕ) (words : List ℕ) (geometry : Geometry) (reading : Reading) → first (header_checks bytes words) ≡ None → shape_by geometry ≡ shape_of words → bytes ≡ 8 * length words →
+pub all_passed : (bytes : ℕ) (words : List ℕ) (geometry : Geometry) (reading : Reading) → first (header_checks bytes words) ≡ None → shape_by geometry ≡ shape_of words → bytes ≡ 8 * length words → 4 ≤ length words →
     WalkAnswers (Ok reading) words (shape_by geometry) → ((entries : List Meaning) → HasMap reading.table entries → HasNoSlack words (shape_by geometry) entries reading.table.size) → HasPassed bytes words geometry reading
-all_passed bytes words geometry reading header same exact walk none =
+all_passed bytes words geometry reading header same exact long walk none =
     let ends : Ends words (shape_by geometry) reading walk.0 = walk.1 in
     let here : HasNoSlack words (shape_by geometry) (end_place words (shape_by geometry) walk.0).entries (end_place words (shape_by geometry) walk.0).size =
     subst (λ (size : ℕ). HasNoSlack words (shape_by geometry) (end_place words (shape_by geometry) walk.0).entries size) ends.agrees.size (none (end_place words (shape_by geometry) walk.0).entries ends.agrees.map) in
@@ -99,4 +99,5 @@ all_passed bytes words geometry reading header same exact walk none =
       ends = ends_here;
       shape = same;
       exact = exact;
+      long = long;
     }

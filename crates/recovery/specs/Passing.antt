@@ -1,5 +1,5 @@
 -- What the conditions on an image come to.
-use Rattle.std.specs.Prelude.{ℕ, ◌*◌, ◌≡◌, List, length, Result, Ok, Err}
+use Rattle.std.specs.Prelude.{ℕ, ◌*◌, ◌≡◌, ◌≤◌, List, length, Result, Ok, Err}
 use Rattle.log_entry.specs.declared.shapes.Geometry.{Geometry}
 use Rattle.log_image.specs.Header.{shape_of}
 use Rattle.chain_reader.specs.Tables.{shape_by}
@@ -18,6 +18,7 @@ pub record HasPassed (bytes : ℕ) (words : List ℕ) (geometry : Geometry) (rea
   pub ends : Ends words (shape_of words) reading rest
   pub shape : shape_by geometry ≡ shape_of words
   pub exact : bytes ≡ 8 * length words
+  pub long : 4 ≤ length words
 
 -- no condition holds; or the first that does gives the refusal
 abbrev pub PassAnswers : Result Passed OpenRefusal → ℕ → List ℕ → Type 0

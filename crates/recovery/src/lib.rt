@@ -4,6 +4,7 @@
 pub mod headers;
 pub mod holes;
 pub mod opened;
+pub mod openings;
 pub mod passing;
 pub mod reading;
 pub mod refusals;
@@ -12,4 +13,5 @@ pub mod walks;
 
 pub use holes::Hole;
 pub use opened::Opened;
+pub use openings::{open_bytes, open_words};
 pub use refusals::OpenRefusal;

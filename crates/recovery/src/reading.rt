@@ -41,6 +41,13 @@ impl Reading {
         })
     }
 
+    /// The bitmap.
+    pub fn into_taken(self) -> Vec<u64>
+        ensures { result ≡ self.taken }
+    {
+        self.taken
+    }
+
     /// A bitmap in which only block 0 is taken.
     fn only_the_header(alloc: Global, geometry: Geometry) -> Result<Vec<u64>, AllocError>
         ensures { IfOk result (λ taken. HasBits (shape_by geometry) taken.items []) }

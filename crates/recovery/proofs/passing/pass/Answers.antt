@@ -12,5 +12,5 @@ first_slack-requires-clause-inside c =
 
 pub returns-in-None : goal.returns-in-None
 returns-in-None c =
-    all_passed c.args.bytes c.args.words.now c.in-Ok.geometry c.in-Ok-walk_chain.reading c.in-Ok.ensures.answer.0 c.in-Ok.ensures.answer.1 c.in-Ok.ensures.exact
+    all_passed c.args.bytes c.args.words.now c.in-Ok.geometry c.in-Ok-walk_chain.reading c.in-Ok.ensures.answer.0 c.in-Ok.ensures.answer.1 c.in-Ok.ensures.exact c.in-Ok.ensures.long
     c.in-Ok-walk_chain.ensures c.in-None.ensures

@@ -1,0 +1,117 @@
+-- What an image holds of which no condition holds.
+use Rattle.std.proofs.Common.{◌≡◌, ◌<◌, ◌≤◌, ◌+◌, ◌-◌, ◌*◌, ◌/◌, ◌^◌, ◌==◌, ◌||◌, ◌&&◌, nat_lt, ℕ, zero, suc, Bool, true, false, List, [], ◌∷◌, ◌++◌, length, take, get_or, if◌then◌else◌, Result, Ok, Err, refl, sym, ap, ◌∙◌, subst, arith, length-append}
+use Rattle.std.specs.List.{All, list_all}
+use Rattle.std.proofs.lemmas.Bool.Decides.{nat_tests}
+use Rattle.std.proofs.Math.Seq.{take-append_seam}
+use Rattle.std.proofs.lemmas.List.{take_all, get_or_default}
+use Rattle.log_entry.specs.Fields.{field}
+use Rattle.log_entry.specs.declared.layouts.TheConstants.{HEAD_GENERATION}
+use Rattle.log_entry.specs.WordBytes.{word_bytes}
+use Rattle.log_entry.proofs.WordBytesLemmas.{eight_each}
+use Rattle.log_entry.specs.declared.shapes.Geometry.{Geometry}
+use Rattle.log_image.specs.Image.{Shape, total, is_in_log, block_words}
+use Rattle.log_image.specs.Header.{shape_of, head_block, generation_of}
+use Rattle.log_image.specs.Entries.{Meaning, all_names}
+use Rattle.log_image.specs.Positions.{entries_of, position_of, size_at_end}
+use Rattle.log_image.specs.Taken.{bit_of, HasTaken}
+use Rattle.log_image.specs.Holes.{Hole as Place, last_block, hole_in, hole_of}
+use Rattle.log_image.specs.Stands.{StandsBy}
+use Rattle.log_image.proofs.HoldingLemmas.{both_left, both_right}
+use Rattle.chain_reader.specs.Tables.{shape_by}
+use Rattle.opening_rules.specs.Walks.{end_place}
+use Rattle.opening_rules.specs.Opening.{Accepts, Refuses, chain_of, AreWordsOf}
+use Rattle.opening_rules.proofs.Accepted.{accepted_chain, file_of, stands_by}
+use Rattle.recovery.specs.declared.refusals.OpenRefusal.{OpenRefusal}
+use Rattle.recovery.specs.declared.refusals.OpenRefusal.TheVariants.{Bad, NoMemory}
+use Rattle.recovery.specs.declared.holes.Hole.{Hole}
+use Rattle.recovery.specs.declared.reading.Reading.{Reading}
+use Rattle.recovery.specs.Agrees.{HasBits}
+use Rattle.recovery.specs.Openings.{Holds, place_of}
+use Rattle.recovery.specs.OpenAnswers.{OpensWords, OpensBytes}
+use Rattle.recovery.specs.Passing.{HasPassed, PassAnswers}
+
+-- the last of some blocks, by its place
+last_at : (block : ℕ) (rest : List ℕ) → get_or (block ∷ rest) (length rest) 0 ≡ last_block block rest
+last_at block [] = refl
+last_at block (next ∷ rest) = last_at next rest
+
+pub last_of_chain : (chain : List ℕ) (block : ℕ) (rest : List ℕ) → chain ≡ block ∷ rest → get_or chain (length chain - 1) 0 ≡ last_block 0 chain
+last_of_chain chain block rest same =
+    let place : length (block ∷ rest) - 1 ≡ length rest = omega arith in
+    subst (λ (l : List ℕ). get_or l (length l - 1) 0 ≡ last_block 0 l) (sym same) (rw place (last_at block rest))
+
+-- the hole in the last block is that of the chain
+pub hole_by : (words : List ℕ) (shape : Shape) (chain : List ℕ) (block : ℕ) (rest : List ℕ) (count last : ℕ) (content : List ℕ) (hole : Place) → chain ≡ block ∷ rest → count ≡ length chain →
+    last ≡ get_or chain (count - 1) last → content ≡ block_words words shape last → shape ≡ shape_of words → hole ≡ hole_in last content → hole ≡ hole_of words (shape_of words) chain
+hole_by words shape chain block rest count last content hole same counted at content_is shape_is is =
+    let some : length chain ≡ suc (length rest) = ap length same ∙ omega arith in
+    let place : last ≡ get_or chain (length chain - 1) 0 = at ∙ ap (λ (n : ℕ). get_or chain (n - 1) last) counted ∙ get_or_default chain (length chain - 1) last 0 (omega (arith, some)) in
+    is ∙ ap (hole_in last) (content_is ∙ ap (λ (s : Shape). block_words words s last) shape_is)
+    ∙ ap (λ (b : ℕ). hole_in b (block_words words (shape_of words) b)) (place ∙ last_of_chain chain block rest same)
+
+-- what all blocks are, each is
+pub each_of_chain : (p : ℕ → Bool) (chain : List ℕ) (place : ℕ) → list_all p chain ≡ true → place < length chain → p (get_or chain place 0) ≡ true
+each_of_chain p [] place all inside = absurd (omega (arith, inside))
+each_of_chain p (block ∷ chain) zero all inside = both_left (p block) (list_all p chain) all
+each_of_chain p (block ∷ chain) (suc place) all inside = each_of_chain p chain place (both_right (p block) (list_all p chain) all) (omega (arith, inside))
+
+-- the bitmap has the blocks that the chain names
+taken_by : (words : List ℕ) (shape : Shape) (chain taken blocks : List ℕ) (entries : List Meaning) → HasBits shape taken (blocks ++ all_names entries) → blocks ≡ chain → entries ≡ entries_of words shape chain → HasTaken words shape chain taken
+taken_by words shape chain taken blocks entries bits same_blocks same_entries =
+    let here : HasBits shape taken (chain ++ all_names (entries_of words shape chain)) =
+    subst (λ (l : List ℕ). HasBits shape taken (l ++ all_names (entries_of words shape chain))) same_blocks (subst (λ (l : List Meaning). HasBits shape taken (blocks ++ all_names l)) same_entries bits) in
+    record { room = here.room; bits = here.bits }
+
+-- what an image holds
+pub holds_by : (words : List ℕ) (geometry : Geometry) (reading : Reading) (generation : ℕ) (hole : Hole) → HasPassed (8 * length words) words geometry reading →
+    generation_of words ≡ generation → place_of hole ≡ hole_of words (shape_of words) reading.chain.items → Holds geometry words reading.taken.items generation reading.position reading.table.size hole
+holds_by words geometry reading generation hole passed same_generation same_hole =
+    let walked = accepted_chain (8 * length words) words passed.rest passed.accepts in
+    let chain : List ℕ = chain_of words passed.rest in
+    let agrees = passed.ends.agrees in
+    let stands : StandsBy words chain (file_of words passed.rest) (position_of words (shape_of words) chain) = stands_by words passed.rest passed.accepts in
+    let position : position_of words (shape_of words) chain ≡ reading.position = sym (agrees.position ∙ walked.position) in
+    let size : size_at_end words (shape_of words) chain ≡ reading.table.size = sym (agrees.size ∙ walked.size) in
+    let before : (end_place words (shape_of words) passed.rest).before ≡ chain = sym agrees.chain ∙ passed.ends.chain in
+    record {
+      rest = passed.rest;
+      accepts = passed.accepts;
+      file = file_of words passed.rest;
+      stands = subst (λ (at : ℕ). StandsBy words chain (file_of words passed.rest) at) position stands;
+      same_size = sym stands.stands.ends_with ∙ size;
+      same_geometry = record {
+        same_data = ap (λ (shape : Shape). shape.data_blocks) passed.shape;
+        same_log = ap (λ (shape : Shape). shape.log_blocks) passed.shape;
+        same_bytes = ap (λ (shape : Shape). shape.block_bytes) passed.shape;
+      };
+      same_generation = same_generation;
+      bitmap = taken_by words (shape_of words) chain reading.taken.items (end_place words (shape_of words) passed.rest).before (end_place words (shape_of words) passed.rest).entries agrees.bits before walked.entries;
+      same_hole = subst (λ (l : List ℕ). place_of hole ≡ hole_of words (shape_of words) l) passed.ends.chain same_hole;
+    }
+
+-- the generation, as it is read
+pub generation_by : (words : List ℕ) (word generation : ℕ) → 4 ≤ length words → word ≡ get_or words 3 word → generation ≡ field HEAD_GENERATION word → generation_of words ≡ generation
+generation_by words word generation long read is = ap (field HEAD_GENERATION) (get_or_default words 3 0 word (omega (arith, long)) ∙ sym read) ∙ sym is
+
+-- a refusal of words
+pub words_refused : (words : List ℕ) (refusal : OpenRefusal) → PassAnswers (Err refusal) (8 * length words) words → OpensWords (Err refusal) words
+words_refused words (Bad why) refuses = refuses
+words_refused words NoMemory refuses = tt
+
+-- the whole words of bytes, from their longest beginning that is whole words
+whole_part : (bytes words rest : List ℕ) → bytes ≡ word_bytes words ++ rest → length rest < 8 → word_bytes words ≡ take (8 * (length bytes / 8)) bytes
+whole_part bytes words rest same few =
+    let long : length bytes ≡ 8 * length words + length rest = ap length same ∙ (omega (arith, length-append (word_bytes words) rest, eight_each words)) in
+    let count : 8 * (length bytes / 8) ≡ length (word_bytes words) = omega (arith, long, few, eight_each words) in
+    sym (ap (λ (n : ℕ). take n bytes) count ∙ ap (λ (l : List ℕ). take (length (word_bytes words)) l) same ∙ take-append_seam (word_bytes words) rest)
+
+-- a refusal of bytes
+pub bytes_refused : (bytes words : List ℕ) (refusal : OpenRefusal) → PassAnswers (Err refusal) (length bytes) words →
+    ((other : List ℕ) → All (λ (word : ℕ). word < 2 ^ 64) other → word_bytes other ≡ take (8 * (length bytes / 8)) bytes → words ≡ other) → OpensBytes (Err refusal) bytes
+bytes_refused bytes words NoMemory refuses only = tt
+bytes_refused bytes words (Bad why) refuses only = λ other are.
+    subst (λ (l : List ℕ). Refuses (length bytes) l why) (only other are.each (whole_part bytes other are.rest are.bytes_are are.few)) refuses
+
+-- whole words have all bytes
+pub all_bytes : (bytes words : List ℕ) → word_bytes words ≡ take (8 * (length bytes / 8)) bytes → length bytes ≡ 8 * length words → word_bytes words ≡ bytes
+all_bytes bytes words same exact = same ∙ take_all (8 * (length bytes / 8)) bytes (omega (arith, exact))

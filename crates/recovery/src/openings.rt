@@ -1,0 +1,81 @@
+//! Opening an image: all conditions on it, or what it holds.
+
+ghost use Rattle.std.specs.Prelude.{◌≡◌, ◌*◌, ◌/◌, ◌%◌, length, take};
+ghost use Rattle.log_image.specs.Header.{shape_of};
+ghost use Rattle.log_image.specs.Holes.{hole_of};
+ghost use Rattle.recovery.specs.Openings.{place_of};
+ghost use Rattle.recovery.specs.OpenAnswers.{OpensWords, OpensBytes};
+ghost use Rattle.recovery.specs.Passing.{HasPassed};
+
+use crate::holes::{Hole, hole_in};
+use crate::opened::Opened;
+use crate::passing::{Passed, pass};
+use crate::reading::Reading;
+use crate::refusals::OpenRefusal;
+use chain_reader::block_at;
+use log_entry::layouts::HEAD_GENERATION;
+use log_entry::{Geometry, of_bytes};
+use std::alloc::Global;
+
+/// Opens an image of these words, or refuses it for the first condition of the format that holds. Besides that only want of
+/// memory refuses it: for the map and the bitmap, and no more for the words.
+pub fn open_words(alloc: Global, words: Vec<u64>) -> Result<Opened, OpenRefusal>
+    ensures { OpensWords result words.items }
+{
+    match pass(alloc, 8 * words.len() as u64, &words) {
+        Err(refusal) => Err(refusal),
+        Ok(passed) => Ok(opened_by(words, passed)),
+    }
+}
+
+/// Opens an image of these bytes, or refuses it for the first condition of the format that holds. Besides that only want of
+/// memory refuses it: for the words, the map and the bitmap.
+pub fn open_bytes(alloc: Global, bytes: &[u8]) -> Result<Opened, OpenRefusal>
+    ensures { OpensBytes result bytes.now }
+{
+    let Ok(words) = of_bytes(alloc, whole_words(bytes)) else {
+        return Err(OpenRefusal::NoMemory);
+    };
+    match pass(alloc, bytes.len() as u64, &words) {
+        Err(refusal) => Err(refusal),
+        Ok(passed) => Ok(opened_by(words, passed)),
+    }
+}
+
+/// The longest beginning that is whole words.
+fn whole_words(bytes: &[u8]) -> &[u8]
+    ensures value { result.now ≡ take (8 * (length bytes.now / 8)) bytes.now }
+    ensures whole { length result.now % 8 ≡ 0 }
+{
+    &bytes[..8 * (bytes.len() / 8)]
+}
+
+/// The opened image of these words, of which no condition holds.
+fn opened_by(words: Vec<u64>, passed: Passed) -> Opened
+    requires { HasPassed (8 * length words.items) words.items passed.geometry passed.reading }
+    ensures { result.words ≡ words }
+{
+    let Passed { geometry, reading } = passed;
+    let generation = HEAD_GENERATION.of(words[3]) as u32;
+    let hole = end_hole(&words, geometry, &reading);
+    let size = reading.table.size();
+    let position = reading.position;
+    Opened::new(
+        geometry,
+        words,
+        reading.into_taken(),
+        generation,
+        position,
+        size,
+        hole,
+    )
+}
+
+/// The hole that the chain of an image ends with of which no condition holds.
+fn end_hole(words: &[u64], geometry: Geometry, reading: &Reading) -> Hole
+    requires { HasPassed (8 * length words.now) words.now geometry reading.now }
+    ensures { place_of result ≡ hole_of words.now (shape_of words.now) reading.now.chain.items }
+{
+    let last = reading.chain[reading.chain.len() - 1];
+    hole_in(last, block_at(words, geometry, u64::from(last)))
+}
