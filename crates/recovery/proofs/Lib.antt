@@ -4,3 +4,4 @@ pub mod HeaderBits
 pub mod Standing
 pub mod PassingLemmas
 pub mod OpeningLemmas
+pub mod ClearingLemmas

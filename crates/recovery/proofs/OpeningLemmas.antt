@@ -1,7 +1,6 @@
 -- What an image holds of which no condition holds.
-use Rattle.std.proofs.Common.{◌≡◌, ◌<◌, ◌≤◌, ◌+◌, ◌-◌, ◌*◌, ◌/◌, ◌^◌, ◌==◌, ◌||◌, ◌&&◌, nat_lt, ℕ, zero, suc, Bool, true, false, List, [], ◌∷◌, ◌++◌, length, take, get_or, if◌then◌else◌, Result, Ok, Err, refl, sym, ap, ◌∙◌, subst, arith, length-append}
+use Rattle.std.proofs.Common.{◌≡◌, ◌<◌, ◌≤◌, ◌+◌, ◌-◌, ◌*◌, ◌/◌, ◌^◌, ℕ, zero, suc, Bool, true, List, [], ◌∷◌, ◌++◌, length, take, get_or, Err, refl, sym, ap, ◌∙◌, subst, arith, length-append}
 use Rattle.std.specs.List.{All, list_all}
-use Rattle.std.proofs.lemmas.Bool.Decides.{nat_tests}
 use Rattle.std.proofs.Math.Seq.{take-append_seam}
 use Rattle.std.proofs.lemmas.List.{take_all, get_or_default}
 use Rattle.log_entry.specs.Fields.{field}
@@ -9,17 +8,16 @@ use Rattle.log_entry.specs.declared.layouts.TheConstants.{HEAD_GENERATION}
 use Rattle.log_entry.specs.WordBytes.{word_bytes}
 use Rattle.log_entry.proofs.WordBytesLemmas.{eight_each}
 use Rattle.log_entry.specs.declared.shapes.Geometry.{Geometry}
-use Rattle.log_image.specs.Image.{Shape, total, is_in_log, block_words}
-use Rattle.log_image.specs.Header.{shape_of, head_block, generation_of}
+use Rattle.log_image.specs.Image.{Shape, block_words}
+use Rattle.log_image.specs.Header.{shape_of, generation_of}
 use Rattle.log_image.specs.Entries.{Meaning, all_names}
 use Rattle.log_image.specs.Positions.{entries_of, position_of, size_at_end}
-use Rattle.log_image.specs.Taken.{bit_of, HasTaken}
+use Rattle.log_image.specs.Taken.{HasTaken}
 use Rattle.log_image.specs.Holes.{Hole as Place, last_block, hole_in, hole_of}
 use Rattle.log_image.specs.Stands.{StandsBy}
 use Rattle.log_image.proofs.HoldingLemmas.{both_left, both_right}
-use Rattle.chain_reader.specs.Tables.{shape_by}
 use Rattle.opening_rules.specs.Walks.{end_place}
-use Rattle.opening_rules.specs.Opening.{Accepts, Refuses, chain_of, AreWordsOf}
+use Rattle.opening_rules.specs.Opening.{Refuses, chain_of}
 use Rattle.opening_rules.proofs.Accepted.{accepted_chain, file_of, stands_by}
 use Rattle.recovery.specs.declared.refusals.OpenRefusal.{OpenRefusal}
 use Rattle.recovery.specs.declared.refusals.OpenRefusal.TheVariants.{Bad, NoMemory}

@@ -1,9 +1,8 @@
 -- What the header, the walk and the look for slack come to together.
-use Rattle.std.proofs.Common.{◌≡◌, ◌<◌, ◌≤◌, ◌+◌, ◌-◌, ◌*◌, ◌==◌, ◌||◌, ◌&&◌, nat_le, nat_lt, ℕ, zero, suc, Bool, true, false, List, [], ◌∷◌, ◌++◌, length, if◌then◌else◌, Option, Some, None, Result, Ok, Err, refl, sym, ap, ◌∙◌, subst, arith, inl, inr, ◌⊎◌}
-use Rattle.std.specs.List.{list_all, slice_get, flat_map}
+use Rattle.std.proofs.Common.{◌≡◌, ◌<◌, ◌≤◌, ◌-◌, ◌*◌, nat_le, ℕ, zero, suc, Bool, true, false, List, [], ◌∷◌, ◌++◌, length, if◌then◌else◌, Option, Some, None, Ok, Err, refl, sym, ◌∙◌, subst, arith, inl, inr, ◌⊎◌}
+use Rattle.std.specs.List.{list_all, slice_get}
 use Rattle.std.specs.Option.{option_or}
 use Rattle.std.proofs.lemmas.Bool.Decides.{nat_tests}
-use Rattle.block_table.specs.FileMap.{FileMap, block_at}
 use Rattle.log_entry.specs.declared.shapes.Geometry.{Geometry}
 use Rattle.log_image.specs.Image.{Shape, total, is_in_data}
 use Rattle.log_image.specs.Header.{shape_of}
@@ -16,14 +15,14 @@ use Rattle.opening_rules.specs.HeaderChecks.{header_checks}
 use Rattle.opening_rules.specs.BlockChecks.{Place}
 use Rattle.opening_rules.specs.Walks.{end_place}
 use Rattle.opening_rules.specs.Slack.{HasNoSlack, FirstSlack}
-use Rattle.opening_rules.specs.Opening.{SlackRefuses, Refuses, ByWalk, BySlack, Accepts}
+use Rattle.opening_rules.specs.Opening.{SlackRefuses, Refuses, ByWalk, BySlack}
 use Rattle.opening_rules.specs.declared.refusals.BadImage.TheVariants.{BadSlack}
 use Rattle.recovery.specs.declared.refusals.OpenRefusal.{OpenRefusal}
 use Rattle.recovery.specs.declared.refusals.OpenRefusal.TheVariants.{Bad, NoMemory}
 use Rattle.recovery.specs.declared.reading.Reading.{Reading}
 use Rattle.recovery.specs.Agrees.{Agrees}
 use Rattle.recovery.specs.WalkAnswers.{Ends, WalkAnswers}
-use Rattle.recovery.specs.Slacks.{MapsInside, LooksForSlack}
+use Rattle.recovery.specs.Slacks.{MapsInside}
 use Rattle.recovery.specs.Passing.{HasPassed, PassAnswers}
 
 -- what each of two parts is, all of them are, and the other way round

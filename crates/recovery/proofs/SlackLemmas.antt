@@ -1,5 +1,5 @@
 -- Bytes of a virtual block past the end of the file.
-use Rattle.std.proofs.Common.{◌≡◌, ◌≢◌, ◌<◌, ◌≤◌, ◌+◌, ◌-◌, ◌*◌, ◌/◌, ◌==◌, ◌||◌, ℕ, zero, suc, Bool, true, false, List, [], ◌∷◌, length, drop, get_or, Option, Some, None, refl, sym, ap, ◌∙◌, subst, arith, IsTrue, inl, inr}
+use Rattle.std.proofs.Common.{◌≡◌, ◌<◌, ◌≤◌, ◌+◌, ◌-◌, ◌*◌, ◌/◌, ℕ, Bool, true, false, List, length, drop, get_or, Some, None, sym, ap, ◌∙◌, subst, arith, IsTrue, inl, inr}
 use Rattle.std.proofs.Math.Nat.{mul-le-mul_right}
 use Rattle.std.proofs.lemmas.Bool.{cases_lt}
 use Rattle.std.proofs.lemmas.Bool.Decides.{nat_tests}
@@ -13,9 +13,9 @@ use Rattle.log_entry.proofs.WordBytesLemmas.{eight_each}
 use Rattle.log_image.specs.Image.{Shape, words_in, block_words, block_content}
 use Rattle.log_image.specs.Entries.{Meaning}
 use Rattle.log_image.specs.Maps.{map_of}
-use Rattle.opening_rules.specs.Slack.{HasSlack, HasNoSlack, FirstSlack}
+use Rattle.opening_rules.specs.Slack.{HasSlack, HasNoSlack}
 use Rattle.chain_reader.specs.Tables.{HasMap}
-use Rattle.recovery.specs.Slacks.{is_some_nonzero, LooksForSlack}
+use Rattle.recovery.specs.Slacks.{is_some_nonzero}
 use Rattle.recovery.proofs.ByteLemmas.{nonzero_found, nonzero_none}
 
 -- a byte at or past the file's end, by how far it stands past the kept bytes

@@ -1,15 +1,12 @@
 -- Where the walk stands between two blocks.
-use Rattle.std.proofs.Common.{◌≡◌, ◌<◌, ◌≤◌, ◌+◌, ◌*◌, ◌==◌, ◌||◌, ◌&&◌, nat_lt, ℕ, zero, suc, Bool, true, false, List, [], ◌∷◌, ◌++◌, length, if◌then◌else◌, Option, Some, None, Result, Ok, Err, refl, sym, ap, ◌∙◌, subst, arith, append-nil, append_assoc, inl, inr}
-use Rattle.std.specs.List.{list_any}
+use Rattle.std.proofs.Common.{◌≡◌, ◌<◌, ◌≤◌, ◌+◌, ◌==◌, ◌||◌, ℕ, zero, suc, Bool, true, false, List, [], ◌∷◌, ◌++◌, if◌then◌else◌, Some, None, Ok, Err, refl, sym, ◌∙◌, subst, arith, append_assoc}
 use Rattle.std.proofs.lemmas.Bool.{eqb-true}
 use Rattle.std.proofs.lemmas.Bool.Decides.{nat_tests}
-use Rattle.std.proofs.lemmas.Grind.{common_steps}
 use Rattle.log_image.specs.Image.{Shape, total, is_in_log, block_words}
 use Rattle.log_image.specs.Header.{head_block}
-use Rattle.log_image.specs.Blocks.{link_of, leads_on}
 use Rattle.opening_rules.specs.Checks.{first}
 use Rattle.opening_rules.specs.SlotChecks.{is_among}
-use Rattle.opening_rules.specs.BlockChecks.{Place, start, block_checks, after}
+use Rattle.opening_rules.specs.BlockChecks.{Place, start, after}
 use Rattle.opening_rules.specs.Walks.{PassesFrom, RefusesFrom, end_from, Passes, end_place, WalkRefuses}
 use Rattle.opening_rules.specs.declared.refusals.BadImage.{BadImage}
 use Rattle.recovery.specs.declared.refusals.OpenRefusal.{OpenRefusal}

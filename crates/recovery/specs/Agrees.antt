@@ -1,5 +1,5 @@
 -- What a reading says of the place where the walk stands.
-use Rattle.std.specs.Prelude.{ℕ, ◌*◌, ◌≡◌, ◌≤◌, ◌<◌, ◌^◌, ◌==◌, Bool, true, ◌||◌, if◌then◌else◌, List, ◌++◌, length}
+use Rattle.std.specs.Prelude.{ℕ, ◌*◌, ◌≡◌, ◌≤◌, ◌<◌, ◌^◌, ◌==◌, true, ◌||◌, if◌then◌else◌, List, ◌++◌, length}
 use Rattle.std.specs.List.{list_all}
 use Rattle.log_image.specs.Image.{Shape, total, is_in_data, is_in_log}
 use Rattle.log_image.specs.Entries.{all_names}

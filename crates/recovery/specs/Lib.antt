@@ -5,3 +5,4 @@ pub mod Slacks
 pub mod Passing
 pub mod Openings
 pub mod OpenAnswers
+pub mod Clearing

@@ -1,5 +1,5 @@
 -- What reading one block of the chain answers.
-use Rattle.std.specs.Prelude.{ℕ, ◌≡◌, ◌++◌, ◌∷◌, [], Bool, true, false, List, Option, Some, None, Result, Ok, Err}
+use Rattle.std.specs.Prelude.{ℕ, ◌≡◌, ◌++◌, ◌∷◌, [], true, false, List, Option, Some, None, Result, Ok, Err}
 use Rattle.log_image.specs.Image.{Shape, is_in_log, block_words}
 use Rattle.log_image.specs.Blocks.{link_of, leads_on}
 use Rattle.opening_rules.specs.Checks.{first}

@@ -1,10 +1,10 @@
 -- The look for bytes past the end of the file that are not 0.
-use Rattle.std.specs.Prelude.{ℕ, ◌≡◌, ◌<◌, ◌==◌, Bool, not, List, drop, Option, Some, None}
+use Rattle.std.specs.Prelude.{ℕ, ◌≡◌, ◌<◌, ◌==◌, Bool, not, List, Option, Some, None}
 use Rattle.std.specs.List.{list_any}
 use Rattle.block_table.specs.FileMap.{FileMap, block_at}
 use Rattle.log_image.specs.Image.{Shape, total}
 use Rattle.log_image.specs.Entries.{Meaning}
-use Rattle.opening_rules.specs.Slack.{HasSlack, HasNoSlack, FirstSlack}
+use Rattle.opening_rules.specs.Slack.{HasNoSlack, FirstSlack}
 
 -- a number among these is not 0
 abbrev pub is_some_nonzero : List ℕ → Bool

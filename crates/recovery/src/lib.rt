@@ -1,6 +1,7 @@
 //! Decides what an image holds: opens it, or refuses it for the first condition that holds, and clears what stands after the hole.
 #![tactic(auto)]
 
+pub mod clearing;
 pub mod headers;
 pub mod holes;
 pub mod opened;

@@ -3,8 +3,10 @@
 ghost use Rattle.std.specs.Prelude.{◌≡◌, ◌*◌, length};
 ghost use Rattle.recovery.specs.Openings.{Holds};
 
+use crate::clearing::clear_after;
 use crate::holes::Hole;
 use log_entry::Geometry;
+use log_image::Start;
 
 /// An image that opening accepts: its words, which stand for a file, a bitmap of the blocks that its chain names, and the hole
 /// that its chain ends with. What stands after the hole in its block is as it was.
@@ -21,6 +23,13 @@ pub struct Opened {
 }
 
 impl Opened {
+    ghost use Rattle.std.specs.Prelude.{List, ℕ};
+    ghost use Rattle.log_image.specs.Holes.{IsCleared};
+    ghost use Rattle.log_image.specs.Stands.{StandsBy};
+    ghost use Rattle.log_image.specs.Recovered.{Recovered};
+    ghost use Rattle.chain_reader.specs.Tables.{shape_by};
+    ghost use Rattle.recovery.specs.Openings.{place_of};
+
     /// The opened image of these parts: the shape of the image, its words, the bitmap of its taken blocks (64 blocks a word), the
     /// generation of its chain, the position of its file, the file's size in bytes, and the hole.
     pub fn new(
@@ -100,5 +109,29 @@ impl Opened {
         ensures { result ≡ self.now.hole }
     {
         self.hole
+    }
+
+    /// What a run may start from: the image, with 0 in each slot after the hole in the hole's block and, where the hole is a slot,
+    /// in that block's link. It stands for the same file at the same position.
+    pub fn clear(self) -> Start
+        ensures cleared { IsCleared (shape_by self.geometry) (place_of self.hole) self.words.items result.words.items }
+        ensures recovered { (chain file : List ℕ) (position : ℕ) → StandsBy self.words.items chain file position → Recovered self.words.items result file position }
+        ensures same_geometry { result.geometry ≡ self.geometry }
+        ensures same_taken { result.taken ≡ self.taken }
+        ensures same_generation { result.generation ≡ self.generation }
+        ensures same_position { result.position ≡ self.position }
+        ensures same_size { result.size ≡ self.size }
+    {
+        let geometry = self.geometry;
+        let mut words = self.words;
+        clear_after(&mut words, geometry, self.hole);
+        Start::new(
+            geometry,
+            words,
+            self.taken,
+            self.generation,
+            self.position,
+            self.size,
+        )
     }
 }

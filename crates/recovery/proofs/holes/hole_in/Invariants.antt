@@ -1,4 +1,4 @@
-use Rattle.std.proofs.Common.{◌≡◌, ◌≤◌, ◌+◌, ◌-◌, length, drop}
+use Rattle.std.proofs.Common.{◌≡◌, ◌+◌, length, drop}
 use Rattle.log_image.specs.Blocks.{slots_of, entry_words, is_closed}
 use Rattle.recovery.proofs.holes.hole_in.Given as goal
 

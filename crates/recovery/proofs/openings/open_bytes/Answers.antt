@@ -1,5 +1,4 @@
 -- The whole words of the bytes are those that were made of their longest beginning.
-use Rattle.std.proofs.Common.{◌∙◌}
 use Rattle.recovery.proofs.OpeningLemmas.{bytes_refused}
 use Rattle.recovery.proofs.openings.open_bytes.Goals as goal
 

@@ -1,5 +1,5 @@
 -- What the words hold is what the reading came to.
-use Rattle.std.proofs.Common.{◌≡◌, List, ℕ, sym, subst}
+use Rattle.std.proofs.Common.{◌≡◌, List, ℕ, subst}
 use Rattle.log_image.specs.Header.{shape_of}
 use Rattle.log_image.specs.Holes.{hole_of}
 use Rattle.recovery.specs.Openings.{place_of}

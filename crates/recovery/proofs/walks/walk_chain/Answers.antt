@@ -1,8 +1,5 @@
 -- Each step answers at the place where the walk stands.
-use Rattle.std.proofs.Common.{Err}
 use Rattle.chain_reader.specs.Tables.{shape_by}
-use Rattle.recovery.specs.WalkAnswers.{WalkAnswers}
-use Rattle.recovery.specs.declared.refusals.OpenRefusal.{OpenRefusal}
 use Rattle.recovery.proofs.Standing.{refused_by, stands_next, stands_falls, stands_last}
 use Rattle.recovery.proofs.walks.walk_chain.Goals as goal
 

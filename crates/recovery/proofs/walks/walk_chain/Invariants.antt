@@ -1,4 +1,3 @@
-use Rattle.std.proofs.Common.{ℕ}
 use Rattle.log_image.specs.Image.{total}
 use Rattle.chain_reader.specs.Tables.{shape_by}
 use Rattle.recovery.proofs.Standing.{Standing, unseen}
