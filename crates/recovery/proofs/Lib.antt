@@ -5,3 +5,6 @@ pub mod Standing
 pub mod PassingLemmas
 pub mod OpeningLemmas
 pub mod ClearingLemmas
+pub mod BitsLemmas
+pub mod Firsts
+pub mod NamesLemmas

@@ -1,4 +1,5 @@
 pub mod Agrees
+pub mod Names
 pub mod ReadBlocks
 pub mod WalkAnswers
 pub mod Slacks

@@ -11,6 +11,10 @@ pub mod reading;
 pub mod refusals;
 pub mod slacks;
 pub mod walks;
+mod bits;
+pub mod reading;
+pub mod refusals;
+mod shares;
 
 pub use holes::Hole;
 pub use opened::Opened;

@@ -1,0 +1,128 @@
+-- Blocks that are named, some after others.
+use Rattle.std.proofs.Common.{◌≡◌, ◌<◌, ◌≤◌, ◌+◌, ◌-◌, ◌==◌, ◌&&◌, ◌||◌, nat_le, nat_lt, ℕ, zero, suc, Bool, true, false, List, [], ◌∷◌, ◌++◌, if◌then◌else◌, refl, sym, ap, ◌∙◌, subst, arith, append_assoc, append-nil, Result, Ok, Err, Some, None}
+use Rattle.std.specs.List.{list_all, range_with_len}
+use Rattle.std.proofs.lemmas.Bool.{and_parts, and_from, ltb-true, leb-true, ne_eqb}
+use Rattle.std.proofs.lemmas.List.Folds.{list_any-append, list_all-append}
+use Rattle.log_image.specs.Image.{Shape, total, is_in_log, is_in_data}
+use Rattle.log_image.specs.Taken.{bit_of}
+use Rattle.opening_rules.specs.Checks.{Check, check, first}
+use Rattle.opening_rules.specs.SlotChecks.{is_among, share_checks}
+use Rattle.opening_rules.specs.declared.refusals.BadImage.{BadImage}
+use Rattle.opening_rules.specs.declared.refusals.BadImage.TheVariants.{BadShare}
+use Rattle.recovery.specs.Agrees.{HasBits}
+use Rattle.recovery.specs.Names.{HasNamed, TakesNames}
+use Rattle.recovery.proofs.Firsts.{skip, hit, pass_over, found_in}
+
+-- a block of the data area is inside the image
+pub data_below : (shape : Shape) (block : ℕ) → is_in_data shape block ≡ true → (1 ≤ block) × (block < total shape)
+data_below shape block good =
+    let parts = and_parts (nat_le 1 block) (nat_le block shape.data_blocks) good in
+    (leb-true 1 block parts.0, omega (arith, leb-true block shape.data_blocks parts.1))
+
+-- no block of the log or spare area is one of the data area
+log_differs : (shape : Shape) (block other : ℕ) → is_in_data shape block ≡ true → is_in_log shape other ≡ true → (other == block) ≡ false
+log_differs shape block other good far =
+    let in_data = and_parts (nat_le 1 block) (nat_le block shape.data_blocks) good in
+    let in_log = and_parts (nat_lt shape.data_blocks other) (nat_lt other (total shape)) far in
+    ne_eqb other block (λ e. absurd (omega (arith, e, leb-true block shape.data_blocks in_data.1, ltb-true shape.data_blocks other in_log.0)))
+
+not_in_log : (shape : Shape) (block : ℕ) (chain : List ℕ) → is_in_data shape block ≡ true → list_all (is_in_log shape) chain ≡ true → is_among block chain ≡ false
+not_in_log shape block [] good all = refl
+not_in_log shape block (other ∷ chain) good all =
+    let parts = and_parts (is_in_log shape other) (list_all (is_in_log shape) chain) all in
+    rw (log_differs shape block other good parts.0) (not_in_log shape block chain good parts.1)
+
+-- whether a block of the data area was named, as its bit says it
+pub bit_says : (shape : Shape) (taken chain named : List ℕ) (block : ℕ) → is_in_data shape block ≡ true → HasNamed shape taken chain named → (bit_of taken block == 1) ≡ is_among block named
+bit_says shape taken chain named block good has =
+    let inside = data_below shape block good in
+    let nonzero : (block == 0) ≡ false = ne_eqb block 0 (λ e. absurd (omega (arith, e, inside.0))) in
+    let among : is_among block (chain ++ named) ≡ is_among block named =
+    list_any-append (λ (other : ℕ). other == block) chain named ∙ ap (λ (b : Bool). b || is_among block named) (not_in_log shape block chain good has.in_log) in
+    ap (λ (n : ℕ). n == 1) (has.bits.bits block inside.1) ∙ rw (nonzero, among) (by (is_among block named))
+  where
+    by : (b : Bool) → ((if b then 1 else 0) == 1) ≡ b
+    by true = refl
+    by false = refl
+
+-- a block was named before
+pub one_shared : (named : List ℕ) (block : ℕ) → is_among block named ≡ true → first (share_checks named (block ∷ [])) ≡ Some (BadShare block)
+one_shared named block shared = hit (is_among block named) (BadShare block) [] shared
+
+-- or was not, and is named now
+pub one_named : (shape : Shape) (old new chain named : List ℕ) (block : ℕ) → is_in_data shape block ≡ true → HasNamed shape old chain named → is_among block named ≡ false →
+    HasBits shape new ((chain ++ named) ++ block ∷ []) → (first (share_checks named (block ∷ [])) ≡ None) × HasNamed shape new chain (named ++ block ∷ [])
+one_named shape old new chain named block good has free more = (
+  skip (is_among block named) (BadShare block) [] free,
+  record {
+    bits = subst (λ (blocks : List ℕ). HasBits shape new blocks) (append_assoc chain named (block ∷ [])) more;
+    in_log = has.in_log;
+    in_data = list_all-append (is_in_data shape) named (block ∷ []) ∙ and_from (list_all (is_in_data shape) named) (is_in_data shape block && true) has.in_data (rw good refl);
+  },
+)
+
+-- the checks on some blocks and then on others
+pub shares_of_both : (named front back : List ℕ) → share_checks named (front ++ back) ≡ share_checks named front ++ share_checks (named ++ front) back
+shares_of_both named [] back = ap (λ (before : List ℕ). share_checks before back) (sym (append-nil named))
+shares_of_both named (block ∷ front) back =
+    ap (λ (checks : List Check). check (is_among block named) (BadShare block) ∷ checks)
+    (shares_of_both (named ++ block ∷ []) front back ∙ ap (λ (before : List ℕ). share_checks (named ++ block ∷ []) front ++ share_checks before back) (append_assoc named (block ∷ []) front))
+
+-- some blocks are named, and then others
+pub both_taken : (result : Result Unit BadImage) (shape : Shape) (taken chain named front back : List ℕ) → first (share_checks named front) ≡ None →
+    TakesNames result shape taken chain (named ++ front) back → TakesNames result shape taken chain named (front ++ back)
+both_taken (Ok done) shape taken chain named front back clean takes = (
+  ap first (shares_of_both named front back) ∙ pass_over (share_checks named front) (share_checks (named ++ front) back) clean ∙ takes.0,
+  subst (λ (blocks : List ℕ). HasNamed shape taken chain blocks) (append_assoc named front back) takes.1,
+)
+both_taken (Err why) shape taken chain named front back clean takes =
+    ap first (shares_of_both named front back) ∙ pass_over (share_checks named front) (share_checks (named ++ front) back) clean ∙ takes
+
+-- the first of some blocks that was named before is the first of more
+pub front_shared : (why : BadImage) (named front back : List ℕ) → first (share_checks named front) ≡ Some why → first (share_checks named (front ++ back)) ≡ Some why
+front_shared why named front back found = ap first (shares_of_both named front back) ∙ found_in (share_checks named front) (share_checks (named ++ front) back) why found
+
+-- blocks in a row, and more of them
+pub row_of_both : (first front back : ℕ) → range_with_len first (front + back) ≡ range_with_len first front ++ range_with_len (first + front) back
+row_of_both first zero back = let e : zero + back ≡ back = omega arith in let f : first + zero ≡ first = omega arith in rw (e, f) refl
+row_of_both first (suc front) back =
+    let e : suc front + back ≡ suc (front + back) = omega arith in
+    let f : first + suc front ≡ (first + 1) + front = omega arith in
+    rw (e, f) (ap (λ (blocks : List ℕ). first ∷ blocks) (row_of_both (first + 1) front back))
+
+-- a fact of each of some blocks in a row
+pub row_each : (p : ℕ → Bool) (first count place : ℕ) → list_all p (range_with_len first count) ≡ true → place < count → p (first + place) ≡ true
+row_each p first zero place all inside = absurd (omega (arith, inside))
+row_each p first (suc count) zero all inside =
+    let e : first + zero ≡ first = omega arith in rw e (and_parts (p first) (list_all p (range_with_len (first + 1) count)) all).0
+row_each p first (suc count) (suc place) all inside =
+    let e : first + suc place ≡ (first + 1) + place = omega arith in
+    rw e (row_each p (first + 1) count place (and_parts (p first) (list_all p (range_with_len (first + 1) count)) all).1 (omega (arith, inside)))
+
+-- the blocks of a row before a place are taken
+abbrev pub RowTaken : List ℕ → List ℕ → ℕ → ℕ → ℕ → Type 0
+RowTaken old taken first count place = (shape : Shape) (chain named : List ℕ) → list_all (is_in_data shape) (range_with_len first count) ≡ true → HasNamed shape old chain named →
+    TakesNames (Ok tt) shape taken chain named (range_with_len first place)
+
+pub none_taken : (shape : Shape) (taken chain named : List ℕ) → HasNamed shape taken chain named → TakesNames (Ok tt) shape taken chain named []
+none_taken shape taken chain named has = (refl, subst (λ (blocks : List ℕ). HasNamed shape taken chain blocks) (sym (append-nil named)) has)
+
+-- one more block of a row
+pub row_more : (result : Result Unit BadImage) (shape : Shape) (old taken new chain named : List ℕ) (first count place : ℕ) → RowTaken old taken first count place → place < count →
+    list_all (is_in_data shape) (range_with_len first count) ≡ true → HasNamed shape old chain named →
+    ((chain named : List ℕ) → is_in_data shape (first + place) ≡ true → HasNamed shape taken chain named → TakesNames result shape new chain named ((first + place) ∷ [])) →
+    TakesNames result shape new chain named (range_with_len first (place + 1))
+row_more result shape old taken new chain named first count place far inside good has takes =
+    let before = far shape chain named good has in
+    subst (λ (blocks : List ℕ). TakesNames result shape new chain named blocks) (sym (row_of_both first place 1))
+    (both_taken result shape new chain named (range_with_len first place) ((first + place) ∷ []) before.0
+    (takes chain (named ++ range_with_len first place) (row_each (is_in_data shape) first count place good inside) before.1))
+
+-- a block of a row was named before
+pub row_shared : (why : BadImage) (named : List ℕ) (from count place : ℕ) → place < count → first (share_checks named (range_with_len from (place + 1))) ≡ Some why →
+    first (share_checks named (range_with_len from count)) ≡ Some why
+row_shared why named from count place inside found =
+    let e : count ≡ (place + 1) + (count - (place + 1)) = omega arith in
+    let split : range_with_len from count ≡ range_with_len from (place + 1) ++ range_with_len (from + (place + 1)) (count - (place + 1)) =
+    ap (λ (n : ℕ). range_with_len from n) e ∙ row_of_both from (place + 1) (count - (place + 1)) in
+    ap (λ (blocks : List ℕ). first (share_checks named blocks)) split ∙ front_shared why named (range_with_len from (place + 1)) _ found
