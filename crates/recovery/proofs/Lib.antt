@@ -6,5 +6,5 @@ pub mod PassingLemmas
 pub mod OpeningLemmas
 pub mod ClearingLemmas
 pub mod BitsLemmas
-pub mod Firsts
 pub mod NamesLemmas
+pub mod RulesLemmas

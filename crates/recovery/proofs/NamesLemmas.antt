@@ -11,7 +11,7 @@ use Rattle.opening_rules.specs.declared.refusals.BadImage.{BadImage}
 use Rattle.opening_rules.specs.declared.refusals.BadImage.TheVariants.{BadShare}
 use Rattle.recovery.specs.Agrees.{HasBits}
 use Rattle.recovery.specs.Names.{HasNamed, TakesNames}
-use Rattle.recovery.proofs.Firsts.{skip, hit, pass_over, found_in}
+use Rattle.opening_rules.proofs.Firsts.{skip, hit, pass_over, found_in}
 
 -- a block of the data area is inside the image
 pub data_below : (shape : Shape) (block : ℕ) → is_in_data shape block ≡ true → (1 ≤ block) × (block < total shape)

@@ -1,4 +1,5 @@
 pub mod Agrees
+pub mod Limits
 pub mod Names
 pub mod ReadBlocks
 pub mod WalkAnswers

@@ -14,6 +14,7 @@ pub mod walks;
 mod bits;
 pub mod reading;
 pub mod refusals;
+mod rules;
 mod shares;
 
 pub use holes::Hole;
