@@ -8,3 +8,4 @@ pub mod ClearingLemmas
 pub mod BitsLemmas
 pub mod NamesLemmas
 pub mod RulesLemmas
+pub mod SlotsLemmas

@@ -1,9 +1,16 @@
 -- Blocks that are named, some after others.
-use Rattle.std.proofs.Common.{◌≡◌, ◌<◌, ◌≤◌, ◌+◌, ◌-◌, ◌==◌, ◌&&◌, ◌||◌, nat_le, nat_lt, ℕ, zero, suc, Bool, true, false, List, [], ◌∷◌, ◌++◌, if◌then◌else◌, refl, sym, ap, ◌∙◌, subst, arith, append_assoc, append-nil, Result, Ok, Err, Some, None}
-use Rattle.std.specs.List.{list_all, range_with_len}
-use Rattle.std.proofs.lemmas.Bool.{and_parts, and_from, ltb-true, leb-true, ne_eqb}
+use Rattle.std.proofs.Common.{◌≡◌, ◌<◌, ◌≤◌, ◌+◌, ◌-◌, ◌==◌, ◌&&◌, ◌||◌, nat_le, nat_lt, ℕ, zero, suc, Bool, true, false, List, [], ◌∷◌, ◌++◌, if◌then◌else◌, refl, sym, ap, ◌∙◌, subst, arith, append_assoc, append-nil, length, get_or, take, drop, Result, Ok, Err, Some, None}
+use Rattle.std.specs.List.{flat_map, list_all, range_with_len}
+use Rattle.std.proofs.lemmas.Bool.{eq-eqb, and_parts, and_from, ltb-true, leb-true, ne_eqb}
+use Rattle.std.proofs.lemmas.List.{take-append-drop}
+use Rattle.std.proofs.lemmas.List.Concat.{flat_map-append}
 use Rattle.std.proofs.lemmas.List.Folds.{list_any-append, list_all-append}
-use Rattle.log_image.specs.Image.{Shape, total, is_in_log, is_in_data}
+use Rattle.log_entry.specs.Shape.{longest_of}
+use Rattle.log_entry.specs.Fields.{field}
+use Rattle.log_entry.specs.declared.layouts.TheConstants.{ENTRY_KIND, DIRECT, INDIRECT_BLOCK, RUNS_RUNS, RUN_BLOCK, RUN_COUNT}
+use Rattle.log_image.specs.Entries.{names, run_words, run_blocks, indirect_blocks, direct_meaning, indirect_meaning, meaning}
+use Rattle.log_image.specs.Format.{fits, is_run, is_direct, is_indirect, has_runs, is_indirect_block, is_log_entry}
+use Rattle.log_image.specs.Image.{Shape, total, words_in, is_in_log, is_in_data, block_words}
 use Rattle.log_image.specs.Taken.{bit_of}
 use Rattle.opening_rules.specs.Checks.{Check, check, first}
 use Rattle.opening_rules.specs.SlotChecks.{is_among, share_checks}
@@ -11,6 +18,9 @@ use Rattle.opening_rules.specs.declared.refusals.BadImage.{BadImage}
 use Rattle.opening_rules.specs.declared.refusals.BadImage.TheVariants.{BadShare}
 use Rattle.recovery.specs.Agrees.{HasBits}
 use Rattle.recovery.specs.Names.{HasNamed, TakesNames}
+use Rattle.chain_reader.proofs.FitsLemmas.{fitting, row_inside, not_direct, fits_more}
+use Rattle.chain_reader.proofs.RunsLemmas.{RunsFit, runs_fit}
+use Rattle.recovery.proofs.RulesLemmas.{runs_more, run_some, data_at}
 use Rattle.opening_rules.proofs.Firsts.{skip, hit, pass_over, found_in}
 
 -- a block of the data area is inside the image
@@ -126,3 +136,92 @@ row_shared why named from count place inside found =
     let split : range_with_len from count ≡ range_with_len from (place + 1) ++ range_with_len (from + (place + 1)) (count - (place + 1)) =
     ap (λ (n : ℕ). range_with_len from n) e ∙ row_of_both from (place + 1) (count - (place + 1)) in
     ap (λ (blocks : List ℕ). first (share_checks named blocks)) split ∙ front_shared why named (range_with_len from (place + 1)) _ found
+
+-- the blocks of the runs before a place are taken
+abbrev pub RunsTaken : Shape → List ℕ → List ℕ → List ℕ → ℕ → Type 0
+RunsTaken shape old taken runs place = (chain named : List ℕ) → HasNamed shape old chain named → TakesNames (Ok tt) shape taken chain named (flat_map run_blocks (take place runs))
+
+-- the blocks of one run more
+pub run_taken : (result : Result Unit BadImage) (shape : Shape) (old taken new chain named runs : List ℕ) (place : ℕ) → RunsTaken shape old taken runs place → place < length runs → HasNamed shape old chain named →
+    ((chain named : List ℕ) → HasNamed shape taken chain named → TakesNames result shape new chain named (run_blocks (get_or runs place 0))) →
+    TakesNames result shape new chain named (flat_map run_blocks (take (place + 1) runs))
+run_taken result shape old taken new chain named runs place far inside has takes =
+    let before = far chain named has in
+    subst (λ (blocks : List ℕ). TakesNames result shape new chain named blocks) (sym (runs_more runs place inside))
+    (both_taken result shape new chain named (flat_map run_blocks (take place runs)) (run_blocks (get_or runs place 0)) before.0
+    (takes chain (named ++ flat_map run_blocks (take place runs)) before.1))
+
+-- a block of a beginning of runs was named before
+pub runs_shared : (why : BadImage) (named runs : List ℕ) (count : ℕ) → first (share_checks named (flat_map run_blocks (take count runs))) ≡ Some why → first (share_checks named (flat_map run_blocks runs)) ≡ Some why
+runs_shared why named runs count found =
+    ap (λ (l : List ℕ). first (share_checks named (flat_map run_blocks l))) (sym (take-append-drop count runs))
+    ∙ ap (λ (blocks : List ℕ). first (share_checks named blocks)) (flat_map-append run_blocks (take count runs) (drop count runs))
+    ∙ front_shared why named (flat_map run_blocks (take count runs)) (flat_map run_blocks (drop count runs)) found
+
+-- a run whose blocks are of the data area
+pub run_inside : (shape : Shape) (runs : List ℕ) (place : ℕ) → shape.data_blocks < 65535 → list_all is_run runs ≡ true → list_all (is_in_data shape) (flat_map run_blocks runs) ≡ true → place < length runs →
+    field RUN_BLOCK (get_or runs place 0) + field RUN_COUNT (get_or runs place 0) ≤ 65536
+run_inside shape runs place small are good inside =
+    let row = row_inside shape (field RUN_BLOCK (get_or runs place 0)) (field RUN_COUNT (get_or runs place 0)) (data_at shape runs place good inside) (run_some runs place are inside) in
+    omega (arith, row.1, small)
+
+-- what the rule of a log entry says of the block with its runs
+pub record HasHolder (words : List ℕ) (shape : Shape) (word : ℕ) : Type 0 where
+  pub inside : is_in_data shape (field INDIRECT_BLOCK word) ≡ true
+  pub few : field RUNS_RUNS (get_or (block_words words shape (field INDIRECT_BLOCK word)) 0 0) < words_in shape
+  pub are : list_all is_run (run_words (block_words words shape (field INDIRECT_BLOCK word))) ≡ true
+  pub in_data : list_all (is_in_data shape) (indirect_blocks (block_words words shape (field INDIRECT_BLOCK word))) ≡ true
+
+pub has_holder : (words : List ℕ) (shape : Shape) (word : ℕ) → is_log_entry words shape word ≡ true → (field ENTRY_KIND word ≡ DIRECT → ⊥) → HasHolder words shape word
+has_holder words shape word good other =
+    let parts = not_direct words shape word good (ne_eqb (field ENTRY_KIND word) DIRECT other) in
+    let block : List ℕ = block_words words shape (field INDIRECT_BLOCK word) in
+    let runs = and_parts (is_in_data shape (field INDIRECT_BLOCK word)) (is_indirect_block shape block) parts.0 in
+    let are : RunsFit shape block = runs_fit shape block runs.1 in
+    record {
+      inside = runs.0;
+      few = are.few;
+      are = are.are;
+      in_data = (fitting shape 256 (indirect_meaning (field INDIRECT_BLOCK word) block) parts.1).in_data;
+    }
+
+-- a log entry of the direct kind fits
+pub log_fits : (words : List ℕ) (shape : Shape) (word : ℕ) → is_log_entry words shape word ≡ true → field ENTRY_KIND word ≡ DIRECT → fits shape 256 (direct_meaning word) ≡ true
+log_fits words shape word good kind =
+    let few : longest_of shape.block_bytes ≤ 256 = omega arith in
+    let fit = and_parts (is_direct word || (is_indirect word && has_runs words shape word)) (fits shape (longest_of shape.block_bytes) (meaning words shape word)) good in
+    subst (λ (b : Bool). fits shape 256 (if b then direct_meaning word else indirect_meaning (field INDIRECT_BLOCK word) (block_words words shape (field INDIRECT_BLOCK word))) ≡ true) (eq-eqb (field ENTRY_KIND word) DIRECT kind)
+    (fits_more shape (longest_of shape.block_bytes) 256 (meaning words shape word) few fit.1)
+
+-- what a call says of one run, by the numbers that are read of it
+pub run_row : (result : Result Unit BadImage) (shape : Shape) (taken new runs : List ℕ) (place from count : ℕ) → from ≡ field RUN_BLOCK (get_or runs place 0) → count ≡ field RUN_COUNT (get_or runs place 0) →
+    list_all (is_in_data shape) (flat_map run_blocks runs) ≡ true → place < length runs →
+    ((chain named : List ℕ) → list_all (is_in_data shape) (range_with_len from count) ≡ true → HasNamed shape taken chain named → TakesNames result shape new chain named (range_with_len from count)) →
+    (chain named : List ℕ) → HasNamed shape taken chain named → TakesNames result shape new chain named (run_blocks (get_or runs place 0))
+run_row result shape taken new runs place from count same_from same_count good inside takes chain named has =
+    let row : range_with_len from count ≡ run_blocks (get_or runs place 0) = ap (λ (n : ℕ). range_with_len n count) same_from ∙ ap (λ (n : ℕ). range_with_len (field RUN_BLOCK (get_or runs place 0)) n) same_count in
+    subst (λ (blocks : List ℕ). TakesNames result shape new chain named blocks) row
+    (takes chain named (subst (λ (blocks : List ℕ). list_all (is_in_data shape) blocks ≡ true) (sym row) (data_at shape runs place good inside)) has)
+
+-- the blocks that an indirect entry names
+indirect_names : (words : List ℕ) (shape : Shape) (word holder : ℕ) → (field ENTRY_KIND word ≡ DIRECT → ⊥) → holder ≡ field INDIRECT_BLOCK word →
+    (holder ∷ []) ++ indirect_blocks (block_words words shape holder) ≡ names (meaning words shape word)
+indirect_names words shape word holder other same =
+    ap (λ (n : ℕ). (n ∷ []) ++ indirect_blocks (block_words words shape n)) same
+    ∙ ap (λ (b : Bool). names (if b then direct_meaning word else indirect_meaning (field INDIRECT_BLOCK word) (block_words words shape (field INDIRECT_BLOCK word)))) (sym (ne_eqb (field ENTRY_KIND word) DIRECT other))
+
+-- the block with the runs was named before
+pub indirect_shared : (why : BadImage) (words : List ℕ) (shape : Shape) (word holder : ℕ) (named : List ℕ) → (field ENTRY_KIND word ≡ DIRECT → ⊥) → holder ≡ field INDIRECT_BLOCK word →
+    first (share_checks named (holder ∷ [])) ≡ Some why → first (share_checks named (names (meaning words shape word))) ≡ Some why
+indirect_shared why words shape word holder named other same found =
+    subst (λ (blocks : List ℕ). first (share_checks named blocks) ≡ Some why) (indirect_names words shape word holder other same)
+    (front_shared why named (holder ∷ []) (indirect_blocks (block_words words shape holder)) found)
+
+-- or is taken, and then the blocks of the runs
+pub indirect_taken : (result : Result Unit BadImage) (words : List ℕ) (shape : Shape) (word holder : ℕ) (runs taken new chain named : List ℕ) → (field ENTRY_KIND word ≡ DIRECT → ⊥) → holder ≡ field INDIRECT_BLOCK word →
+    runs ≡ run_words (block_words words shape holder) → TakesNames (Ok tt) shape taken chain named (holder ∷ []) →
+    ((chain named : List ℕ) → HasNamed shape taken chain named → TakesNames result shape new chain named (flat_map run_blocks runs)) → TakesNames result shape new chain named (names (meaning words shape word))
+indirect_taken result words shape word holder runs taken new chain named other same are before takes =
+    subst (λ (blocks : List ℕ). TakesNames result shape new chain named blocks) (indirect_names words shape word holder other same)
+    (both_taken result shape new chain named (holder ∷ []) (indirect_blocks (block_words words shape holder)) before.0
+    (subst (λ (l : List ℕ). TakesNames result shape new chain (named ++ holder ∷ []) (flat_map run_blocks l)) are (takes chain (named ++ holder ∷ []) before.1)))

@@ -111,3 +111,11 @@ indirect_entry words shape word answer direct indirect none inside runs same =
     indirect_rule (field ENTRY_KIND word == DIRECT) (entry_unnamed word == 0) (field ENTRY_KIND word == INDIRECT) (entry_unnamed word == 0) (is_in_data shape (field INDIRECT_BLOCK word))
     (is_indirect_block shape (block_words words shape (field INDIRECT_BLOCK word))) (fits shape (longest_of shape.block_bytes) (meaning words shape word)) answer direct indirect unnamed inside runs
     (same ∙ ap (λ (b : Bool). fits shape (longest_of shape.block_bytes) (if b then direct_meaning word else indirect_meaning (field INDIRECT_BLOCK word) (block_words words shape (field INDIRECT_BLOCK word)))) (sym direct))
+
+-- the blocks of each of some runs are of the data area
+pub data_at : (shape : Shape) (runs : List ℕ) (place : ℕ) → list_all (is_in_data shape) (flat_map run_blocks runs) ≡ true → place < length runs → list_all (is_in_data shape) (run_blocks (get_or runs place 0)) ≡ true
+data_at shape [] place all inside = absurd (omega (arith, inside))
+data_at shape (run ∷ runs) zero all inside =
+    (and_parts (list_all (is_in_data shape) (run_blocks run)) (list_all (is_in_data shape) (flat_map run_blocks runs)) (sym (list_all-append (is_in_data shape) (run_blocks run) (flat_map run_blocks runs)) ∙ all)).0
+data_at shape (run ∷ runs) (suc place) all inside =
+    data_at shape runs place (and_parts (list_all (is_in_data shape) (run_blocks run)) (list_all (is_in_data shape) (flat_map run_blocks runs)) (sym (list_all-append (is_in_data shape) (run_blocks run) (flat_map run_blocks runs)) ∙ all)).1 (omega (arith, inside))

@@ -8,3 +8,4 @@ pub mod Passing
 pub mod Openings
 pub mod OpenAnswers
 pub mod Clearing
+pub mod Slots

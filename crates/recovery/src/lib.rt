@@ -16,6 +16,7 @@ pub mod reading;
 pub mod refusals;
 mod rules;
 mod shares;
+mod slots;
 
 pub use holes::Hole;
 pub use opened::Opened;

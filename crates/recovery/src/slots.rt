@@ -1,0 +1,88 @@
+//! The slots of a chain block, checked in order and taken in.
+
+ghost use Rattle.std.specs.Prelude.{◌≡◌, ◌+◌, ◌*◌, ◌^◌, ◌≤◌, ◌<◌, ◌++◌, ◌∷◌, [], List, ℕ, true, false, length, IfOk};
+ghost use Rattle.log_image.specs.Image.{total, words_in};
+ghost use Rattle.log_image.specs.Entries.{Meaning, direct_meaning, meaning, names, all_names};
+ghost use Rattle.log_image.specs.Maps.{size_after};
+ghost use Rattle.log_image.specs.Format.{is_log_entry, is_snapshot_entry};
+ghost use Rattle.chain_reader.specs.Tables.{shape_by};
+ghost use Rattle.opening_rules.specs.SlotChecks.{share_checks, log_slot_checks, is_bad_slot as is_bad_log_slot};
+ghost use Rattle.recovery.specs.Slots.{HasEntries, Reads, entries_in, used_slot_checks, ReadsLogSlots};
+
+use crate::{rules, shares};
+use block_table::Table;
+use chain_reader::{take_in, take_in_snapshot};
+use log_entry::Geometry;
+use log_entry::layouts::{EMPTY, SEAL};
+use opening_rules::BadImage;
+
+/// What the slots of a log block come to.
+#[derive(Clone, Copy, Debug, PartialEq, Eq)]
+pub struct LogSlots {
+    /// Whether they are full or end with a seal.
+    pub closed: bool,
+    /// The number of their entries.
+    pub entries: u64,
+}
+
+/// A slot of a chain block.
+#[derive(Clone, Copy)]
+struct Slot {
+    /// The block.
+    block: u16,
+    /// The slot's number of word in it, 3 or more.
+    number: u16,
+    /// Its word.
+    word: u64,
+}
+
+/// Takes the entry of a log block's word in, or refuses the first of its blocks that was taken before.
+fn take_log_entry(
+    table: &mut Table,
+    taken: &mut [u64],
+    words: &[u64],
+    geometry: Geometry,
+    word: u64,
+) -> Result<(), BadImage>
+    requires whole { length words.now ≡ total (shape_by geometry) * words_in (shape_by geometry) }
+    requires entry { is_log_entry words.now (shape_by geometry) word ≡ true }
+    ensures { (chain : List ℕ) (size : ℕ) (entries : List Meaning) → HasEntries (shape_by geometry) table.old taken.old chain size entries →
+        Reads result (shape_by geometry) table.new taken.new chain
+        (share_checks (all_names entries) (names (meaning words.now (shape_by geometry) word)))
+        (size_after (shape_by geometry) size (meaning words.now (shape_by geometry) word ∷ []))
+        (entries ++ meaning words.now (shape_by geometry) word ∷ []) }
+{
+    shares::take_names(taken, words, geometry, word)?;
+    take_in(table, words, geometry, word);
+    Ok(())
+}
+
+/// Takes the entry of a snapshot block's word in, or refuses the first of its blocks that was taken before.
+fn take_snapshot_entry(
+    table: &mut Table,
+    taken: &mut [u64],
+    geometry: Geometry,
+    word: u64,
+) -> Result<(), BadImage>
+    requires { is_snapshot_entry (shape_by geometry) word ≡ true }
+    ensures { (chain : List ℕ) (size : ℕ) (entries : List Meaning) → HasEntries (shape_by geometry) table.old taken.old chain size entries →
+        Reads result (shape_by geometry) table.new taken.new chain
+        (share_checks (all_names entries) (names (direct_meaning word))) size (entries ++ direct_meaning word ∷ []) }
+{
+    shares::take_direct(taken, geometry, word)?;
+    take_in_snapshot(table, geometry, word);
+    Ok(())
+}
+
+/// Whether a used slot may not stand in a log block, where its entry would be the one after this position.
+fn is_bad_slot(words: &[u64], geometry: Geometry, position: u64, number: u16, word: u64) -> bool
+    requires whole { length words.now ≡ total (shape_by geometry) * words_in (shape_by geometry) }
+    requires small { position ≤ 2 ^ 40 }
+    ensures { result ≡ is_bad_log_slot words.now (shape_by geometry) position number word }
+{
+    if word == SEAL {
+        number == 3
+    } else {
+        !rules::is_log_entry(words, geometry, word) || position + 1 >= 0x100_0000_0000
+    }
+}
