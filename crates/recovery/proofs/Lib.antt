@@ -9,3 +9,4 @@ pub mod BitsLemmas
 pub mod NamesLemmas
 pub mod RulesLemmas
 pub mod SlotsLemmas
+pub mod SnapshotLemmas

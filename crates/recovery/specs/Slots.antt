@@ -1,9 +1,10 @@
 -- What reading the slots of a chain block answers.
-use Rattle.std.specs.Prelude.{ℕ, ◌≡◌, ◌==◌, Bool, ◌||◌, if◌then◌else◌, List, [], ◌∷◌, ◌++◌, length, map, Result, Ok, Err, None, Some}
+use Rattle.std.specs.Prelude.{ℕ, ◌≡◌, ◌==◌, Bool, not, ◌||◌, if◌then◌else◌, List, [], ◌∷◌, ◌++◌, length, map, Result, Ok, Err, None, Some}
 use Rattle.block_table.specs.FileMap.{FileMap}
 use Rattle.log_entry.specs.declared.layouts.TheConstants.{SEAL}
 use Rattle.log_image.specs.Image.{Shape}
-use Rattle.log_image.specs.Entries.{Meaning, meaning, names, all_names}
+use Rattle.log_image.specs.Entries.{Meaning, direct_meaning, meaning, names, all_names}
+use Rattle.log_image.specs.Format.{is_snapshot_entry}
 use Rattle.log_image.specs.Maps.{size_after}
 use Rattle.log_image.specs.Blocks.{entry_words, is_closed}
 use Rattle.chain_reader.specs.Tables.{HasMap}
@@ -48,3 +49,13 @@ ReadsLogSlots (Ok read) words shape table taken chain checks size entries slots 
     × (read.entries ≡ length (entry_words slots))
     × HasEntries shape table taken chain (size_after shape size (meanings_of words shape slots)) (entries ++ meanings_of words shape slots)
 ReadsLogSlots (Err why) words shape table taken chain checks size entries slots = first checks ≡ Some why
+
+-- the entries of a slot of a snapshot block that is to hold an entry or not
+abbrev pub entries_if : Bool → ℕ → List Meaning
+entries_if used word = if used then direct_meaning word ∷ [] else []
+
+-- the conditions on such a slot, after these entries
+abbrev pub one_slot_checks : Shape → ℕ → List Meaning → Bool → ℕ → ℕ → List Check
+one_slot_checks shape block entries used slot word =
+    if used then check (not (is_snapshot_entry shape word)) (BadEntry block slot word) ∷ share_checks (all_names entries) (names (direct_meaning word))
+    else check (not (word == 0)) (BadEntry block slot word) ∷ []

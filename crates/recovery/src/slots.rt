@@ -1,13 +1,13 @@
 //! The slots of a chain block, checked in order and taken in.
 
-ghost use Rattle.std.specs.Prelude.{◌≡◌, ◌+◌, ◌*◌, ◌^◌, ◌≤◌, ◌<◌, ◌++◌, ◌∷◌, [], List, ℕ, true, false, length, IfOk};
+ghost use Rattle.std.specs.Prelude.{◌≡◌, ◌≢◌, ◌+◌, ◌*◌, ◌^◌, ◌≤◌, ◌<◌, ◌++◌, ◌∷◌, [], List, ℕ, true, false, length, map, take, IfOk};
 ghost use Rattle.log_image.specs.Image.{total, words_in};
 ghost use Rattle.log_image.specs.Entries.{Meaning, direct_meaning, meaning, names, all_names};
 ghost use Rattle.log_image.specs.Maps.{size_after};
 ghost use Rattle.log_image.specs.Format.{is_log_entry, is_snapshot_entry};
 ghost use Rattle.chain_reader.specs.Tables.{shape_by};
-ghost use Rattle.opening_rules.specs.SlotChecks.{share_checks, log_slot_checks, is_bad_slot as is_bad_log_slot};
-ghost use Rattle.recovery.specs.Slots.{HasEntries, Reads, entries_in, used_slot_checks, ReadsLogSlots};
+ghost use Rattle.opening_rules.specs.SlotChecks.{share_checks, log_slot_checks, snapshot_slot_checks, is_bad_slot as is_bad_log_slot};
+ghost use Rattle.recovery.specs.Slots.{HasEntries, Reads, entries_in, used_slot_checks, ReadsLogSlots, entries_if, one_slot_checks};
 
 use crate::{rules, shares};
 use block_table::Table;
@@ -85,4 +85,139 @@ fn is_bad_slot(words: &[u64], geometry: Geometry, position: u64, number: u16, wo
     } else {
         !rules::is_log_entry(words, geometry, word) || position + 1 >= 0x100_0000_0000
     }
+}
+
+/// Checks a used slot of a log block, after a position and after a seal or not, and takes its entry in.
+fn read_log_slot(
+    table: &mut Table,
+    taken: &mut [u64],
+    words: &[u64],
+    geometry: Geometry,
+    position: u64,
+    after_seal: bool,
+    slot: Slot,
+) -> Result<(), BadImage>
+    requires whole { length words.now ≡ total (shape_by geometry) * words_in (shape_by geometry) }
+    requires small { position ≤ 2 ^ 40 }
+    ensures below { IfOk result (λ done. slot.word ≢ SEAL → position + 1 < 2 ^ 40) }
+    ensures answer { (chain : List ℕ) (size : ℕ) (entries : List Meaning) → HasEntries (shape_by geometry) table.old taken.old chain size entries →
+        Reads result (shape_by geometry) table.new taken.new chain
+        (used_slot_checks words.now (shape_by geometry) slot.block position entries after_seal slot.number slot.word)
+        (size_after (shape_by geometry) size (entries_in words.now (shape_by geometry) slot.word))
+        (entries ++ entries_in words.now (shape_by geometry) slot.word) }
+{
+    if after_seal || is_bad_slot(words, geometry, position, slot.number, slot.word) {
+        return Err(BadImage::BadEntry {
+            block: slot.block,
+            slot: slot.number,
+            word: slot.word,
+        });
+    }
+    if slot.word == SEAL {
+        return Ok(());
+    }
+    take_log_entry(table, taken, words, geometry, slot.word)
+}
+
+/// Checks the slots of a log block up to the first empty one, the first after this position, and takes their entries in.
+pub fn read_log_slots(
+    table: &mut Table,
+    taken: &mut [u64],
+    words: &[u64],
+    geometry: Geometry,
+    block: u16,
+    position: u64,
+    slots: &[u64],
+) -> Result<LogSlots, BadImage>
+    requires whole { length words.now ≡ total (shape_by geometry) * words_in (shape_by geometry) }
+    requires few { length slots.now ≤ 509 }
+    requires small { position < 2 ^ 40 }
+    ensures below { IfOk result (λ read. position + read.entries < 2 ^ 40) }
+    ensures answer { (chain : List ℕ) (size : ℕ) (entries : List Meaning) → HasEntries (shape_by geometry) table.old taken.old chain size entries →
+        ReadsLogSlots result words.now (shape_by geometry) table.new taken.new chain
+        (log_slot_checks words.now (shape_by geometry) block position entries false 3 slots.now) size entries slots.now }
+{
+    let mut after_seal = false;
+    let mut entries = 0;
+    for i in 0..slots.len() {
+        let word = slots[i];
+        if word == EMPTY {
+            return Ok(LogSlots {
+                closed: after_seal,
+                entries,
+            });
+        }
+        let slot = Slot {
+            block,
+            number: 3 + i as u16,
+            word,
+        };
+        read_log_slot(
+            table,
+            taken,
+            words,
+            geometry,
+            position + entries,
+            after_seal,
+            slot,
+        )?;
+        after_seal = word == SEAL;
+        if !after_seal {
+            entries += 1;
+        }
+    }
+    Ok(LogSlots {
+        closed: true,
+        entries,
+    })
+}
+
+/// Checks a slot of a snapshot block, which is to hold an entry or 0, and takes its entry in.
+fn read_snapshot_slot(
+    table: &mut Table,
+    taken: &mut [u64],
+    geometry: Geometry,
+    used: bool,
+    slot: Slot,
+) -> Result<(), BadImage>
+    ensures { (chain : List ℕ) (size : ℕ) (entries : List Meaning) → HasEntries (shape_by geometry) table.old taken.old chain size entries →
+        Reads result (shape_by geometry) table.new taken.new chain
+        (one_slot_checks (shape_by geometry) slot.block entries used slot.number slot.word) size (entries ++ entries_if used slot.word) }
+{
+    if used && rules::is_snapshot_entry(geometry, slot.word) {
+        return take_snapshot_entry(table, taken, geometry, slot.word);
+    }
+    if used || slot.word != 0 {
+        return Err(BadImage::BadEntry {
+            block: slot.block,
+            slot: slot.number,
+            word: slot.word,
+        });
+    }
+    Ok(())
+}
+
+/// Checks the slots of a snapshot block, of which the first `count` are to hold entries and the others 0, and takes the entries in.
+pub fn read_snapshot_slots(
+    table: &mut Table,
+    taken: &mut [u64],
+    geometry: Geometry,
+    block: u16,
+    count: u64,
+    slots: &[u64],
+) -> Result<(), BadImage>
+    requires { length slots.now ≤ 509 }
+    ensures { (chain : List ℕ) (size : ℕ) (entries : List Meaning) → HasEntries (shape_by geometry) table.old taken.old chain size entries →
+        Reads result (shape_by geometry) table.new taken.new chain
+        (snapshot_slot_checks (shape_by geometry) block entries count 3 slots.now) size (entries ++ map direct_meaning (take count slots.now)) }
+{
+    for i in 0..slots.len() {
+        let slot = Slot {
+            block,
+            number: 3 + i as u16,
+            word: slots[i],
+        };
+        read_snapshot_slot(table, taken, geometry, (i as u64) < count, slot)?;
+    }
+    Ok(())
 }
