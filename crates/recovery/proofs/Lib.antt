@@ -10,3 +10,5 @@ pub mod NamesLemmas
 pub mod RulesLemmas
 pub mod SlotsLemmas
 pub mod SnapshotLemmas
+pub mod BlockLemmas
+pub mod CheckLemmas

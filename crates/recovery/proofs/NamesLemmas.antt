@@ -225,3 +225,34 @@ indirect_taken result words shape word holder runs taken new chain named other s
     subst (λ (blocks : List ℕ). TakesNames result shape new chain named blocks) (indirect_names words shape word holder other same)
     (both_taken result shape new chain named (holder ∷ []) (indirect_blocks (block_words words shape holder)) before.0
     (subst (λ (l : List ℕ). TakesNames result shape new chain (named ++ holder ∷ []) (flat_map run_blocks l)) are (takes chain (named ++ holder ∷ []) before.1)))
+
+-- no block of the data area is one of the log or spare area
+not_in_data : (shape : Shape) (block : ℕ) (named : List ℕ) → is_in_log shape block ≡ true → list_all (is_in_data shape) named ≡ true → is_among block named ≡ false
+not_in_data shape block [] far all = refl
+not_in_data shape block (other ∷ named) far all =
+    let parts = and_parts (is_in_data shape other) (list_all (is_in_data shape) named) all in
+    let differs : (other == block) ≡ false = ne_eqb other block (λ e. other_area shape other block e parts.0 far) in
+    rw differs (not_in_data shape block named far parts.1)
+  where
+    other_area : (shape : Shape) (other block : ℕ) → other ≡ block → is_in_data shape other ≡ true → is_in_log shape block ≡ true → ⊥
+    other_area shape other block e good far =
+        let in_data = and_parts (nat_le 1 other) (nat_le other shape.data_blocks) good in
+        let in_log = and_parts (nat_lt shape.data_blocks block) (nat_lt block (total shape)) far in
+        omega (arith, e, leb-true other shape.data_blocks in_data.1, ltb-true shape.data_blocks block in_log.0)
+
+-- whether a block of the log or spare area was passed, as its bit says it
+pub log_bit_says : (shape : Shape) (taken passed named : List ℕ) (block : ℕ) → is_in_log shape block ≡ true → HasNamed shape taken passed named → (bit_of taken block == 1) ≡ is_among block passed
+log_bit_says shape taken passed named block far has =
+    let inside = and_parts (nat_lt shape.data_blocks block) (nat_lt block (total shape)) far in
+    let nonzero : (block == 0) ≡ false = ne_eqb block 0 (λ e. absurd (omega (arith, e, ltb-true shape.data_blocks block inside.0))) in
+    let among : is_among block (passed ++ named) ≡ is_among block passed =
+    list_any-append (λ (other : ℕ). other == block) passed named ∙ ap (λ (b : Bool). is_among block passed || b) (not_in_data shape block named far has.in_data) ∙ alone (is_among block passed) in
+    ap (λ (n : ℕ). n == 1) (has.bits.bits block (ltb-true block (total shape) inside.1)) ∙ rw (nonzero, among) (by (is_among block passed))
+  where
+    alone : (b : Bool) → (b || false) ≡ b
+    alone true = refl
+    alone false = refl
+
+    by : (b : Bool) → ((if b then 1 else 0) == 1) ≡ b
+    by true = refl
+    by false = refl

@@ -1,5 +1,5 @@
 -- The slots of a chain block, read one after the other.
-use Rattle.std.proofs.Common.{◌≡◌, ◌≢◌, ◌<◌, ◌≤◌, ◌+◌, ◌-◌, ◌==◌, ◌&&◌, ◌||◌, ℕ, zero, suc, Bool, true, false, List, [], ◌∷◌, ◌++◌, length, map, get_or, drop, drop-cons, if◌then◌else◌, refl, sym, ap, ◌∙◌, subst, arith, append_assoc, append-nil, add-zero, zero-add, add-one, add_assoc, length-append, Result, Ok, Err, Some, None}
+use Rattle.std.proofs.Common.{◌≡◌, ◌≢◌, ◌+◌, ◌==◌, ◌||◌, ℕ, suc, Bool, true, false, List, [], ◌∷◌, ◌++◌, length, map, drop, if◌then◌else◌, refl, sym, ap, ◌∙◌, subst, arith, append_assoc, append-nil, add-zero, zero-add, add-one, add_assoc, length-append, Result, Ok, Err, Some, None}
 use Rattle.std.proofs.lemmas.List.{length-map}
 use Rattle.std.proofs.lemmas.List.Concat.{flat_map-append}
 use Rattle.block_table.specs.FileMap.{FileMap}
@@ -10,13 +10,12 @@ use Rattle.log_image.specs.Blocks.{entry_words, is_closed}
 use Rattle.log_entry.specs.declared.layouts.TheConstants.{EMPTY, SEAL}
 use Rattle.chain_reader.proofs.MapLemmas.{size_after_append}
 use Rattle.std.proofs.lemmas.Bool.{ne_eqb}
-use Rattle.chain_reader.specs.Tables.{HasMap, HasSize}
+use Rattle.chain_reader.specs.Tables.{HasMap}
 use Rattle.opening_rules.specs.Checks.{Check, check, first}
 use Rattle.opening_rules.specs.SlotChecks.{share_checks, is_bad_slot, log_slot_checks}
 use Rattle.opening_rules.specs.declared.refusals.BadImage.{BadImage}
 use Rattle.opening_rules.specs.declared.refusals.BadImage.TheVariants.{BadEntry}
 use Rattle.opening_rules.proofs.Firsts.{skip, hit, pass_over, found_in}
-use Rattle.recovery.specs.declared.slots.LogSlots.{LogSlots}
 use Rattle.recovery.specs.Names.{HasNamed, TakesNames}
 use Rattle.recovery.specs.Slots.{HasEntries, Reads, ReadsLogSlots, entries_in, used_slot_checks, meanings_of}
 

@@ -1,15 +1,15 @@
 -- The slots of a snapshot block, read one after the other.
-use Rattle.std.proofs.Common.{◌≡◌, ◌<◌, ◌≤◌, ◌+◌, ◌-◌, ◌==◌, ◌||◌, not, nat_lt, ℕ, zero, suc, Bool, true, false, List, [], ◌∷◌, ◌++◌, length, map, take, drop, if◌then◌else◌, refl, sym, ap, ◌∙◌, subst, arith, append_assoc, append-nil, add-one, add_assoc, Result, Ok, Err, Some, None}
+use Rattle.std.proofs.Common.{◌≡◌, ◌+◌, ◌-◌, ◌==◌, not, nat_lt, ℕ, zero, suc, Bool, true, false, List, [], ◌∷◌, ◌++◌, map, take, drop, refl, sym, ap, ◌∙◌, subst, arith, append_assoc, append-nil, add-one, add_assoc, Result, Ok, Err, Some, None}
 use Rattle.std.proofs.lemmas.Bool.{ltb-true, ltb-false}
 use Rattle.block_table.specs.FileMap.{FileMap}
 use Rattle.log_image.specs.Image.{Shape}
 use Rattle.log_image.specs.Entries.{Meaning, direct_meaning, names, all_names}
 use Rattle.log_image.specs.Format.{is_snapshot_entry}
-use Rattle.opening_rules.specs.Checks.{Check, check, first}
+use Rattle.opening_rules.specs.Checks.{check, first}
 use Rattle.opening_rules.specs.SlotChecks.{share_checks, snapshot_slot_checks}
 use Rattle.opening_rules.specs.declared.refusals.BadImage.{BadImage}
 use Rattle.opening_rules.specs.declared.refusals.BadImage.TheVariants.{BadEntry}
-use Rattle.opening_rules.proofs.Firsts.{skip, hit, pass_over, found_in}
+use Rattle.opening_rules.proofs.Firsts.{skip, pass_over, found_in}
 use Rattle.recovery.specs.Slots.{HasEntries, Reads, entries_if, one_slot_checks}
 
 -- what is left of a block's entries where so many are left

@@ -6,7 +6,7 @@ use Rattle.log_image.specs.Entries.{all_names}
 use Rattle.log_image.specs.Taken.{bit_of}
 use Rattle.chain_reader.specs.Tables.{HasMap}
 use Rattle.opening_rules.specs.SlotChecks.{is_among}
-use Rattle.opening_rules.specs.BlockChecks.{Place}
+use Rattle.opening_rules.specs.BlockChecks.{Place, is_first}
 use Rattle.recovery.specs.declared.reading.Reading.{Reading}
 
 -- the bitmap has a bit for each block of the image, and of these the set ones are those of block 0 and of these blocks
@@ -25,3 +25,4 @@ pub record Agrees (shape : Shape) (reading : Reading) (place : Place) : Type 0 w
   pub in_log : list_all (is_in_log shape) place.before ≡ true
   pub in_data : list_all (is_in_data shape) (all_names place.entries) ≡ true
   pub below : place.position < 2 ^ 40
+  pub begun : is_first place.before ≡ true → place.size ≡ 0

@@ -1,4 +1,5 @@
 pub mod Agrees
+pub mod BlockAnswers
 pub mod Limits
 pub mod Names
 pub mod ReadBlocks

@@ -12,6 +12,7 @@ pub mod refusals;
 pub mod slacks;
 pub mod walks;
 mod bits;
+pub mod blocks;
 pub mod reading;
 pub mod refusals;
 mod rules;

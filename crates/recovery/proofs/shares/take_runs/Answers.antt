@@ -1,5 +1,5 @@
-use Rattle.std.proofs.Common.{◌≡◌, ◌≤◌, ◌+◌, ◌∙◌, List, ℕ, sym, ap, arith, subst, Ok, Err, take, take_all}
-use Rattle.std.specs.List.{flat_map, list_all}
+use Rattle.std.proofs.Common.{◌+◌, List, ℕ, arith, subst, Ok, Err, take_all}
+use Rattle.std.specs.List.{flat_map}
 use Rattle.std.proofs.lemmas.Result.{err_from_is_err_and}
 use Rattle.log_image.specs.Entries.{run_blocks}
 use Rattle.chain_reader.specs.Tables.{shape_by}

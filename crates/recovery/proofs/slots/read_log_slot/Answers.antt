@@ -1,4 +1,4 @@
-use Rattle.std.proofs.Common.{◌≡◌, ◌||◌, ◌==◌, ◌∙◌, ap, Bool, true, false, sym, ℕ, List}
+use Rattle.std.proofs.Common.{◌∙◌, sym}
 use Rattle.std.proofs.lemmas.Bool.{or_from, ne_eqb}
 use Rattle.log_entry.specs.declared.layouts.TheConstants.{SEAL}
 use Rattle.opening_rules.specs.SlotChecks.{is_bad_slot}

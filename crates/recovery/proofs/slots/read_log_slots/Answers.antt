@@ -1,9 +1,8 @@
-use Rattle.std.proofs.Common.{◌≡◌, ◌+◌, ◌==◌, ◌∷◌, [], ◌≤◌, ◌∙◌, ap, ℕ, List, length, arith, drop, drop-cons, get_or, if◌then◌else◌, suc, Bool, true, false}
+use Rattle.std.proofs.Common.{◌≡◌, ◌+◌, ◌==◌, ◌∷◌, ◌∙◌, ap, ℕ, arith, drop, drop-cons, get_or, if◌then◌else◌, suc}
 use Rattle.std.proofs.lemmas.Result.{err_from_is_err_and}
 use Rattle.std.proofs.lemmas.Bool.Decides.{nat_tests}
 use Rattle.std.proofs.Math.ListN.{drop_of_length-le}
 use Rattle.chain_reader.specs.Tables.{shape_by}
-use Rattle.recovery.specs.Slots.{entries_in}
 use Rattle.recovery.proofs.SlotsLemmas.{slot_more, empty_here, all_read, refused, entries_count}
 use Rattle.recovery.proofs.slots.read_log_slots.Goals as goal
 use Rattle.recovery.proofs.slots.read_log_slots.Goals.{then-not-after_seal, else-not-after_seal}

@@ -1,4 +1,4 @@
-use Rattle.std.proofs.Common.{◌≤◌, ◌<◌, ◌+◌, ◌^◌, ℕ, List}
+use Rattle.std.proofs.Common.{◌<◌, ◌+◌, ◌^◌, ℕ, List}
 use Rattle.log_image.specs.Entries.{Meaning}
 use Rattle.chain_reader.specs.Tables.{shape_by}
 use Rattle.recovery.specs.Slots.{HasEntries}

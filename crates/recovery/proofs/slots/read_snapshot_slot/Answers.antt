@@ -1,4 +1,4 @@
-use Rattle.std.proofs.Common.{◌∙◌, sym, ℕ, List}
+use Rattle.std.proofs.Common.{◌∙◌, sym}
 use Rattle.chain_reader.specs.Tables.{shape_by}
 use Rattle.recovery.proofs.SnapshotLemmas.{entry_read}
 use Rattle.recovery.proofs.slots.read_snapshot_slot.Goals as goal

@@ -1,4 +1,4 @@
-use Rattle.std.proofs.Common.{◌≡◌, ◌∷◌, ◌≤◌, ℕ, List, length, arith, drop, drop-cons, get_or, suc}
+use Rattle.std.proofs.Common.{◌≡◌, ◌∷◌, arith, drop, drop-cons, get_or, suc}
 use Rattle.std.proofs.lemmas.Result.{err_from_is_err_and}
 use Rattle.std.proofs.Math.ListN.{drop_of_length-le}
 use Rattle.recovery.proofs.SnapshotLemmas.{snapshot_more, snapshot_refused, snapshot_read}

@@ -1,4 +1,4 @@
-use Rattle.std.proofs.Common.{◌≡◌, ◌∷◌, [], ℕ, List}
+use Rattle.std.proofs.Common.{◌∷◌, []}
 use Rattle.log_image.specs.Maps.{size_after}
 use Rattle.log_image.specs.Entries.{meaning, all_names}
 use Rattle.chain_reader.specs.Tables.{shape_by}

@@ -1,4 +1,4 @@
-use Rattle.std.proofs.Common.{◌≡◌, ◌∙◌, ℕ, List}
+use Rattle.std.proofs.Common.{◌∙◌}
 use Rattle.log_image.specs.Entries.{direct_meaning, all_names}
 use Rattle.chain_reader.specs.Tables.{shape_by}
 use Rattle.recovery.proofs.SlotsLemmas.{entry_taken}
