@@ -1,23 +1,23 @@
 //! Decides what an image holds: opens it, or refuses it for the first condition that holds, and clears what stands after the hole.
 #![tactic(auto)]
 
-pub mod clearing;
-pub mod headers;
+mod bits;
+mod blocks;
+mod clearing;
+mod headers;
 pub mod holes;
 pub mod opened;
 pub mod openings;
-pub mod passing;
-pub mod reading;
-pub mod refusals;
-pub mod slacks;
-pub mod walks;
-mod bits;
-pub mod blocks;
-pub mod reading;
+mod passing;
+mod reading;
 pub mod refusals;
 mod rules;
 mod shares;
+mod slacks;
 mod slots;
+#[cfg(test)]
+mod tests;
+mod walks;
 
 pub use holes::Hole;
 pub use opened::Opened;
