@@ -1,3 +1,6 @@
 pub mod MapLemmas
 pub mod FitsLemmas
 pub mod RunsLemmas
+pub mod SlotLemmas
+pub mod ChainLemmas
+pub mod WalkLemmas

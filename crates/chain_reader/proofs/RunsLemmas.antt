@@ -124,8 +124,8 @@ run_read old now new holder block virt place first count read inside same_first 
     further : (virt : ℕ) (blocks : List ℕ) → virt + length blocks + count ≡ virt + length (blocks ++ range_with_len first count)
     further virt blocks = simp (length-append, length-range_with_len) (omega arith)
 
-take_all : (numbers : List ℕ) (count : ℕ) → length numbers ≤ count → take count numbers ≡ numbers
-take_all numbers count past =
+pub take_whole : (numbers : List ℕ) (count : ℕ) → length numbers ≤ count → take count numbers ≡ numbers
+take_whole numbers count past =
     let none : drop count numbers ≡ [] = drop_of_length-le numbers past in
     sym (append-nil (take count numbers)) ∙ (ap (λ (l : List ℕ). take count numbers ++ l) (sym none) ∙ take-append-drop count numbers)
 
@@ -133,7 +133,7 @@ take_all numbers count past =
 pub runs_read : (old new : FileMap) (holder : ℕ) (block : List ℕ) (virt place : ℕ) → RunsRead old new holder block virt place → length (run_words block) ≤ place →
     (virt ≡ field RUNS_VIRT (get_or block 0 0) + length (indirect_blocks block)) × ((entries : List Meaning) → HasMap old entries → HasMap new (entries ++ indirect_meaning holder block ∷ []))
 runs_read old new holder block virt place read past =
-    let all : take place (run_words block) ≡ run_words block = take_all (run_words block) place past in (
+    let all : take place (run_words block) ≡ run_words block = take_whole (run_words block) place past in (
       read.at ∙ ap (λ (l : List ℕ). field RUNS_VIRT (get_or block 0 0) + length (flat_map run_blocks l)) all,
       λ entries has. subst (λ (l : List ℕ). HasMap new (entries ++ (record { holder = holder ∷ []; virt = field RUNS_VIRT (get_or block 0 0); blocks = flat_map run_blocks l; leftover = field RUNS_LEFTOVER (get_or block 0 0) }) ∷ [])) all (read.map entries has),
     )

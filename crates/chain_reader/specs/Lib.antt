@@ -1,1 +1,4 @@
 pub mod Tables
+pub mod ChainBlocks
+pub mod Ends
+pub mod Reads

@@ -1,6 +1,9 @@
 //! Reads the chain of an image that stands for a file: its blocks, the table that its entries come to, and where it ends.
 #![tactic(auto)]
 
+pub mod blocks;
+pub mod reading;
 pub mod taking;
 
-pub use taking::{block_at, take_in, take_in_snapshot};
+pub use reading::{ChainRead, read_chain};
+pub use taking::{take_in, take_in_snapshot};
