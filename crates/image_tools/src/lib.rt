@@ -1,0 +1,6 @@
+//! Makes an image, gives the file that an image stands for, and prints an image.
+#![tactic(auto)]
+
+pub mod files;
+
+pub use files::file_of;
