@@ -1,2 +1,4 @@
 pub mod StartLemmas
 pub mod FileLemmas
+pub mod MadeLemmas
+pub mod BitLemmas

@@ -2,5 +2,7 @@
 #![tactic(auto)]
 
 pub mod files;
+pub mod making;
 
 pub use files::file_of;
+pub use making::mkfs;
