@@ -81,7 +81,7 @@ fn take_in_runs(table: &mut Table, geometry: Geometry, holder: u64, block: &[u64
 }
 
 /// The run words of an indirect block.
-fn runs_in(block: &[u64]) -> &[u64]
+pub fn runs_in(block: &[u64]) -> &[u64]
     requires some { 1 ≤ length block.now }
     requires inside { field RUNS_RUNS (slice_index block.now 0) < length block.now }
     ensures { result.now ≡ run_words block.now }

@@ -2,3 +2,4 @@ pub mod StartLemmas
 pub mod FileLemmas
 pub mod MadeLemmas
 pub mod BitLemmas
+pub mod DumpLemmas

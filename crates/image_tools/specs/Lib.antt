@@ -1,2 +1,4 @@
 pub mod Files
 pub mod Made
+pub mod DumpText
+pub mod Sound

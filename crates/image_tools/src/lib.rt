@@ -1,8 +1,11 @@
 //! Makes an image, gives the file that an image stands for, and prints an image.
 #![tactic(auto)]
 
+pub mod dumps;
 pub mod files;
+pub mod lines;
 pub mod making;
 
+pub use dumps::dump;
 pub use files::file_of;
 pub use making::mkfs;

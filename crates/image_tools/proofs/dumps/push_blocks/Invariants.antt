@@ -1,0 +1,9 @@
+use Rattle.std.proofs.Common.{◌≡◌, ◌++◌, drop}
+use Rattle.std.specs.List.{flat_map}
+use Rattle.chain_reader.specs.Tables.{shape_by}
+use Rattle.image_tools.specs.DumpText.{block_text}
+use Rattle.image_tools.proofs.dumps.push_blocks.Given as goal
+
+abbrev pub invariant-loop-number : goal.invariant-loop-number
+invariant-loop-number l =
+    l.out.items ++ flat_map (block_text l.words (shape_by l.geometry)) (drop l.number-index l.chain) ≡ l.fn.out.items ++ flat_map (block_text l.words (shape_by l.geometry)) l.chain
