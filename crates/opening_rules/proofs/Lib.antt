@@ -8,3 +8,4 @@ pub mod HeaderFacts
 mod Fresh
 mod FileHeld
 pub mod Accepted
+mod WorkedRows

@@ -7,3 +7,4 @@ pub mod Walks
 pub mod Slack
 pub mod Opening
 pub mod Laws
+pub mod Rows

@@ -1,6 +1,21 @@
-//! Laws of the definitions, each the contract of a function that does nothing.
+//! Laws of the definitions, each the contract of a function that does nothing, and worked rows that they compute.
 
 ghost use Rattle.opening_rules.specs.Laws.{HasOneRefusal, IsNotBoth, AcceptedStands};
+ghost use Rattle.opening_rules.specs.Rows.{BehindHoleAccepted, LinkToItself, NamedTwice, ByteBehindEnd, OneByteShort, OneByteLong, SealInFirstSlot, SlotAfterSeal, BaseNotDue, BadHeaders};
+
+/// Worked images, and what opening answers.
+pub fn law_rows()
+    ensures behind_hole { BehindHoleAccepted }
+    ensures link_to_itself { LinkToItself }
+    ensures named_twice { NamedTwice }
+    ensures byte_behind_end { ByteBehindEnd }
+    ensures one_byte_short { OneByteShort }
+    ensures one_byte_long { OneByteLong }
+    ensures seal_in_first_slot { SealInFirstSlot }
+    ensures slot_after_seal { SlotAfterSeal }
+    ensures base_not_due { BaseNotDue }
+    ensures bad_headers { BadHeaders }
+{}
 
 /// An image has one answer: one refusal at most, and none where it is accepted.
 pub fn law_one_answer()
