@@ -6,4 +6,4 @@ pub mod reading;
 pub mod taking;
 
 pub use reading::{ChainRead, read_chain};
-pub use taking::{take_in, take_in_snapshot};
+pub use taking::{block_at, take_in, take_in_snapshot};

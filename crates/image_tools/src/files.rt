@@ -7,7 +7,7 @@ ghost use Rattle.chain_reader.specs.Tables.{shape_by};
 ghost use Rattle.image_tools.specs.Files.{held_bytes};
 
 use chain_reader::read_chain;
-use chain_reader::taking::block_at;
+use chain_reader::block_at;
 use log_entry::{Geometry, to_bytes};
 use log_image::Start;
 use std::alloc::{AllocError, Global};
