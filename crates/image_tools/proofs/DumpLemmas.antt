@@ -1,7 +1,6 @@
 -- The lines of a chain's blocks, and the whole text.
-use Rattle.std.proofs.Common.{◌≡◌, ◌<◌, ◌≤◌, ◌+◌, ◌-◌, ◌*◌, ◌==◌, ◌&&◌, nat_lt, ℕ, zero, suc, Bool, true, false, List, [], ◌∷◌, ◌++◌, length, append-nil, append_assoc, if◌then◌else◌, refl, sym, ap, ◌∙◌, subst, arith}
+use Rattle.std.proofs.Common.{◌≡◌, ◌≤◌, ◌*◌, ◌==◌, ◌&&◌, nat_lt, ℕ, Bool, true, false, List, [], ◌∷◌, ◌++◌, length, append_assoc, if◌then◌else◌, refl, sym, ap, ◌∙◌, subst, arith}
 use Rattle.std.specs.List.{list_all, flat_map}
-use mathlib.Core.Logic.{∥∥₁_elim}
 use Rattle.std.proofs.Math.Bool.{Bool-set}
 use Rattle.std.proofs.Math.Nat.{mul-le-mul_right}
 use Rattle.log_entry.specs.Geometry.{HasShape}
@@ -11,8 +10,7 @@ use Rattle.log_image.specs.Image.{Shape, total, words_in, block_words}
 use Rattle.log_image.specs.Header.{shape_of}
 use Rattle.log_image.specs.Blocks.{entry_words}
 use Rattle.log_image.specs.Chains.{IsChain}
-use Rattle.log_image.specs.Positions.{position_of, size_at_end}
-use Rattle.log_image.specs.Stands.{StandsBy}
+use Rattle.log_image.specs.Positions.{position_of}
 use Rattle.chain_reader.specs.Tables.{shape_by}
 use Rattle.chain_reader.specs.ChainBlocks.{is_sound}
 use Rattle.chain_reader.specs.Reads.{StandForSome, IsReadOf}

@@ -1,21 +1,20 @@
 -- The bytes of a file, laid block after block.
-use Rattle.std.proofs.Common.{◌≡◌, ◌<◌, ◌≤◌, ◌+◌, ◌-◌, ◌*◌, ◌/◌, ◌%◌, ◌==◌, ◌||◌, ◌⊎◌, inl, inr, min, ℕ, zero, suc, Bool, true, false, List, [], ◌∷◌, ◌++◌, length, take, get_or, Option, Some, None, IfSome, refl, sym, ap, ◌∙◌, subst, arith}
+use Rattle.std.proofs.Common.{◌≡◌, ◌<◌, ◌≤◌, ◌+◌, ◌-◌, ◌*◌, ◌/◌, ◌%◌, ◌==◌, ◌||◌, ◌⊎◌, inl, inr, min, ℕ, zero, suc, true, List, [], ◌++◌, length, take, get_or, Option, Some, None, IfSome, refl, sym, ap, ◌∙◌, subst, arith}
 use Rattle.std.specs.Prelude.{replicate}
 use Rattle.std.specs.Int.{div_ceil}
 use Rattle.std.proofs.lemmas.Grind.{div_ceil_times}
 use Rattle.log_entry.specs.declared.shapes.Geometry.{Geometry}
 use Rattle.std.proofs.lemmas.Bool.{cases_lt}
-use Rattle.std.proofs.lemmas.List.{ext_get_or, get_or_past, get_or-take, get_or-append-add, length-append, length-take}
+use Rattle.std.proofs.lemmas.List.{ext_get_or, get_or-take, get_or-append-add}
 use Rattle.std.proofs.Math.ListN.{get_or-append}
 use Rattle.std.proofs.Math.Nat.{mod-lt, div-add-mod, mul-le-mul_right}
 use Rattle.block_table.specs.FileMap.{FileMap, block_at}
-use Rattle.log_image.specs.Image.{Shape, block_content}
+use Rattle.log_image.specs.Image.{Shape}
 use Rattle.log_image.specs.Header.{shape_of}
 use Rattle.log_image.specs.Entries.{Meaning}
 use Rattle.log_image.specs.Maps.{map_of}
 use Rattle.log_image.specs.Positions.{entries_of}
 use Rattle.log_image.specs.Stands.{HoldsFile, StandsBy}
-use Rattle.log_image.proofs.OneChain.{some_bytes}
 use Rattle.log_entry.specs.Geometry.{HasShape}
 use Rattle.chain_reader.specs.Tables.{shape_by, HasMap}
 use Rattle.chain_reader.specs.Reads.{IsReadOf}

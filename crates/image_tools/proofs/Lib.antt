@@ -3,3 +3,4 @@ pub mod FileLemmas
 pub mod MadeLemmas
 pub mod BitLemmas
 pub mod DumpLemmas
+pub mod TestLemmas

@@ -1,15 +1,15 @@
 -- The words of a just-made image, and what is kept of them.
-use Rattle.std.proofs.Common.{◌≡◌, ◌≢◌, ◌<◌, ◌≤◌, ◌+◌, ◌-◌, ◌*◌, ◌/◌, ◌==◌, ◌&&◌, ◌||◌, not, nat_lt, ℕ, zero, suc, Bool, true, false, List, [], ◌∷◌, ◌++◌, length, get_or, set, drop, None, if◌then◌else◌, refl, sym, ap, ◌∙◌, subst, arith}
+use Rattle.std.proofs.Common.{◌≡◌, ◌≢◌, ◌<◌, ◌≤◌, ◌+◌, ◌*◌, ◌==◌, ◌&&◌, ◌||◌, nat_lt, ℕ, zero, Bool, true, false, List, [], ◌∷◌, length, get_or, set, None, if◌then◌else◌, refl, sym, ap, ◌∙◌, subst, arith}
 use Rattle.std.specs.Prelude.{replicate}
 use Rattle.std.specs.List.{list_any}
-use Rattle.std.proofs.lemmas.Bool.{ne_eqb, eq-eqb, eqb-true, eqb-false, lt-ltb, ltb-true, le-ltb}
+use Rattle.std.proofs.lemmas.Bool.{ne_eqb, eq-eqb, le-ltb}
 use Rattle.std.proofs.lemmas.List.{length-replicate, length-set, get_or-drop, length-drop}
 use Rattle.std.proofs.lemmas.Bool.Decides.{nat_tests}
 use Rattle.std.proofs.Math.Nat.{mul-le-mul_right}
 use Rattle.log_image.specs.Entries.{Meaning, all_names}
 use Rattle.log_entry.specs.Fields.{field, placed}
 use Rattle.log_entry.specs.Geometry.{HasShape, shape_refusal}
-use Rattle.log_entry.specs.Shape.{is_block_bytes, total_of}
+use Rattle.log_entry.specs.Shape.{total_of}
 use Rattle.log_entry.specs.Words.{head_word, block_word}
 use Rattle.log_entry.specs.declared.layouts.TheConstants.{HEAD_GENERATION}
 use Rattle.log_entry.specs.declared.words.BlockKind.TheVariants.{Log}
@@ -17,11 +17,10 @@ use Rattle.log_entry.specs.declared.shapes.Geometry.{Geometry}
 use Rattle.log_image.specs.Image.{Shape, words_in, total, block_words}
 use Rattle.log_image.specs.Header.{shape_of, generation_of}
 use Rattle.log_image.specs.Blocks.{is_snapshot, slots_of, entry_words, is_closed}
-use Rattle.log_image.specs.Positions.{entries_of, log_words}
-use Rattle.log_image.specs.Chains.{snapshots_of, logs_of}
-use Rattle.log_image.specs.Holes.{AtSlot, AtLink, hole_of, is_after, IsClear}
+use Rattle.log_image.specs.Positions.{entries_of}
+use Rattle.log_image.specs.Holes.{AtSlot, hole_of, IsClear}
 use Rattle.log_image.specs.Stands.{StandsBy}
-use Rattle.log_image.specs.Taken.{bit_of, is_taken, HasTaken}
+use Rattle.log_image.specs.Taken.{is_taken, HasTaken}
 use Rattle.log_image.specs.Keeps.{Keeps}
 use Rattle.log_image.specs.JustMade.{block_power, first_log, made_word, IsJustMade}
 use Rattle.log_image.specs.declared.header.TheConstants.{MAGIC, VERSION, HEADER_VERSION, HEADER_BLOCK_POWER, HEADER_DATA, HEADER_LOG}
@@ -101,8 +100,13 @@ pub log_word : (shape : Shape) → 8 ≤ words_in shape → made_word shape (fir
 log_word shape long =
     let far : 1 * words_in shape ≤ first_log shape * words_in shape = mul-le-mul_right (words_in shape) (omega arith) in
     let past : 4 ≤ first_log shape * words_in shape + 1 = omega (arith, far, long) in
-    rw (ne_eqb (first_log shape * words_in shape + 1) 0 (λ is. omega (arith, past, is)), ne_eqb (first_log shape * words_in shape + 1) 1 (λ is. omega (arith, past, is)), ne_eqb (first_log shape * words_in shape + 1) 2 (λ is. omega (arith, past, is)),
-      ne_eqb (first_log shape * words_in shape + 1) 3 (λ is. omega (arith, past, is)), eq-eqb (first_log shape * words_in shape + 1) (first_log shape * words_in shape + 1) refl) refl
+    rw (
+      ne_eqb (first_log shape * words_in shape + 1) 0 (λ is. omega (arith, past, is)),
+      ne_eqb (first_log shape * words_in shape + 1) 1 (λ is. omega (arith, past, is)),
+      ne_eqb (first_log shape * words_in shape + 1) 2 (λ is. omega (arith, past, is)),
+      ne_eqb (first_log shape * words_in shape + 1) 3 (λ is. omega (arith, past, is)),
+      eq-eqb (first_log shape * words_in shape + 1) (first_log shape * words_in shape + 1) refl,
+    ) refl
 
 -- the log block of a just-made image
 pub record LogIsEmpty (words : List ℕ) (shape : Shape) : Type 0 where

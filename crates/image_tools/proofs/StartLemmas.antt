@@ -1,5 +1,5 @@
 -- What is known of the words of a start, and of what is read of their chain.
-use Rattle.std.proofs.Common.{◌≡◌, ◌<◌, ◌≤◌, ◌+◌, ◌-◌, ◌*◌, ◌==◌, ◌&&◌, ◌||◌, nat_le, nat_lt, max, ℕ, zero, suc, Bool, true, false, List, [], ◌∷◌, ◌++◌, length, map, take, drop, get_or, Option, Some, None, if◌then◌else◌, refl, sym, ap, ◌∙◌, subst, arith}
+use Rattle.std.proofs.Common.{◌≡◌, ◌<◌, ◌≤◌, ◌+◌, ◌-◌, ◌*◌, ◌==◌, ◌&&◌, ◌||◌, nat_le, max, ℕ, Bool, true, List, [], ◌∷◌, length, map, take, drop, get_or, Some, refl, sym, ◌∙◌, subst, arith}
 use Rattle.std.specs.List.{list_all, flat_map}
 use native.Mathlib.Nat.{ℕ_set}
 use native.Mathlib.Bridge.{le_prop}
@@ -14,13 +14,13 @@ use Rattle.log_entry.specs.Shape.{longest_of, limit_of}
 use Rattle.log_entry.specs.declared.shapes.Geometry.{Geometry}
 use Rattle.log_image.specs.Image.{Shape, total, words_in, is_in_data, block_words}
 use Rattle.log_image.specs.Header.{shape_of}
-use Rattle.log_image.specs.Entries.{Meaning, meaning}
-use Rattle.log_image.specs.Maps.{map_of, end_of, size_after}
-use Rattle.log_image.specs.Blocks.{is_snapshot, file_size, entry_count, slots_of, entry_words}
+use Rattle.log_image.specs.Entries.{meaning}
+use Rattle.log_image.specs.Maps.{end_of, size_after}
+use Rattle.log_image.specs.Blocks.{file_size, entry_count, slots_of, entry_words}
 use Rattle.log_image.specs.Chains.{IsChain, snapshots_of, logs_of, first_size, snapshot_size}
-use Rattle.log_image.specs.Positions.{entries_of, log_words, log_entries, size_at_end}
+use Rattle.log_image.specs.Positions.{log_words, size_at_end}
 use Rattle.log_image.specs.Format.{fits, is_direct, is_indirect, has_runs, is_log_entry, is_log_block, is_snapshot_entry, is_snapshot_block, is_seal_placed, all_zero, HasFormat}
-use Rattle.log_image.specs.Stands.{StandsBy}
+use Rattle.log_image.specs.Stands.{StandsBy, Stands}
 use Rattle.log_image.specs.Keeps.{Keeps}
 use Rattle.log_image.proofs.HoldingLemmas.{both_left, both_right}
 use Rattle.log_image.proofs.ClearedEntries.{map_in_data}
@@ -38,6 +38,12 @@ kept_stands geometry words taken generation position size kept = ∥∥₁_map k
 pub kept_shape : (geometry : Geometry) (words taken : List ℕ) (generation position size : ℕ) → ∥ Keeps geometry words taken generation position size ∥₁ →
     HasShape geometry (shape_of words).data_blocks (shape_of words).log_blocks (shape_of words).block_bytes
 kept_shape geometry words taken generation position size kept = ∥∥₁_elim kept (hlevel ℕ_set) (λ is. is.same_geometry)
+
+-- bytes that are each file that the words of a start stand for
+pub kept_file : (geometry : Geometry) (words taken : List ℕ) (generation position size : ℕ) (bytes : List ℕ) → ∥ Keeps geometry words taken generation position size ∥₁ →
+    ((chain file : List ℕ) (position : ℕ) → StandsBy words chain file position → bytes ≡ file) → ∥ Stands words bytes position ∥₁
+kept_file geometry words taken generation position size bytes kept each =
+    ∥∥₁_map kept (λ is. (is.chain, subst (λ (l : List ℕ). StandsBy words is.chain l position) (sym (each is.chain is.file position is.stands)) is.stands))
 
 -- the size of each snapshot block, and the end of each entry, is within the limit
 log_fits : (words : List ℕ) (shape : Shape) (word : ℕ) → is_log_entry words shape word ≡ true → end_of shape (meaning words shape word) ≤ limit_of shape.block_bytes

@@ -2,7 +2,7 @@
 
 ghost use Rattle.std.specs.Prelude.{◌≡◌, ◌<◌, ◌≤◌, ◌+◌, ◌*◌, ◌++◌, List, ℕ, length, take, IfOk, IfSome, OnOk};
 ghost use Rattle.log_image.specs.Image.{total, words_in};
-ghost use Rattle.log_image.specs.Stands.{StandsBy};
+ghost use Rattle.log_image.specs.Stands.{StandsBy, Stands};
 ghost use Rattle.chain_reader.specs.Tables.{shape_by};
 ghost use Rattle.image_tools.specs.Files.{held_bytes};
 
@@ -14,7 +14,8 @@ use std::alloc::{AllocError, Global};
 
 /// The bytes of the file that an image stands for, as many as its size. Only want of memory refuses them.
 pub fn file_of(alloc: Global, start: &Start) -> Result<Vec<u8>, AllocError>
-    ensures { IfOk result (λ bytes. (chain file : List ℕ) (position : ℕ) → StandsBy start.now.words.items chain file position → bytes.items ≡ file) }
+    ensures each { IfOk result (λ bytes. (chain file : List ℕ) (position : ℕ) → StandsBy start.now.words.items chain file position → bytes.items ≡ file) }
+    ensures stands { IfOk result (λ bytes. ∥ Stands start.now.words.items bytes.items start.now.position ∥₁) }
 {
     let words = start.words();
     let geometry = *start.geometry();
@@ -24,7 +25,14 @@ pub fn file_of(alloc: Global, start: &Start) -> Result<Vec<u8>, AllocError>
     let mut bytes = Vec::with_capacity(alloc, size)?;
     for virt in 0..size.div_ceil(block_bytes) {
         let count = block_bytes.min(size - bytes.len());
-        push_block(alloc, &mut bytes, words, geometry, read.table.block(virt as u16), count)?;
+        push_block(
+            alloc,
+            &mut bytes,
+            words,
+            geometry,
+            read.table.block(virt as u16),
+            count,
+        )?;
     }
     Ok(bytes)
 }

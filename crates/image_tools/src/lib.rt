@@ -9,3 +9,6 @@ pub mod making;
 pub use dumps::dump;
 pub use files::file_of;
 pub use making::mkfs;
+
+#[cfg(test)]
+mod tests;

@@ -64,7 +64,13 @@ pub fn push_head(out: &mut Vec<u8>, words: &[u64]) -> Result<(), AllocError>
     ensures { OnOk result (out.new.items ≡ out.old.items ++ head_text words.now) }
 {
     let generation = HEAD_GENERATION.of(words[3]);
-    push_pair(out, b"head generation ", generation, b" block ", HEAD_BLOCK.of(words[3]))?;
+    push_pair(
+        out,
+        b"head generation ",
+        generation,
+        b" block ",
+        HEAD_BLOCK.of(words[3]),
+    )?;
     out.extend_from_slice(b"\n")
 }
 
@@ -113,7 +119,12 @@ fn push_indirect(out: &mut Vec<u8>, holder: u64, first: u64, runs: &[u64]) -> Re
 }
 
 /// Adds what the word of a log entry says.
-fn push_entry(out: &mut Vec<u8>, words: &[u64], geometry: Geometry, word: u64) -> Result<(), AllocError>
+fn push_entry(
+    out: &mut Vec<u8>,
+    words: &[u64],
+    geometry: Geometry,
+    word: u64,
+) -> Result<(), AllocError>
     requires whole { length words.now ≡ total (shape_by geometry) * words_in (shape_by geometry) }
     requires entry { IsTrue (is_log_entry words.now (shape_by geometry) word) }
     ensures { OnOk result (out.new.items ≡ out.old.items ++ entry_text words.now (shape_by geometry) word) }
@@ -140,7 +151,12 @@ fn push_kept(out: &mut Vec<u8>, kept: &[u64]) -> Result<(), AllocError>
 }
 
 /// Adds the lines of log entries, the first of which is in slot 3.
-fn push_entries(out: &mut Vec<u8>, words: &[u64], geometry: Geometry, entries: &[u64]) -> Result<(), AllocError>
+fn push_entries(
+    out: &mut Vec<u8>,
+    words: &[u64],
+    geometry: Geometry,
+    entries: &[u64],
+) -> Result<(), AllocError>
     requires whole { length words.now ≡ total (shape_by geometry) * words_in (shape_by geometry) }
     requires each { IsTrue (list_all (is_log_entry words.now (shape_by geometry)) entries.now) }
     requires few { length entries.now ≤ 512 }
@@ -169,14 +185,25 @@ fn push_seal(out: &mut Vec<u8>, slots: &[u64]) -> Result<(), AllocError>
 
 /// Adds the lines of a snapshot block.
 #[tactic(auto, unfolding(crate::specs::DumpText::snapshot_text))]
-fn push_snapshot(out: &mut Vec<u8>, geometry: Geometry, number: u64, block: &[u64]) -> Result<(), AllocError>
+fn push_snapshot(
+    out: &mut Vec<u8>,
+    geometry: Geometry,
+    number: u64,
+    block: &[u64],
+) -> Result<(), AllocError>
     requires whole { length block.now ≡ words_in (shape_by geometry) }
     requires sound { IsTrue (is_snapshot_block (shape_by geometry) block.now) }
     ensures { OnOk result (out.new.items ≡ out.old.items ++ snapshot_text number block.now) }
 {
     let count = SNAPSHOT_COUNT.of(block[2]);
     let size = SNAPSHOT_SIZE.of(block[2]);
-    push_pair(out, b"snapshot ", number, b" base ", BLOCK_BASE.of(block[1]))?;
+    push_pair(
+        out,
+        b"snapshot ",
+        number,
+        b" base ",
+        BLOCK_BASE.of(block[1]),
+    )?;
     push_pair(out, b" count ", count, b" size ", size)?;
     out.extend_from_slice(b"\n")?;
     push_kept(out, kept_in(block))
@@ -184,7 +211,13 @@ fn push_snapshot(out: &mut Vec<u8>, geometry: Geometry, number: u64, block: &[u6
 
 /// Adds the lines of a log block.
 #[tactic(auto, unfolding(crate::specs::DumpText::log_text))]
-fn push_log(out: &mut Vec<u8>, words: &[u64], geometry: Geometry, number: u64, block: &[u64]) -> Result<(), AllocError>
+fn push_log(
+    out: &mut Vec<u8>,
+    words: &[u64],
+    geometry: Geometry,
+    number: u64,
+    block: &[u64],
+) -> Result<(), AllocError>
     requires whole { length words.now ≡ total (shape_by geometry) * words_in (shape_by geometry) }
     requires block { length block.now ≡ words_in (shape_by geometry) }
     requires sound { IsTrue (is_log_block words.now (shape_by geometry) block.now) }
@@ -197,7 +230,12 @@ fn push_log(out: &mut Vec<u8>, words: &[u64], geometry: Geometry, number: u64, b
 }
 
 /// Adds the lines of a block of a chain. Only want of memory refuses it.
-pub fn push_block(out: &mut Vec<u8>, words: &[u64], geometry: Geometry, number: u64) -> Result<(), AllocError>
+pub fn push_block(
+    out: &mut Vec<u8>,
+    words: &[u64],
+    geometry: Geometry,
+    number: u64,
+) -> Result<(), AllocError>
     requires whole { length words.now ≡ total (shape_by geometry) * words_in (shape_by geometry) }
     requires inside { number < total (shape_by geometry) }
     requires sound { IsTrue (is_sound words.now (shape_by geometry) (block_words words.now (shape_by geometry) number)) }

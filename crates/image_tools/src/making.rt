@@ -51,10 +51,7 @@ fn made_words(alloc: Global, geometry: Geometry) -> Result<Vec<u64>, AllocError>
     ensures { IfOk result (λ words. IsJustMade (shape_by geometry) words.items) }
 {
     let log = geometry.first(Area::Log);
-    let mut words = zeros(
-        alloc,
-        geometry.total() as usize * geometry.q() as usize,
-    )?;
+    let mut words = zeros(alloc, geometry.total() as usize * geometry.q() as usize)?;
     words[log as usize * geometry.q() as usize + 1] = BlockWord {
         kind: BlockKind::Log,
         base: 0,

@@ -1,14 +1,15 @@
-use Rattle.std.proofs.Common.{◌≡◌, ◌<◌, ◌≤◌, ◌+◌, ◌*◌, ◌-◌, ◌++◌, ◌∷◌, ℕ, List, [], take, length, refl, sym, ap, ◌∙◌, subst, arith}
+use Rattle.std.proofs.Common.{◌<◌, ◌≤◌, ◌*◌, ◌++◌, ℕ, List, take, sym, ap, ◌∙◌, subst, arith}
 use Rattle.log_entry.specs.Geometry.{HasShape}
 use Rattle.log_image.specs.Header.{shape_of}
 use Rattle.chain_reader.specs.Tables.{shape_by}
 use Rattle.chain_reader.specs.Reads.{StandForSome}
-use Rattle.image_tools.proofs.StartLemmas.{kept_stands, kept_shape, read_within, read_inside}
+use Rattle.image_tools.proofs.StartLemmas.{kept_file, kept_stands, kept_shape, read_within, read_inside}
 use Rattle.image_tools.proofs.FileLemmas.{one_laid, before_end, at_end, few_virtual, some_in, if_some, file_read}
 use Rattle.image_tools.specs.Files.{held_bytes}
 use Rattle.chain_reader.proofs.WalkLemmas.{all_words}
 use Rattle.log_image.specs.Image.{total}
 use Rattle.log_image.specs.Stands.{StandsBy}
+use Rattle.log_image.specs.Keeps.{Keeps}
 use Rattle.std.specs.Int.{div_ceil}
 use Rattle.image_tools.proofs.files.file_of.Goals as goal
 
@@ -59,8 +60,8 @@ loop-virt-preserved c =
     (c.min-count.ensures ∙ omega (arith, c.len.ensures, c.block_bytes-block_bytes.ensures.value, c.loop-virt.bytes.ok))
     c.loop-virt.invariant
 
-pub returns : goal.returns
-returns c = λ chain file position stands.
+pub returns-clause-each : goal.returns-clause-each
+returns-clause-each c = λ chain file position stands.
     let has : HasShape c.geometry.result.now (shape_of c.words-words.result.now).data_blocks (shape_of c.words-words.result.now).log_blocks (shape_of c.words-words.result.now).block_bytes =
     subst (λ g. HasShape g (shape_of c.words-words.result.now).data_blocks (shape_of c.words-words.result.now).log_blocks (shape_of c.words-words.result.now).block_bytes) (sym c.geometry.ensures)
     (kept_shape c.args.start.now.geometry c.words-words.result.now c.args.start.now.taken.items c.args.start.now.generation c.args.start.now.position c.args.start.now.size c.words-words.ensures.kept) in
@@ -68,3 +69,8 @@ returns c = λ chain file position stands.
     file_read c.words-words.result.now c.geometry.result.now c.in_ok-read.read chain file position c.size-size.result c.loop-virt.virt c.loop-virt.bytes.items has by (record { each = c.in_ok-read.ensures.read }) c.size-size.ensures c.loop-virt.invariant
     (at_end c.size-size.result c.geometry.result.now.block_bytes c.div_ceil-virt-end.result c.loop-virt.virt (some_in c.geometry.result.now)
     (c.div_ceil-virt-end.ensures ∙ ap (λ (n : ℕ). div_ceil c.size-size.result n) c.block_bytes-block_bytes.ensures.value) c.loop-virt-test.false)
+
+pub returns-clause-stands : goal.returns-clause-stands
+returns-clause-stands c = kept_file c.args.start.now.geometry c.args.start.now.words.items c.args.start.now.taken.items c.args.start.now.generation c.args.start.now.position c.args.start.now.size c.loop-virt.bytes.items
+    (subst (λ (l : List ℕ). ∥ Keeps c.args.start.now.geometry l c.args.start.now.taken.items c.args.start.now.generation c.args.start.now.position c.args.start.now.size ∥₁) c.words-words.ensures.value c.words-words.ensures.kept)
+    (returns-clause-each c)

@@ -1,4 +1,3 @@
-use Rattle.std.proofs.Common.{◌≡◌}
 use Rattle.chain_reader.specs.Tables.{shape_by}
 use Rattle.image_tools.proofs.FileLemmas.{AreLaid}
 use Rattle.image_tools.proofs.files.file_of.Given as goal

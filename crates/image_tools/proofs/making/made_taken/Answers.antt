@@ -1,4 +1,4 @@
-use Rattle.std.proofs.Common.{◌≡◌, ◌<◌, ◌≤◌, ◌+◌, ◌*◌, ◌/◌, ◌%◌, ◌^◌, ℕ, List, length, get_or, set, sym, ap, ◌∙◌, subst, arith}
+use Rattle.std.proofs.Common.{◌≡◌, ◌+◌, ◌*◌, ◌/◌, ◌%◌, ◌^◌, ℕ, List, length, get_or, set, sym, ap, ◌∙◌, subst, arith}
 use Rattle.std.specs.Int.RustNames.{bit_or}
 use Rattle.std.specs.Int.{div_ceil}
 use Rattle.log_image.specs.Image.{total}

@@ -1,5 +1,4 @@
 use Rattle.std.proofs.Common.{◌≡◌, ◌<◌, ◌≤◌, ◌+◌, ◌*◌, ℕ, List, set, sym, ap, ◌∙◌, subst, arith}
-use Rattle.std.specs.Prelude.{replicate}
 use Rattle.log_image.specs.Image.{total, words_in}
 use Rattle.log_image.specs.JustMade.{first_log, IsJustMade}
 use Rattle.log_image.specs.declared.header.TheConstants.{MAGIC}

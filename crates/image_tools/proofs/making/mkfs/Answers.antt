@@ -1,6 +1,5 @@
-use Rattle.std.proofs.Common.{◌+◌, ℕ, subst, arith}
+use Rattle.std.proofs.Common.{ℕ, subst, arith}
 use Rattle.log_image.specs.Image.{total}
-use Rattle.log_image.specs.JustMade.{first_log}
 use Rattle.chain_reader.specs.Tables.{shape_by}
 use Rattle.image_tools.specs.Made.{HasBitsOf}
 use Rattle.image_tools.proofs.MadeLemmas.{made_kept}
