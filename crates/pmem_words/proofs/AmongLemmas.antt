@@ -1,6 +1,6 @@
 -- A machine whose steps stand among those of others.
 use Rattle.std.proofs.Common.{ℕ, ◌≡◌}
-use Rattle.pmem_words.specs.Seats.{Seat}
+use Rattle.seat_state.specs.Seats.{Seat}
 use Rattle.pmem_words.specs.Scripts.{Script}
 use Rattle.pmem_words.specs.Courses.{Course, Others, among}
 use Rattle.pmem_words.specs.Leads.{Leads, asking}

@@ -1,6 +1,6 @@
 -- A list of answers and one more.
 use Rattle.std.proofs.Common.{ℕ, ◌≡◌, List, [], ◌∷◌, ◌++◌, refl, subst, sym}
-use Rattle.pmem_words.specs.Seats.{Seat}
+use Rattle.seat_state.specs.Seats.{Seat}
 use Rattle.pmem_words.specs.Scripts.{Script}
 use Rattle.pmem_words.specs.Courses.{Course}
 use Rattle.pmem_words.specs.Drives.{Goes}

@@ -1,6 +1,6 @@
 -- What follows from a machine's promise, and how it is shown.
 use Rattle.std.proofs.Common.{ℕ, zero, suc, ◌≡◌, ◌+◌, ◌<◌, List, [], ◌∷◌, subst, arith}
-use Rattle.pmem_words.specs.Seats.{Seat}
+use Rattle.seat_state.specs.Seats.{Seat}
 use Rattle.pmem_words.specs.Scripts.{Script, Lowers}
 use Rattle.pmem_words.specs.Courses.{Course}
 use Rattle.pmem_words.specs.Drives.{Goes, IsSafe, Ends}

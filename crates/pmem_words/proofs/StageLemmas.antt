@@ -1,6 +1,6 @@
 -- A part's promise is the promise of the whole at that stage.
 use Rattle.std.proofs.Common.{ℕ, ◌≡◌, refl, subst, sym, ap, ◌∙◌}
-use Rattle.pmem_words.specs.Seats.{Seat}
+use Rattle.seat_state.specs.Seats.{Seat}
 use Rattle.pmem_words.specs.Scripts.{After, Script}
 use Rattle.pmem_words.specs.Conducts.{Conduct}
 use Rattle.pmem_words.specs.Courses.{Course, over}

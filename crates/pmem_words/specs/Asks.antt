@@ -1,5 +1,6 @@
 -- The word that an ask is on, and what the ask makes of it. This is said once, for every memory.
-use Rattle.std.specs.Prelude.{ℕ, ◌-◌, ◌^◌, ◌==◌, if◌then◌else◌, bit_and, bit_or}
+use Rattle.std.specs.Prelude.{ℕ, ◌==◌, if◌then◌else◌, bit_or}
+use Rattle.seat_state.specs.Seats.{without_bits}
 use Rattle.pmem_words.specs.declared.asks.Place.{Place}
 use Rattle.pmem_words.specs.declared.asks.Place.TheVariants.{Image, FenceOf}
 use Rattle.pmem_words.specs.declared.asks.Ask.{Ask}
@@ -14,10 +15,6 @@ place seat (SetBits p bits) = p
 place seat (ClearBits p bits) = p
 place seat (Mark word) = Image word
 place seat Fence = FenceOf seat
-
--- a word without these bits
-abbrev pub without_bits : ℕ → ℕ → ℕ
-without_bits found bits = bit_and found (2 ^ 64 - 1 - bits)
 
 -- what the word becomes, of what was found there
 abbrev pub becomes : Ask → ℕ → ℕ

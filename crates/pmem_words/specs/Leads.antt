@@ -1,6 +1,6 @@
 -- What a machine promises: from here each way is safe and comes to an end, and each end is one of these.
 use Rattle.std.specs.Prelude.{ℕ, ◌≡◌}
-use Rattle.pmem_words.specs.Seats.{Seat}
+use Rattle.seat_state.specs.Seats.{Seat}
 use Rattle.pmem_words.specs.Scripts.{After, Script}
 use Rattle.pmem_words.specs.Courses.{Course}
 use Rattle.pmem_words.specs.declared.asks.Turn.{Turn}

@@ -3,8 +3,6 @@ pub mod Conducts
 pub mod Courses
 pub mod Drives
 pub mod Leads
-pub mod Maps
 pub mod Parts
 pub mod PlainWords
 pub mod Scripts
-pub mod Seats

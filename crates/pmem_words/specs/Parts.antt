@@ -1,6 +1,6 @@
 -- How machines are composed: a stage of the whole does what a part does, and goes on where the part has ended.
 use Rattle.std.specs.Prelude.{ℕ, ◌≡◌, ◌<◌, refl}
-use Rattle.pmem_words.specs.Seats.{Seat}
+use Rattle.seat_state.specs.Seats.{Seat}
 use Rattle.pmem_words.specs.Scripts.{After, Script}
 use Rattle.pmem_words.specs.Courses.{Course}
 use Rattle.pmem_words.specs.Leads.{Leads}

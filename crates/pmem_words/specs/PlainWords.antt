@@ -2,7 +2,7 @@
 use Rattle.std.specs.Prelude.{ℕ, ◌^◌, ◌<◌, ◌≡◌, List, length, slice_set, slice_index}
 use Rattle.pmem_words.specs.Asks.{place, becomes, answer}
 use Rattle.pmem_words.specs.Conducts.{Conduct}
-use Rattle.pmem_words.specs.declared.TheConstants.{SEATS}
+use Rattle.seat_state.specs.declared.TheConstants.{SEATS}
 use Rattle.pmem_words.specs.declared.asks.Place.{Place}
 use Rattle.pmem_words.specs.declared.asks.Place.TheVariants.{Image, Pin, Map, FenceOf}
 use Rattle.pmem_words.specs.declared.asks.Ask.{Ask}

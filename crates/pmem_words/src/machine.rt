@@ -7,7 +7,7 @@ ghost use Rattle.pmem_words.specs.Drives.{IsSafe, Ends};
 
 use crate::asks::{Ask, Turn};
 use crate::memory::Memory;
-use crate::seat::SeatState;
+use seat_state::SeatState;
 
 /// A call or a part of one, step by step: it has one ask at a time, and each answer moves it on. All that it knows
 /// stands in it and in its seat's state.

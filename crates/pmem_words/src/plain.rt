@@ -1,11 +1,11 @@
 //! A memory over vectors, for one seat alone.
 
 ghost use Rattle.std.specs.Prelude.{◌≡◌, IfOk, replicate};
-ghost use Rattle.pmem_words.specs.declared.TheConstants.{SEATS};
+ghost use Rattle.seat_state.specs.declared.TheConstants.{SEATS};
 
-use crate::SEATS;
 use crate::asks::{Ask, Place};
 use crate::memory::Memory;
+use seat_state::SEATS;
 use std::alloc::{AllocError, Global};
 use std::marker::Model;
 
@@ -20,7 +20,7 @@ pub struct Plain {
 impl Model for Plain {
     ghost use Rattle.std.specs.Prelude.{◌≡◌, vec_len};
     ghost use Rattle.pmem_words.specs.PlainWords.{PlainWords};
-    ghost use Rattle.pmem_words.specs.declared.TheConstants.{SEATS};
+    ghost use Rattle.seat_state.specs.declared.TheConstants.{SEATS};
 
     ghost Value = { PlainWords };
 

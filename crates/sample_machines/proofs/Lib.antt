@@ -1,3 +1,4 @@
+mod CarryOverPlain
 pub mod LaidLemmas
 pub mod LayOverPlain
 pub mod OfferOverPlain

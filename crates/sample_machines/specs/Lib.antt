@@ -1,3 +1,4 @@
+pub mod Carrying
 pub mod Laid
 pub mod Laying
 pub mod Offering

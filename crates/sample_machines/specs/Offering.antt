@@ -1,6 +1,6 @@
 -- What offering a value means.
 use Rattle.std.specs.Prelude.{◌≡◌, ◌+◌, ◌<◌, ◌==◌, Bool, true, false}
-use Rattle.pmem_words.specs.Seats.{Seat}
+use Rattle.seat_state.specs.Seats.{Seat}
 use Rattle.pmem_words.specs.Scripts.{After, Script, Lowers}
 use Rattle.pmem_words.specs.declared.asks.Ask.TheVariants.{Exchange}
 use Rattle.pmem_words.specs.declared.asks.Place.TheVariants.{Image}

@@ -1,6 +1,6 @@
 -- How a post ends.
 use Rattle.std.specs.Prelude.{ℕ, ◌≡◌, ◌≢◌, ◌+◌, ◌<◌, ◌≤◌, Bool, true, false, List, length, slice_index, slice_set}
-use Rattle.pmem_words.specs.Seats.{Seat}
+use Rattle.seat_state.specs.Seats.{Seat}
 use Rattle.pmem_words.specs.PlainWords.{PlainWords}
 use Rattle.sample_machines.specs.Laid.{IsLaid}
 

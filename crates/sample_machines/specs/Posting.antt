@@ -1,7 +1,7 @@
 -- What a post means: it is said by what its parts mean.
 use Rattle.std.specs.Prelude.{ℕ, ◌≡◌, ◌+◌, ◌-◌, ◌*◌, ◌<◌, ◌==◌, nat_lt, Bool, true, false, length}
 use Rattle.std.proofs.Common.{arith}
-use Rattle.pmem_words.specs.Seats.{Seat}
+use Rattle.seat_state.specs.Seats.{Seat}
 use Rattle.pmem_words.specs.Scripts.{After, Script, Lowers}
 use Rattle.pmem_words.specs.Parts.{Next, Into, End, onward, LowersOn, lowers_onward}
 use Rattle.pmem_words.specs.declared.asks.Ask.{Ask}

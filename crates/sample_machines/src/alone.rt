@@ -1,9 +1,10 @@
 //! The machines driven over a plain memory.
 
-ghost use Rattle.std.specs.Prelude.{◌≡◌, ◌+◌, ◌<◌, ◌≤◌, length};
+ghost use Rattle.std.specs.Prelude.{◌≡◌, ◌+◌, ◌<◌, ◌≤◌, drop, length};
 ghost use Rattle.sample_machines.specs.Laid.{IsLaid};
 ghost use Rattle.sample_machines.specs.Posted.{CanPost, IsPosted, with_words};
 
+use crate::carry::Carry;
 use crate::lay::Lay;
 use crate::post::Post;
 use pmem_words::{Plain, SeatState, drive};
@@ -33,4 +34,23 @@ pub fn post_alone(
     ensures { IsPosted first value limit seat.old memory.old result seat.new memory.new }
 {
     drive(Post::new(first, value, limit), seat, memory)
+}
+
+/// Copies `count` image words, at least one, from word `from` on to those from word `to` on, which lie behind them.
+pub fn carry_alone(seat: &mut SeatState, memory: &mut Plain, from: u16, to: u16, count: u16)
+    requires some { 0 < count }
+    requires apart { from + count ≤ to }
+    requires room { to + count ≤ length memory.old.words }
+    ensures seat { seat.new ≡ seat.old }
+    ensures others { memory.new ≡ with_words memory.old memory.new.words }
+    ensures carried { IsLaid to count (drop from memory.old.words) memory.old.words memory.new.words }
+{
+    let carry = Carry {
+        from,
+        to,
+        count,
+        next: 0,
+        held: None,
+    };
+    drive(carry, seat, memory)
 }

@@ -2,13 +2,15 @@
 #![tactic(auto)]
 
 pub mod alone;
+pub mod carry;
 pub mod lay;
 pub mod offer;
 pub mod post;
 #[cfg(test)]
 mod tests;
 
-pub use alone::{lay_alone, post_alone};
+pub use alone::{carry_alone, lay_alone, post_alone};
+pub use carry::Carry;
 pub use lay::Lay;
 pub use offer::Offer;
 pub use post::{Post, Stage};

@@ -1,0 +1,3 @@
+mod MapLemmas
+mod RoomLemmas
+pub mod MapLaws
