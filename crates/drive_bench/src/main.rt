@@ -1,0 +1,79 @@
+//! Drives a machine of many loads and stores, and makes seats, so that both can be timed and weighed.
+#![tactic(auto)]
+
+ghost use Rattle.std.specs.Prelude.{◌≡◌, length};
+
+use log_entry::Geometry;
+use pmem_words::{Plain, SeatState};
+use sample_machines::carry_alone;
+use std::alloc::{AllocError, Global};
+use std::io;
+
+/// How many words one round carries.
+const CARRIED: u16 = 32_768;
+
+/// A seat of an image with as much room as there is: blocks of 4096 bytes, and nearly 65,535 of them.
+fn large_seat(alloc: Global, number: u8) -> Result<Option<SeatState>, AllocError> {
+    match Geometry::new(65_000, 260, 4096) {
+        Ok(geometry) => Ok(Some(SeatState::new(alloc, geometry, number, 16, 0)?)),
+        Err(_) => Ok(None),
+    }
+}
+
+/// Carries the first 32,768 of 65,536 image words behind them, so many times.
+fn carry_rounds(seat: &mut SeatState, memory: &mut Plain, rounds: u32)
+    requires { length memory.old.words ≡ 65536 }
+    ensures { length memory.new.words ≡ 65536 }
+{
+    for _ in 0..rounds {
+        carry_alone(seat, memory, 0, CARRIED, CARRIED);
+    }
+}
+
+/// What the words come to after so many rounds, from 5 in each of the first 32,768 and 0 behind them.
+fn carry(alloc: Global, rounds: u32) -> Result<u64, AllocError> {
+    let Some(mut seat) = large_seat(alloc, 0)? else {
+        return Ok(0);
+    };
+    let mut words = vec![in alloc; 5u64; 32_768]?;
+    words.resize(65_536, 0)?;
+    let mut memory = Plain::new(alloc, words, Vec::new(alloc))?;
+    carry_rounds(&mut seat, &mut memory, rounds);
+    let (words, _) = memory.into_parts();
+    Ok(words
+        .iter()
+        .fold(0u64, |sum, word| sum.wrapping_mul(31).wrapping_add(*word)))
+}
+
+/// How many seats there are when so many were made.
+fn seats(alloc: Global, count: u8) -> Result<u64, AllocError> {
+    let mut made = Vec::new(alloc);
+    for number in 0..count {
+        made.push(large_seat(alloc, number)?)?;
+    }
+    Ok(made.len() as u64)
+}
+
+/// Does what a line asks: `carry` and a number of rounds, or `seats` and a number of seats. Another line comes to 0.
+fn answer(alloc: Global, line: &str) -> Result<u64, AllocError> {
+    match line.split_once(' ') {
+        Some(("carry", rounds)) => match rounds.parse::<u32>() {
+            Ok(rounds) => carry(alloc, rounds),
+            Err(_) => Ok(0),
+        },
+        Some(("seats", count)) => match count.parse::<u8>() {
+            Ok(count) => seats(alloc, count),
+            Err(_) => Ok(0),
+        },
+        _ => Ok(0),
+    }
+}
+
+fn main(rt: HostRuntime) -> io::Result<()> {
+    for line in rt.lines(rt.alloc()) {
+        let line = line?;
+        let sum = answer(rt.alloc(), line.as_str())?;
+        println!(rt; "{line}: {sum}")?;
+    }
+    Ok(())
+}
