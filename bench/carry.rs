@@ -1,6 +1,7 @@
 //! The loads and stores of `crates/drive_bench`, as loops written by hand: `carry <yardstick> <rounds>`.
-//! `words` is a vector of words, as `Plain` has; `asked` is the same with each ask as a value of an enum, taken apart by a function
-//! that is not inlined; `atomics` makes each load and store sequentially consistent, as running threads would.
+//! `free` is a vector of words, as `Plain` has, and the compiler may do with the loop what it can, as it may with `drive`; `words` is the
+//! same with each word loaded and stored by itself; `asked` has each ask as a value of an enum, taken apart by a function that is not
+//! inlined; `atomics` makes each load and store sequentially consistent, as running threads would.
 use std::hint::black_box;
 use std::sync::atomic::{AtomicU64, Ordering::SeqCst};
 
@@ -21,6 +22,16 @@ fn perform(words: &mut [u64], ask: Ask) -> u64 {
             0
         }
     }
+}
+
+fn free(rounds: u32) -> Vec<u64> {
+    let mut words = start();
+    for _ in 0..black_box(rounds) {
+        for next in 0..CARRIED {
+            words[CARRIED + next] = words[next];
+        }
+    }
+    words
 }
 
 fn words(rounds: u32) -> Vec<u64> {
@@ -66,6 +77,7 @@ fn main() {
     let arguments: Vec<String> = std::env::args().collect();
     let rounds = arguments[2].parse().expect("a number of rounds");
     let words = match arguments[1].as_str() {
+        "free" => free(rounds),
         "words" => words(rounds),
         "asked" => asked(rounds),
         "atomics" => atomics(rounds),

@@ -1,8 +1,11 @@
 //! Drives a machine of many loads and stores, and makes seats, so that both can be timed and weighed.
 #![tactic(auto)]
 
-ghost use Rattle.std.specs.Prelude.{◌≡◌, length};
+ghost use Rattle.std.specs.Prelude.{◌≡◌, IfOk, length};
 
+mod closed;
+
+use closed::{Closed, carry_closed};
 use log_entry::Geometry;
 use pmem_words::{Plain, SeatState};
 use sample_machines::carry_alone;
@@ -30,19 +33,53 @@ fn carry_rounds(seat: &mut SeatState, memory: &mut Plain, rounds: u32)
     }
 }
 
-/// What the words come to after so many rounds, from 5 in each of the first 32,768 and 0 behind them.
+/// The same through a memory whose steps are calls.
+fn closed_rounds(seat: &mut SeatState, memory: &mut Closed, rounds: u32)
+    requires { length memory.old.words ≡ 65536 }
+    ensures { length memory.new.words ≡ 65536 }
+{
+    for _ in 0..rounds {
+        carry_closed(seat, memory, 0, CARRIED, CARRIED);
+    }
+}
+
+/// A memory of 65,536 words, 5 in each of the first 32,768 and 0 behind them.
+fn memory(alloc: Global) -> Result<Plain, AllocError>
+    ensures { IfOk result (λ plain. length plain.words ≡ 65536) }
+{
+    let mut words = vec![in alloc; 5u64; 32_768]?;
+    words.resize(65_536, 0)?;
+    let memory = Plain::new(alloc, words, Vec::new(alloc))?;
+    Ok(memory)
+}
+
+/// What the words of a memory come to.
+fn sum(memory: Plain) -> u64 {
+    let (words, _) = memory.into_parts();
+    words
+        .iter()
+        .fold(0u64, |sum, word| sum.wrapping_mul(31).wrapping_add(*word))
+}
+
+/// What the words come to after so many rounds.
 fn carry(alloc: Global, rounds: u32) -> Result<u64, AllocError> {
     let Some(mut seat) = large_seat(alloc, 0)? else {
         return Ok(0);
     };
-    let mut words = vec![in alloc; 5u64; 32_768]?;
-    words.resize(65_536, 0)?;
-    let mut memory = Plain::new(alloc, words, Vec::new(alloc))?;
+    let mut memory = memory(alloc)?;
     carry_rounds(&mut seat, &mut memory, rounds);
-    let (words, _) = memory.into_parts();
-    Ok(words
-        .iter()
-        .fold(0u64, |sum, word| sum.wrapping_mul(31).wrapping_add(*word)))
+    Ok(sum(memory))
+}
+
+/// The same through a memory whose steps are calls.
+fn carry_by_calls(alloc: Global, rounds: u32) -> Result<u64, AllocError> {
+    let Some(mut seat) = large_seat(alloc, 0)? else {
+        return Ok(0);
+    };
+    let plain = memory(alloc)?;
+    let mut memory = Closed { plain };
+    closed_rounds(&mut seat, &mut memory, rounds);
+    Ok(sum(memory.plain))
 }
 
 /// How many seats there are when so many were made.
@@ -54,11 +91,15 @@ fn seats(alloc: Global, count: u8) -> Result<u64, AllocError> {
     Ok(made.len() as u64)
 }
 
-/// Does what a line asks: `carry` and a number of rounds, or `seats` and a number of seats. Another line comes to 0.
+/// Does what a line asks: `carry` or `closed` and a number of rounds, or `seats` and a number of seats. Another line comes to 0.
 fn answer(alloc: Global, line: &str) -> Result<u64, AllocError> {
     match line.split_once(' ') {
         Some(("carry", rounds)) => match rounds.parse::<u32>() {
             Ok(rounds) => carry(alloc, rounds),
+            Err(_) => Ok(0),
+        },
+        Some(("closed", rounds)) => match rounds.parse::<u32>() {
+            Ok(rounds) => carry_by_calls(alloc, rounds),
             Err(_) => Ok(0),
         },
         Some(("seats", count)) => match count.parse::<u8>() {

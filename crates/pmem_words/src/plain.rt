@@ -48,7 +48,7 @@ impl Plain {
         (self.words, self.taken)
     }
 
-    #[inline]
+    #[inline(always)]
     fn word(&self, place: Place) -> u64
         requires { HasWord self.now place }
         ensures { result ≡ word_at self.now place }
@@ -61,7 +61,7 @@ impl Plain {
         }
     }
 
-    #[inline]
+    #[inline(always)]
     fn set_word(&mut self, place: Place, value: u64)
         requires { HasWord self.old place }
         ensures { self.new ≡ with_word self.old place value }
@@ -80,6 +80,7 @@ impl Memory for Plain {
 
     ghost store = { plain };
 
+    #[inline(always)]
     fn perform(&mut self, ask: Ask) -> u64 {
         match ask {
             Ask::Load(Place::FenceOf(_)) => 0,

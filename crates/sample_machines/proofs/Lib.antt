@@ -1,4 +1,4 @@
-mod CarryOverPlain
+pub mod CarryOverPlain
 pub mod LaidLemmas
 pub mod LayOverPlain
 pub mod OfferOverPlain
