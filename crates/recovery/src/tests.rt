@@ -71,20 +71,32 @@ fn images_are_refused(rt: HostRuntime) -> Result<(), Fail> {
         block: 41,
         word: 41,
     };
-    assert_eq!(rt; open_words(alloc, circle).err(), Some(OpenRefusal::Bad(bad_link)));
+    assert_eq!(rt;
+        open_words(alloc, circle).err(),
+        Some(OpenRefusal::Bad(bad_link))
+    );
     let twice = image(alloc, &[(331, ENTRY), (332, ENTRY)])?;
     let bad_share = BadImage::BadShare { block: 1 };
-    assert_eq!(rt; open_words(alloc, twice).err(), Some(OpenRefusal::Bad(bad_share)));
+    assert_eq!(rt;
+        open_words(alloc, twice).err(),
+        Some(OpenRefusal::Bad(bad_share))
+    );
     let past_end = image(alloc, &[(331, ENTRY), (8, 256)])?;
     let bad_slack = BadImage::BadSlack { block: 1 };
-    assert_eq!(rt; open_words(alloc, past_end).err(), Some(OpenRefusal::Bad(bad_slack)));
+    assert_eq!(rt;
+        open_words(alloc, past_end).err(),
+        Some(OpenRefusal::Bad(bad_slack))
+    );
     let seal = image(alloc, &[(331, 3)])?;
     let bad_entry = BadImage::BadEntry {
         block: 41,
         slot: 3,
         word: 3,
     };
-    assert_eq!(rt; open_words(alloc, seal).err(), Some(OpenRefusal::Bad(bad_entry)));
+    assert_eq!(rt;
+        open_words(alloc, seal).err(),
+        Some(OpenRefusal::Bad(bad_entry))
+    );
     Ok(())
 }
 
@@ -95,13 +107,22 @@ fn images_of_other_lengths_are_refused(rt: HostRuntime) -> Result<(), Fail> {
     let mut bytes = to_bytes(alloc, &words)?;
     bytes.push(0)?;
     let long = BadImage::Long { bytes: 5057 };
-    assert_eq!(rt; open_bytes(alloc, &bytes).err(), Some(OpenRefusal::Bad(long)));
+    assert_eq!(rt;
+        open_bytes(alloc, &bytes).err(),
+        Some(OpenRefusal::Bad(long))
+    );
     bytes.truncate(5055);
     let short = BadImage::Short { bytes: 5055 };
-    assert_eq!(rt; open_bytes(alloc, &bytes).err(), Some(OpenRefusal::Bad(short)));
+    assert_eq!(rt;
+        open_bytes(alloc, &bytes).err(),
+        Some(OpenRefusal::Bad(short))
+    );
     bytes.truncate(31);
     let short = BadImage::Short { bytes: 31 };
-    assert_eq!(rt; open_bytes(alloc, &bytes).err(), Some(OpenRefusal::Bad(short)));
+    assert_eq!(rt;
+        open_bytes(alloc, &bytes).err(),
+        Some(OpenRefusal::Bad(short))
+    );
     Ok(())
 }
 
@@ -115,7 +136,10 @@ fn what_stands_after_the_hole_is_cleared(rt: HostRuntime) -> Result<(), Fail> {
     assert_eq!(rt; opened.hole(), slot);
     let start = opened.clear();
     assert_eq!(rt; start.words().get(332).copied(), Some(0));
-    assert_eq!(rt; start.words().get(329).copied(), Some(4_611_686_018_427_387_904));
+    assert_eq!(rt;
+        start.words().get(329).copied(),
+        Some(4_611_686_018_427_387_904)
+    );
     assert_eq!(rt; start.position(), 0);
     Ok(())
 }
