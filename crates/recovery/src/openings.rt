@@ -18,7 +18,7 @@ use log_entry::{Geometry, of_bytes};
 use std::alloc::Global;
 
 /// Opens an image of these words, or refuses it for the first condition of the format that holds. Besides that only want of
-/// memory refuses it: for the map and the bitmap, and no more for the words.
+/// memory refuses it: for the map, the bitmap and the chain's blocks, and no more for the words.
 pub fn open_words(alloc: Global, words: Vec<u64>) -> Result<Opened, OpenRefusal>
     ensures { OpensWords result words.items }
 {
@@ -29,7 +29,7 @@ pub fn open_words(alloc: Global, words: Vec<u64>) -> Result<Opened, OpenRefusal>
 }
 
 /// Opens an image of these bytes, or refuses it for the first condition of the format that holds. Besides that only want of
-/// memory refuses it: for the words, the map and the bitmap.
+/// memory refuses it: for the words, the map, the bitmap and the chain's blocks.
 pub fn open_bytes(alloc: Global, bytes: &[u8]) -> Result<Opened, OpenRefusal>
     ensures { OpensBytes result bytes.now }
 {
