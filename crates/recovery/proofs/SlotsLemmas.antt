@@ -72,6 +72,7 @@ seal_read words shape block position after_seal slot word table taken chain size
 abbrev pub entries_left : List ℕ → Shape → Bool → List ℕ → List Meaning
 entries_left words shape after_seal slots = if after_seal then [] else meanings_of words shape slots
 
+-- whether the block is closed, where it was or was not before these
 abbrev pub closed_left : Bool → List ℕ → Bool
 closed_left after_seal slots = if after_seal then true else is_closed slots
 

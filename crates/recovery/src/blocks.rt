@@ -26,7 +26,7 @@ use opening_rules::BadImage;
 
 /// How a block ends.
 #[derive(Clone, Copy, Debug, PartialEq, Eq)]
-pub struct Ended {
+struct Ended {
     /// Whether another block may follow: this one is of a snapshot, or its slots are full or end with a seal.
     pub closed: bool,
     /// The position after the block.
