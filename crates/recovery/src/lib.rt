@@ -2,6 +2,8 @@
 #![tactic(auto)]
 
 mod bits;
+#[cfg(test)]
+mod block_tests;
 mod blocks;
 mod clearing;
 mod headers;
