@@ -14,7 +14,8 @@ pub record HasBits (shape : Shape) (taken blocks : List ℕ) : Type 0 where
   pub room : total shape ≤ 64 * length taken
   pub bits : (block : ℕ) → block < total shape → bit_of taken block ≡ (if block == 0 || is_among block blocks then 1 else 0)
 
--- the reading is what the blocks passed come to; those are of the log or spare area, and the ones that their entries name of the data area
+-- the reading is what the blocks passed come to; those are of the log or spare area, and the ones that their entries name of the data area.
+-- Before the first block the size is 0
 pub record Agrees (shape : Shape) (reading : Reading) (place : Place) : Type 0 where
   pub chain : reading.chain.items ≡ place.before
   pub in_logs : reading.in_logs ≡ place.in_logs

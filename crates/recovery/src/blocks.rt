@@ -44,7 +44,7 @@ fn is_snapshot(own: &[u64]) -> bool
 /// Whether the kind of a block is not due, where a log block was passed or not.
 fn is_bad_kind(in_logs: bool, own: &[u64]) -> bool
     requires { 3 ≤ length own.now }
-    ensures { result ≡ not (kind_of own.now == 1 || (is_snapshot_block own.now && not in_logs)) }
+    ensures { result ≡ not (kind_of own.now == LOG || (is_snapshot_block own.now && not in_logs)) }
 {
     !(BLOCK_KIND.of(own[1]) == LOG || (is_snapshot(own) && !in_logs))
 }

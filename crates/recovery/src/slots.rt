@@ -152,15 +152,8 @@ pub fn read_log_slots(
             number: 3 + i as u16,
             word,
         };
-        read_log_slot(
-            table,
-            taken,
-            words,
-            geometry,
-            position + entries,
-            after_seal,
-            slot,
-        )?;
+        let before = position + entries;
+        read_log_slot(table, taken, words, geometry, before, after_seal, slot)?;
         after_seal = word == SEAL;
         if !after_seal {
             entries += 1;
