@@ -1,5 +1,6 @@
 pub mod Firsts
-mod OneAnswer
+pub mod OneAnswer
+pub mod WholeWords
 pub mod Naming
 pub mod SlotFacts
 pub mod BlockFacts

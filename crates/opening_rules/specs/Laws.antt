@@ -2,7 +2,7 @@
 use Rattle.std.specs.Prelude.{ℕ, ◌*◌, ◌≡◌, List, length}
 use Rattle.log_image.specs.Header.{shape_of}
 use Rattle.log_image.specs.Stands.{StandsBy}
-use Rattle.opening_rules.specs.Opening.{Refuses, Accepts, chain_of}
+use Rattle.opening_rules.specs.Opening.{Refuses, Accepts, RefusesBytes, AcceptsBytes, chain_of}
 use Rattle.opening_rules.specs.declared.refusals.BadImage.{BadImage}
 
 -- an image has one refusal at most
@@ -12,6 +12,13 @@ HasOneRefusal = (bytes : ℕ) (words : List ℕ) (why other : BadImage) → Refu
 -- an image that is refused is not accepted
 abbrev pub IsNotBoth : Type 0
 IsNotBoth = (bytes : ℕ) (words rest : List ℕ) (why : BadImage) → Refuses bytes words why → Accepts bytes words rest → ⊥
+
+-- the same of an image's bytes
+abbrev pub HasOneRefusalOfBytes : Type 0
+HasOneRefusalOfBytes = (bytes : List ℕ) (why other : BadImage) → RefusesBytes bytes why → RefusesBytes bytes other → why ≡ other
+
+abbrev pub IsNotBothOfBytes : Type 0
+IsNotBothOfBytes = (bytes words rest : List ℕ) (why : BadImage) → RefusesBytes bytes why → AcceptsBytes bytes words rest → ⊥
 
 -- the words of an accepted image stand for a file, by the chain that was walked
 abbrev pub AcceptedStands : Type 0

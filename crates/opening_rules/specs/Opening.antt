@@ -1,6 +1,5 @@
 -- What opening answers: the refusal of the first condition that holds, or the chain of an image of which none holds.
-use Rattle.std.specs.Prelude.{ℕ, ◌+◌, ◌*◌, ◌≡◌, ◌<◌, ◌^◌, List, ◌∷◌, ◌++◌, length, Some, None}
-use Rattle.std.specs.List.{All}
+use Rattle.std.specs.Prelude.{ℕ, ◌+◌, ◌*◌, ◌≡◌, ◌<◌, ◌^◌, List, ◌∷◌, ◌++◌, length, slice_index, Some, None}
 use Rattle.log_entry.specs.WordBytes.{word_bytes}
 use Rattle.log_image.specs.Image.{Shape}
 use Rattle.log_image.specs.Header.{shape_of, head_block}
@@ -40,8 +39,16 @@ pub record AreWordsOf (bytes words : List ℕ) : Type 0 where
   pub rest : List ℕ
   pub bytes_are : bytes ≡ word_bytes words ++ rest
   pub few : length rest < 8
-  pub each : All (λ (word : ℕ). word < 2 ^ 64) words
+  pub small : (index : ℕ) → slice_index words index < 2 ^ 64
 
--- the same of bytes
-abbrev pub RefusesBytes : List ℕ → BadImage → Type 0
-RefusesBytes bytes why = (words : List ℕ) → AreWordsOf bytes words → Refuses (length bytes) words why
+-- the first condition that holds of an image of these bytes gives this refusal
+pub record RefusesBytes (bytes : List ℕ) (why : BadImage) : Type 0 where
+  pub words : List ℕ
+  pub are_words : AreWordsOf bytes words
+  pub refuses : Refuses (length bytes) words why
+
+-- no condition holds of an image of these bytes, which are these words; the walk passes the head's block and then these
+pub record AcceptsBytes (bytes words rest : List ℕ) : Type 0 where
+  pub bytes_are : bytes ≡ word_bytes words
+  pub small : (index : ℕ) → slice_index words index < 2 ^ 64
+  pub accepts : Accepts (8 * length words) words rest

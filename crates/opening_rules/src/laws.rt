@@ -1,6 +1,6 @@
 //! Laws of the definitions, each the contract of a function that does nothing, and worked rows that they compute.
 
-ghost use Rattle.opening_rules.specs.Laws.{HasOneRefusal, IsNotBoth, AcceptedStands};
+ghost use Rattle.opening_rules.specs.Laws.{HasOneRefusal, IsNotBoth, HasOneRefusalOfBytes, IsNotBothOfBytes, AcceptedStands};
 ghost use Rattle.opening_rules.specs.Rows.{BehindHoleAccepted, LinkToItself, NamedTwice, ByteBehindEnd, OneByteShort, OneByteLong, SealInFirstSlot, SlotAfterSeal, BaseNotDue, BadHeaders};
 
 /// Worked images, and what opening answers.
@@ -21,6 +21,8 @@ pub fn law_rows()
 pub fn law_one_answer()
     ensures one_refusal { HasOneRefusal }
     ensures not_both { IsNotBoth }
+    ensures one_refusal_of_bytes { HasOneRefusalOfBytes }
+    ensures not_both_of_bytes { IsNotBothOfBytes }
 {}
 
 /// The words of an accepted image stand for a file, by the chain that was walked.

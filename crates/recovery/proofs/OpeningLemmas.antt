@@ -1,7 +1,7 @@
 -- What an image holds of which no condition holds.
-use Rattle.std.proofs.Common.{◌≡◌, ◌<◌, ◌≤◌, ◌+◌, ◌-◌, ◌*◌, ◌/◌, ◌^◌, ℕ, zero, suc, Bool, true, List, [], ◌∷◌, ◌++◌, length, take, get_or, Err, refl, sym, ap, ◌∙◌, subst, arith, length-append}
+use Rattle.std.proofs.Common.{◌≡◌, ◌<◌, ◌≤◌, ◌+◌, ◌-◌, ◌*◌, ◌/◌, ◌^◌, ℕ, zero, suc, Bool, true, List, [], ◌∷◌, ◌++◌, length, take, drop, get_or, Err, refl, sym, ap, ◌∙◌, subst, arith, length-append}
 use Rattle.std.specs.List.{All, list_all}
-use Rattle.std.proofs.Math.Seq.{take-append_seam}
+use Rattle.std.proofs.lemmas.List.{take-append-drop, length-drop}
 use Rattle.std.proofs.lemmas.List.{take_all, get_or_default}
 use Rattle.log_entry.specs.Fields.{field}
 use Rattle.log_entry.specs.declared.layouts.TheConstants.{HEAD_GENERATION}
@@ -17,7 +17,7 @@ use Rattle.log_image.specs.Holes.{Hole as Place, last_block, hole_in, hole_of}
 use Rattle.log_image.specs.Stands.{StandsBy}
 use Rattle.log_image.proofs.HoldingLemmas.{both_left, both_right}
 use Rattle.opening_rules.specs.Walks.{end_place}
-use Rattle.opening_rules.specs.Opening.{Refuses, chain_of}
+use Rattle.opening_rules.specs.Opening.{Refuses, AcceptsBytes, chain_of}
 use Rattle.opening_rules.proofs.Accepted.{accepted_chain, file_of, stands_by}
 use Rattle.recovery.specs.declared.refusals.OpenRefusal.{OpenRefusal}
 use Rattle.recovery.specs.declared.refusals.OpenRefusal.TheVariants.{Bad, NoMemory}
@@ -96,20 +96,31 @@ pub words_refused : (words : List ℕ) (refusal : OpenRefusal) → PassAnswers (
 words_refused words (Bad why) refuses = refuses
 words_refused words NoMemory refuses = tt
 
--- the whole words of bytes, from their longest beginning that is whole words
-whole_part : (bytes words rest : List ℕ) → bytes ≡ word_bytes words ++ rest → length rest < 8 → word_bytes words ≡ take (8 * (length bytes / 8)) bytes
-whole_part bytes words rest same few =
-    let long : length bytes ≡ 8 * length words + length rest = ap length same ∙ (omega (arith, length-append (word_bytes words) rest, eight_each words)) in
-    let count : 8 * (length bytes / 8) ≡ length (word_bytes words) = omega (arith, long, few, eight_each words) in
-    sym (ap (λ (n : ℕ). take n bytes) count ∙ ap (λ (l : List ℕ). take (length (word_bytes words)) l) same ∙ take-append_seam (word_bytes words) rest)
-
--- a refusal of bytes
+-- a refusal of bytes, of which these are the whole words
 pub bytes_refused : (bytes words : List ℕ) (refusal : OpenRefusal) → PassAnswers (Err refusal) (length bytes) words →
-    ((other : List ℕ) → All (λ (word : ℕ). word < 2 ^ 64) other → word_bytes other ≡ take (8 * (length bytes / 8)) bytes → words ≡ other) → OpensBytes (Err refusal) bytes
-bytes_refused bytes words NoMemory refuses only = tt
-bytes_refused bytes words (Bad why) refuses only = λ other are.
-    subst (λ (l : List ℕ). Refuses (length bytes) l why) (only other are.each (whole_part bytes other are.rest are.bytes_are are.few)) refuses
+    word_bytes words ≡ take (8 * (length bytes / 8)) bytes → ((index : ℕ) → get_or words index 0 < 2 ^ 64) → OpensBytes (Err refusal) bytes
+bytes_refused bytes words NoMemory refuses same small = tt
+bytes_refused bytes words (Bad why) refuses same small = record {
+  words = words;
+  are_words = record {
+    rest = drop (8 * (length bytes / 8)) bytes;
+    bytes_are = rw same (sym (take-append-drop (8 * (length bytes / 8)) bytes));
+    few = omega (arith, length-drop (8 * (length bytes / 8)) bytes);
+    small = small;
+  };
+  refuses = refuses;
+}
 
 -- whole words have all bytes
 pub all_bytes : (bytes words : List ℕ) → word_bytes words ≡ take (8 * (length bytes / 8)) bytes → length bytes ≡ 8 * length words → word_bytes words ≡ bytes
 all_bytes bytes words same exact = same ∙ take_all (8 * (length bytes / 8)) bytes (omega (arith, exact))
+
+-- an accepted image of bytes, of which these are the whole words
+pub bytes_accepted : (bytes words : List ℕ) (geometry : Geometry) (reading : Reading) (opened : List ℕ) → HasPassed (length bytes) words geometry reading → opened ≡ words → word_bytes words ≡ take (8 * (length bytes / 8)) bytes →
+    ((index : ℕ) → get_or words index 0 < 2 ^ 64) → (rest : List ℕ) × AcceptsBytes bytes opened rest
+bytes_accepted bytes words geometry reading opened passed same beginning small =
+    rw same (passed.rest, record {
+      bytes_are = sym (all_bytes bytes words beginning passed.exact);
+      small = small;
+      accepts = rw passed.exact at passed.accepts;
+    })

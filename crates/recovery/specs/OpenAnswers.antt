@@ -1,7 +1,6 @@
 -- What opening answers.
 use Rattle.std.specs.Prelude.{ℕ, ◌*◌, ◌≡◌, List, length, Result, Ok, Err}
-use Rattle.log_entry.specs.WordBytes.{word_bytes}
-use Rattle.opening_rules.specs.Opening.{Refuses, Accepts, RefusesBytes}
+use Rattle.opening_rules.specs.Opening.{Refuses, Accepts, RefusesBytes, AcceptsBytes}
 use Rattle.recovery.specs.declared.refusals.OpenRefusal.{OpenRefusal}
 use Rattle.recovery.specs.declared.refusals.OpenRefusal.TheVariants.{Bad, NoMemory}
 use Rattle.recovery.specs.declared.opened.Opened.{Opened}
@@ -14,6 +13,6 @@ OpensWords (Err NoMemory) words = Unit {0}
 
 -- the same of an image's bytes
 abbrev pub OpensBytes : Result Opened OpenRefusal → List ℕ → Type 0
-OpensBytes (Ok opened) bytes = (word_bytes opened.words.items ≡ bytes) × ((rest : List ℕ) × Accepts (length bytes) opened.words.items rest)
+OpensBytes (Ok opened) bytes = (rest : List ℕ) × AcceptsBytes bytes opened.words.items rest
 OpensBytes (Err (Bad why)) bytes = RefusesBytes bytes why
 OpensBytes (Err NoMemory) bytes = Unit {0}

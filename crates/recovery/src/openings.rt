@@ -1,6 +1,6 @@
 //! Opening an image: all conditions on it, or what it holds.
 
-ghost use Rattle.std.specs.Prelude.{◌≡◌, ◌*◌, ◌/◌, ◌%◌, length, take};
+ghost use Rattle.std.specs.Prelude.{◌≡◌, ◌<◌, ◌*◌, ◌/◌, ◌%◌, ◌^◌, ℕ, length, take, slice_index};
 ghost use Rattle.log_image.specs.Header.{shape_of};
 ghost use Rattle.log_image.specs.Holes.{hole_of};
 ghost use Rattle.recovery.specs.Openings.{place_of};
@@ -36,10 +36,18 @@ pub fn open_bytes(alloc: Global, bytes: &[u8]) -> Result<Opened, OpenRefusal>
     let Ok(words) = of_bytes(alloc, whole_words(bytes)) else {
         return Err(OpenRefusal::NoMemory);
     };
+    note_range(&words);
     match pass(alloc, bytes.len() as u64, &words) {
         Err(refusal) => Err(refusal),
         Ok(passed) => Ok(opened_by(words, passed)),
     }
+}
+
+/// Says of words what their type says, for the clause of `open_bytes`.
+fn note_range(words: &[u64])
+    ensures { (index : ℕ) → slice_index words.now index < 2 ^ 64 }
+{
+    let _count = words.len();
 }
 
 /// The longest beginning that is whole words.
