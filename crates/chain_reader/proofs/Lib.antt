@@ -4,3 +4,4 @@ pub mod RunsLemmas
 pub mod SlotLemmas
 pub mod ChainLemmas
 pub mod WalkLemmas
+pub mod TestLemmas

@@ -4,6 +4,8 @@
 pub mod blocks;
 pub mod reading;
 pub mod taking;
+#[cfg(test)]
+mod tests;
 
 pub use reading::{ChainRead, read_chain};
 pub use taking::{block_at, take_in, take_in_snapshot};

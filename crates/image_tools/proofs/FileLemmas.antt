@@ -1,6 +1,5 @@
 -- The bytes of a file, laid block after block.
 use Rattle.std.proofs.Common.{◌≡◌, ◌<◌, ◌≤◌, ◌+◌, ◌-◌, ◌*◌, ◌/◌, ◌%◌, ◌==◌, ◌||◌, ◌⊎◌, inl, inr, min, ℕ, zero, suc, true, List, [], ◌++◌, length, take, get_or, Option, Some, None, IfSome, refl, sym, ap, ◌∙◌, subst, arith}
-use Rattle.std.specs.Prelude.{replicate}
 use Rattle.std.specs.Int.{div_ceil}
 use Rattle.std.proofs.lemmas.Grind.{div_ceil_times}
 use Rattle.log_entry.specs.declared.shapes.Geometry.{Geometry}
@@ -20,6 +19,7 @@ use Rattle.chain_reader.specs.Tables.{shape_by, HasMap}
 use Rattle.chain_reader.specs.Reads.{IsReadOf}
 use Rattle.chain_reader.specs.declared.reading.ChainRead.{ChainRead}
 use Rattle.chain_reader.proofs.WalkLemmas.{same_shape}
+use Rattle.image_tools.proofs.BitLemmas.{zeros_at}
 use Rattle.image_tools.proofs.StartLemmas.{IsRead}
 use Rattle.image_tools.specs.Files.{held_bytes}
 
@@ -79,11 +79,6 @@ one_laid words shape table size virt count bytes new is longer more same are = r
         ∙ get_or-append-add bytes (take count (held_bytes words shape (block_at table virt))) at 0
         ∙ get_or-take count (held_bytes words shape (block_at table virt)) at 0 few
         ∙ ap (λ (n : ℕ). get_or (held_bytes words shape (block_at table n)) at 0) (sym here)
-
-zeros_at : (count place : ℕ) → ◌≡◌ {A = ℕ} (get_or (replicate count 0) place 0) 0
-zeros_at zero place = refl
-zeros_at (suc count) zero = refl
-zeros_at (suc count) (suc place) = zeros_at count place
 
 -- a virtual block holds the file's bytes
 held_at : (words : List ℕ) (shape : Shape) (entries : List Meaning) (file : List ℕ) → HoldsFile words shape entries file → (virt at : ℕ) → at < shape.block_bytes → (found : Option ℕ) → map_of entries virt ≡ found →

@@ -6,13 +6,10 @@ use Rattle.log_entry.specs.Geometry.{HasShape}
 use Rattle.log_entry.specs.declared.shapes.Geometry.{Geometry}
 use Rattle.log_image.specs.Header.{shape_of}
 use Rattle.log_image.specs.Holes.{AtSlot, is_after, IsClear}
-use Rattle.log_image.specs.Stands.{StandsBy}
 use Rattle.log_image.specs.Taken.{bit_of, is_taken}
 use Rattle.log_image.specs.Keeps.{Keeps}
 use Rattle.log_image.specs.Rows.{collected}
-use Rattle.log_image.specs.Chains.{IsChain}
-use Rattle.log_image.proofs.OneChain.{one_chain}
-use Rattle.log_image.proofs.StandingRows.{after_collection}
+use Rattle.chain_reader.proofs.TestLemmas.{stands_collected}
 use Rattle.log_image.proofs.StartRows.{at_each}
 
 bits_of_collected : (block : ℕ) → block < 24 → bit_of (55 ∷ []) block ≡ (if is_taken collected (shape_of collected) (5 ∷ 4 ∷ []) block then 1 else 0)
@@ -33,11 +30,7 @@ clear_collected place after = at_place (nat_lt place 192) refl
         (at_each (λ (k : ℕ). not (is_after (shape_of collected) (AtSlot 4 4) k) || get_or collected k 0 == 0) 192 place refl (ltb-true place 192 is)) after)
     at_place false is = get_or_past collected place 0 (ltb-false place 192 is)
 
-stands_collected : StandsBy collected (5 ∷ 4 ∷ []) (204 ∷ []) 3
-stands_collected =
-    let is : IsChain collected (shape_of collected) (5 ∷ 4 ∷ []) = record { linked = (refl, (refl, refl, refl)); different = refl; snapshots = ((refl, refl), tt); logs = (refl, refl, tt) } in
-    subst (λ (l : List ℕ). StandsBy collected l (204 ∷ []) 3) (one_chain collected (shape_of collected) after_collection.0 (5 ∷ 4 ∷ []) after_collection.1.stands.is_chain is) after_collection.1
-
+-- what is kept of it
 pub kept_collected : (geometry : Geometry) (words taken : List ℕ) → HasShape geometry 2 1 64 → words ≡ collected → taken ≡ 55 ∷ [] → Keeps geometry words taken 2 3 1
 kept_collected geometry words taken shaped same_words same_taken =
     subst (λ (l : List ℕ). Keeps geometry l taken 2 3 1) (sym same_words) (subst (λ (l : List ℕ). Keeps geometry collected l 2 3 1) (sym same_taken) (record {

@@ -6,8 +6,7 @@ ghost use Rattle.log_image.specs.Stands.{StandsBy, Stands};
 ghost use Rattle.chain_reader.specs.Tables.{shape_by};
 ghost use Rattle.image_tools.specs.Files.{held_bytes};
 
-use chain_reader::read_chain;
-use chain_reader::block_at;
+use chain_reader::{block_at, read_chain};
 use log_entry::{Geometry, to_bytes};
 use log_image::Start;
 use std::alloc::{AllocError, Global};

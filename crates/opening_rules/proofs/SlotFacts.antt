@@ -45,8 +45,8 @@ module _ (words : List ℕ) (shape : Shape) (block : ℕ) where
       at true is = is_it word is
       at false is =
           let clean : first (check true (BadEntry block slot word)
-              ∷ (if word == SEAL then log_slot_checks words shape block position entries true (slot + 1) rest
-              else share_checks (all_names entries) (names (meaning words shape word)) ++ log_slot_checks words shape block (position + 1) (entries ++ meaning words shape word ∷ []) false (slot + 1) rest)) ≡ None = rw is at clean in
+          ∷ (if word == SEAL then log_slot_checks words shape block position entries true (slot + 1) rest
+          else share_checks (all_names entries) (names (meaning words shape word)) ++ log_slot_checks words shape block (position + 1) (entries ++ meaning words shape word ∷ []) false (slot + 1) rest)) ≡ None = rw is at clean in
           cc
 
   pub log_slots : (position slot : ℕ) (entries : List Meaning) (slots : List ℕ) → first (log_slot_checks words shape block position entries false slot slots) ≡ None → position < 2 ^ 40 → all_different (all_names entries) ≡ true → LogSlots words shape position entries slots

@@ -119,8 +119,11 @@ all_bytes bytes words same exact = same ∙ take_all (8 * (length bytes / 8)) by
 pub bytes_accepted : (bytes words : List ℕ) (geometry : Geometry) (reading : Reading) (opened : List ℕ) → HasPassed (length bytes) words geometry reading → opened ≡ words → word_bytes words ≡ take (8 * (length bytes / 8)) bytes →
     ((index : ℕ) → get_or words index 0 < 2 ^ 64) → (rest : List ℕ) × AcceptsBytes bytes opened rest
 bytes_accepted bytes words geometry reading opened passed same beginning small =
-    rw same (passed.rest, record {
-      bytes_are = sym (all_bytes bytes words beginning passed.exact);
-      small = small;
-      accepts = rw passed.exact at passed.accepts;
-    })
+    rw same (
+      passed.rest,
+      record {
+        bytes_are = sym (all_bytes bytes words beginning passed.exact);
+        small = small;
+        accepts = rw passed.exact at passed.accepts;
+      },
+    )
