@@ -3,6 +3,7 @@
 
 pub mod dumps;
 pub mod files;
+pub mod laws;
 pub mod lines;
 pub mod making;
 
