@@ -1,11 +1,10 @@
 -- The words of an accepted image stand for a file.
-use Rattle.std.proofs.Common.{◌≡◌, ◌*◌, ◌<◌, ◌^◌, ℕ, true, List, ◌∷◌, length, refl, sym, ap, ◌∙◌, subst}
+use Rattle.std.proofs.Common.{◌≡◌, ◌*◌, ◌<◌, ◌^◌, ℕ, true, List, length, refl, sym, subst}
 use Rattle.log_image.specs.Header.{shape_of, head_block}
 use Rattle.log_image.specs.Entries.{Meaning, all_names}
-use Rattle.log_image.specs.Chains.{all_different, IsChain}
+use Rattle.log_image.specs.Chains.{all_different}
 use Rattle.log_image.specs.Positions.{entries_of, position_of, size_at_end}
-use Rattle.log_image.specs.Format.{HasFormat}
-use Rattle.log_image.specs.Stands.{HoldsFile, StandsBy}
+use Rattle.log_image.specs.Stands.{StandsBy}
 use Rattle.opening_rules.specs.BlockChecks.{start}
 use Rattle.opening_rules.specs.Walks.{end_place}
 use Rattle.opening_rules.specs.Slack.{HasNoSlack}

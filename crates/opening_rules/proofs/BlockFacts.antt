@@ -1,18 +1,17 @@
 -- What a block of the chain is of which no condition holds.
-use Rattle.std.proofs.Common.{◌≡◌, ◌<◌, ◌+◌, ◌-◌, ◌^◌, ◌==◌, ◌&&◌, ◌||◌, not, nat_le, nat_lt, ℕ, Bool, true, false, List, [], ◌∷◌, ◌++◌, length, get_or, take, drop, map, None, if◌then◌else◌, refl, sym, ap, ◌∙◌, subst, arith}
+use Rattle.std.proofs.Common.{◌≡◌, ◌<◌, ◌+◌, ◌-◌, ◌^◌, ◌==◌, ◌&&◌, ◌||◌, not, nat_le, nat_lt, ℕ, Bool, true, false, List, [], ◌∷◌, ◌++◌, length, get_or, take, drop, map, None, refl, arith}
 use Rattle.std.specs.List.{list_all}
 use Rattle.std.proofs.lemmas.Bool.Decides.{nat_tests}
 use Rattle.std.proofs.Math.Nat.{mod-lt}
 use Rattle.log_entry.specs.Shape.{limit_of}
-use Rattle.log_entry.specs.Fields.{field}
-use Rattle.log_entry.specs.declared.layouts.TheConstants.{EMPTY, SEAL, LOG, SNAPSHOT, BLOCK_UNNAMED}
+use Rattle.log_entry.specs.declared.layouts.TheConstants.{EMPTY, SEAL, LOG, SNAPSHOT}
 use Rattle.log_image.specs.Image.{Shape, words_in, is_in_log}
-use Rattle.log_image.specs.Entries.{Meaning, direct_meaning, meaning, names, all_names}
+use Rattle.log_image.specs.Entries.{Meaning, direct_meaning, meaning, all_names}
 use Rattle.log_image.specs.Blocks.{link_of, kind_of, is_snapshot, base_of, entry_count, file_size, slots_of, entry_words, leads_on}
 use Rattle.log_image.specs.Chains.{all_different}
 use Rattle.log_image.specs.Format.{all_zero, is_log_entry, is_snapshot_entry, is_seal_last, is_seal_placed, is_log_block, is_snapshot_block, is_kind_word}
-use Rattle.opening_rules.specs.Checks.{Check, check, first}
-use Rattle.opening_rules.specs.SlotChecks.{is_among, share_checks, is_bad_slot, log_slot_checks, snapshot_slot_checks}
+use Rattle.opening_rules.specs.Checks.{check, first}
+use Rattle.opening_rules.specs.SlotChecks.{is_among, log_slot_checks, snapshot_slot_checks}
 use Rattle.opening_rules.specs.BlockChecks.{Place, is_first, is_bad_kind, is_bad_base, is_bad_second, is_bad_third, is_bad_link, slot_checks, block_checks}
 use Rattle.opening_rules.specs.declared.refusals.BadImage.TheVariants.{BadBase, BadEntry, BadLink}
 use Rattle.opening_rules.proofs.Firsts.{clean_here, clean_left, clean_right}

@@ -1,18 +1,17 @@
 -- What the blocks are that a walk passes.
-use Rattle.std.proofs.Common.{◌≡◌, ◌<◌, ◌+◌, ◌^◌, ◌==◌, ◌&&◌, ◌||◌, not, ℕ, Bool, true, false, List, [], ◌∷◌, ◌++◌, length, get_or, take, map, None, if◌then◌else◌, max, refl, sym, ap, ◌∙◌, subst, append-nil, append_assoc, length-append, arith}
+use Rattle.std.proofs.Common.{◌≡◌, ◌<◌, ◌+◌, ◌^◌, ◌&&◌, ℕ, Bool, true, false, List, [], ◌∷◌, ◌++◌, length, take, map, max, refl, sym, ap, ◌∙◌, append-nil, append_assoc, length-append, arith}
 use Rattle.std.specs.List.{list_all, flat_map}
 use Rattle.std.proofs.lemmas.List.{map-append}
 use Rattle.log_image.specs.Image.{Shape, block_words}
-use Rattle.log_image.specs.Header.{head_block}
 use Rattle.log_image.specs.Entries.{Meaning, direct_meaning, meaning, all_names}
 use Rattle.log_image.specs.Maps.{end_of, size_after}
-use Rattle.log_image.specs.Blocks.{is_snapshot, base_of, entry_count, file_size, slots_of, entry_words, leads_on}
-use Rattle.log_image.specs.Chains.{all_different, snapshots_of, logs_of, first_base, first_size, snapshot_base, snapshot_size, HaveOneBase, AreLogsFrom}
+use Rattle.log_image.specs.Blocks.{is_snapshot, base_of, entry_count, file_size, slots_of, entry_words}
+use Rattle.log_image.specs.Chains.{all_different, snapshots_of, logs_of, snapshot_base, snapshot_size, HaveOneBase, AreLogsFrom}
 use Rattle.log_image.specs.Positions.{snapshot_entries, log_words, log_entries, entries_of, position_of, size_at_end}
 use Rattle.log_image.specs.Format.{is_log_block, is_snapshot_block, is_kind_word}
 use Rattle.opening_rules.specs.BlockChecks.{Place, start, is_first, after}
-use Rattle.opening_rules.specs.Walks.{PassesFrom, end_from, Passes, end_place}
-use Rattle.opening_rules.proofs.BlockFacts.{CleanParts, clean_parts, good_word, LogBlock, log_block, SnapshotBlock, snapshot_block}
+use Rattle.opening_rules.specs.Walks.{PassesFrom, end_from}
+use Rattle.opening_rules.proofs.BlockFacts.{CleanParts, clean_parts, good_word, log_block, SnapshotBlock, snapshot_block}
 
 -- the size after entries and moved others
 size_after_more : (shape : Shape) (size : ℕ) (entries others : List Meaning) → size_after shape size (entries ++ others) ≡ size_after shape (size_after shape size entries) others

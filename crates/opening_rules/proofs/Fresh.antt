@@ -1,10 +1,8 @@
 -- The blocks that a walk passes are different, and lead one to the next.
-use Rattle.std.proofs.Common.{◌≡◌, ◌==◌, ◌&&◌, not, ℕ, Bool, true, false, List, [], ◌∷◌, ◌++◌, None, refl, sym, ap, ◌∙◌, subst}
+use Rattle.std.proofs.Common.{◌≡◌, ◌&&◌, not, ℕ, Bool, true, false, List, [], ◌∷◌, ◌++◌, refl, subst}
 use Rattle.std.specs.List.{list_all}
 use Rattle.log_image.specs.Image.{Shape, is_in_log, block_words}
-use Rattle.log_image.specs.Header.{head_block}
-use Rattle.log_image.specs.Blocks.{link_of}
-use Rattle.log_image.specs.Chains.{all_different, Leads, IsLinked}
+use Rattle.log_image.specs.Chains.{all_different, Leads}
 use Rattle.opening_rules.specs.SlotChecks.{is_among}
 use Rattle.opening_rules.specs.BlockChecks.{Place, start, after}
 use Rattle.opening_rules.specs.Walks.{PassesFrom}

@@ -1,14 +1,14 @@
 -- What a header is of which no condition holds.
-use Rattle.std.proofs.Common.{◌≡◌, ◌<◌, ◌*◌, ◌==◌, ◌||◌, not, nat_lt, ℕ, zero, suc, Bool, true, false, List, [], ◌∷◌, length, get_or, Option, Some, None, refl, sym, ap, ◌∙◌, arith}
+use Rattle.std.proofs.Common.{◌≡◌, ◌<◌, ◌*◌, ◌==◌, ◌||◌, not, nat_lt, ℕ, Bool, true, false, List, [], ◌∷◌, length, get_or, Option, Some, None, refl, arith}
 use Rattle.std.proofs.lemmas.Bool.Decides.{nat_tests}
 use Rattle.log_entry.specs.Fields.{field}
 use Rattle.log_entry.specs.Geometry.{shape_refusal}
 use Rattle.log_entry.specs.declared.shapes.BadShape.{BadShape}
 use Rattle.log_entry.specs.declared.layouts.TheConstants.{HEAD_UNNAMED}
-use Rattle.log_image.specs.Image.{Shape, words_in, total, is_in_log}
+use Rattle.log_image.specs.Image.{words_in, total, is_in_log}
 use Rattle.log_image.specs.Header.{shape_of, head_block, generation_of, HasHeader}
 use Rattle.log_image.specs.declared.header.TheConstants.{MAGIC, VERSION, HEADER_VERSION, HEADER_BLOCK_POWER, HEADER_UNNAMED}
-use Rattle.opening_rules.specs.Checks.{Check, check, first}
+use Rattle.opening_rules.specs.Checks.{check, first}
 use Rattle.opening_rules.specs.HeaderChecks.{is_some, is_bad_power, is_refused, is_bad_geometry, is_bad_head, image_bytes, header_checks}
 use Rattle.opening_rules.specs.declared.refusals.BadImage.TheVariants.{Short, BadMagic, BadVersion, BadGeometry, BadHead, Long}
 use Rattle.opening_rules.proofs.Firsts.{clean_here}

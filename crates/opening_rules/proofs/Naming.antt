@@ -1,10 +1,10 @@
 -- Blocks that are named once.
-use Rattle.std.proofs.Common.{◌≡◌, ℕ, Bool, true, false, not, ◌&&◌, ◌||◌, ◌==◌, List, [], ◌∷◌, ◌++◌, None, refl, sym, ap, ◌∙◌, subst, append-nil, append_assoc, arith}
-use Rattle.std.specs.List.{list_any, list_all}
+use Rattle.std.proofs.Common.{◌≡◌, ℕ, Bool, true, false, not, ◌&&◌, ◌||◌, ◌==◌, List, [], ◌∷◌, ◌++◌, None, refl, sym, ◌∙◌, subst, append-nil, append_assoc, arith}
+use Rattle.std.specs.List.{list_all}
 use Rattle.std.proofs.lemmas.Bool.Decides.{nat_tests}
 use Rattle.std.proofs.lemmas.List.Folds.{list_any-append}
 use Rattle.log_image.specs.Chains.{all_different}
-use Rattle.opening_rules.specs.Checks.{check, first}
+use Rattle.opening_rules.specs.Checks.{first}
 use Rattle.opening_rules.specs.SlotChecks.{is_among, share_checks}
 use Rattle.opening_rules.specs.declared.refusals.BadImage.TheVariants.{BadShare}
 use Rattle.opening_rules.proofs.Firsts.{clean_here}

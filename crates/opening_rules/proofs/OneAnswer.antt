@@ -1,13 +1,13 @@
 -- An image has one answer.
-use Rattle.std.proofs.Common.{◌≡◌, ◌<◌, ◌≤◌, ℕ, List, [], ◌∷◌, Some, None, ◌⊎◌, inl, inr, refl, sym, ap, ◌∙◌, subst, arith}
+use Rattle.std.proofs.Common.{◌≡◌, ◌<◌, ◌≤◌, ℕ, List, [], ◌∷◌, ◌⊎◌, inl, inr, refl, sym, ap, ◌∙◌, subst, arith}
 use Rattle.std.proofs.lemmas.Bool.{cases_lt}
 use Rattle.log_image.specs.Image.{Shape, block_words}
 use Rattle.log_image.specs.Header.{shape_of, head_block}
 use Rattle.log_image.specs.Entries.{Meaning}
 use Rattle.opening_rules.specs.BlockChecks.{Place, start, after}
-use Rattle.opening_rules.specs.Walks.{PassesFrom, RefusesFrom, end_place, WalkRefuses}
+use Rattle.opening_rules.specs.Walks.{PassesFrom, RefusesFrom, end_place}
 use Rattle.opening_rules.specs.Slack.{HasSlack, FirstSlack}
-use Rattle.opening_rules.specs.Opening.{SlackRefuses, Refuses, ByHeader, ByWalk, BySlack, Accepts}
+use Rattle.opening_rules.specs.Opening.{SlackRefuses, ByHeader, ByWalk, BySlack}
 use Rattle.opening_rules.specs.Laws.{HasOneRefusal, IsNotBoth}
 use Rattle.opening_rules.specs.declared.refusals.BadImage.{BadImage}
 use Rattle.opening_rules.specs.declared.refusals.BadImage.TheVariants.{BadSlack}

@@ -1,6 +1,6 @@
 -- What the slots of a block are of which no condition holds.
-use Rattle.std.proofs.Common.{◌≡◌, ◌<◌, ◌+◌, ◌^◌, ◌==◌, ◌&&◌, ◌||◌, not, nat_le, ℕ, zero, suc, Bool, true, false, List, [], ◌∷◌, ◌++◌, length, get_or, take, drop, map, None, if◌then◌else◌, refl, sym, ap, ◌∙◌, subst, append-nil, append_assoc, arith}
-use Rattle.std.specs.List.{list_all, flat_map}
+use Rattle.std.proofs.Common.{◌≡◌, ◌<◌, ◌+◌, ◌^◌, ◌==◌, ◌||◌, not, nat_le, ℕ, zero, suc, Bool, true, false, List, [], ◌∷◌, ◌++◌, length, get_or, take, drop, map, None, if◌then◌else◌, refl, sym, ap, ◌∙◌, subst, append-nil, append_assoc, arith}
+use Rattle.std.specs.List.{list_all}
 use Rattle.std.proofs.lemmas.Bool.Decides.{nat_tests}
 use Rattle.std.proofs.lemmas.Grind.{flat_map-append}
 use Rattle.log_entry.specs.declared.layouts.TheConstants.{EMPTY, SEAL}
@@ -10,7 +10,7 @@ use Rattle.log_image.specs.Blocks.{entry_words}
 use Rattle.log_image.specs.Chains.{all_different}
 use Rattle.log_image.specs.Format.{all_zero, is_log_entry, is_snapshot_entry, is_seal_last}
 use Rattle.opening_rules.specs.Checks.{check, first}
-use Rattle.opening_rules.specs.SlotChecks.{share_checks, is_bad_slot, log_slot_checks, snapshot_slot_checks}
+use Rattle.opening_rules.specs.SlotChecks.{share_checks, log_slot_checks, snapshot_slot_checks}
 use Rattle.opening_rules.specs.declared.refusals.BadImage.TheVariants.{BadEntry}
 use Rattle.opening_rules.proofs.Firsts.{clean_here, clean_left, clean_right}
 use Rattle.opening_rules.proofs.Naming.{shares_once}

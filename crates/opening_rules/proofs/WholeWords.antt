@@ -1,13 +1,12 @@
 -- Bytes have one list of whole words, so one answer.
-use Rattle.std.proofs.Common.{◌≡◌, ◌+◌, ◌*◌, ◌/◌, ◌^◌, ◌<◌, ℕ, List, [], ◌∷◌, ◌++◌, length, get_or, take, refl, sym, ap, ◌∙◌, subst, append-nil, length-append, arith}
+use Rattle.std.proofs.Common.{◌≡◌, ◌+◌, ◌*◌, ◌/◌, ◌^◌, ◌<◌, ℕ, List, [], length, get_or, take, sym, ap, ◌∙◌, subst, append-nil, length-append, arith}
 use Rattle.std.specs.List.{All}
 use Rattle.std.proofs.lemmas.List.Elements.{All-from_get_or}
 use Rattle.std.proofs.Math.Seq.{take-append_seam}
 use Rattle.log_entry.specs.WordBytes.{word_bytes}
 use Rattle.log_entry.proofs.WordBytesLemmas.{eight_each, words_back}
-use Rattle.opening_rules.specs.Opening.{Refuses, Accepts, AreWordsOf, RefusesBytes, AcceptsBytes}
+use Rattle.opening_rules.specs.Opening.{Refuses, Accepts, AreWordsOf, AcceptsBytes}
 use Rattle.opening_rules.specs.Laws.{HasOneRefusalOfBytes, IsNotBothOfBytes}
-use Rattle.opening_rules.specs.declared.refusals.BadImage.{BadImage}
 use Rattle.opening_rules.proofs.OneAnswer.{one_refusal, not_both}
 
 all_small : (words : List ℕ) → ((index : ℕ) → get_or words index 0 < 2 ^ 64) → All (λ (word : ℕ). word < 2 ^ 64) words

@@ -1,5 +1,5 @@
 -- The worked images have the answers that are stated.
-use Rattle.std.proofs.Common.{◌≡◌, [], refl, arith}
+use Rattle.std.proofs.Common.{[], refl, arith}
 use Rattle.opening_rules.specs.Opening.{ByHeader, ByWalk, BySlack}
 use Rattle.opening_rules.specs.Rows.{BehindHoleAccepted, LinkToItself, NamedTwice, ByteBehindEnd, OneByteShort, OneByteLong, SealInFirstSlot, SlotAfterSeal, BaseNotDue, BadHeaders}
 

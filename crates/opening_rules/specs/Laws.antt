@@ -1,6 +1,5 @@
 -- What follows for every image.
 use Rattle.std.specs.Prelude.{ℕ, ◌*◌, ◌≡◌, List, length}
-use Rattle.log_image.specs.Header.{shape_of}
 use Rattle.log_image.specs.Stands.{StandsBy}
 use Rattle.opening_rules.specs.Opening.{Refuses, Accepts, RefusesBytes, AcceptsBytes, chain_of}
 use Rattle.opening_rules.specs.declared.refusals.BadImage.{BadImage}

@@ -1,5 +1,5 @@
 -- What opening answers: the refusal of the first condition that holds, or the chain of an image of which none holds.
-use Rattle.std.specs.Prelude.{ℕ, ◌+◌, ◌*◌, ◌≡◌, ◌<◌, ◌^◌, List, ◌∷◌, ◌++◌, length, slice_index, Some, None}
+use Rattle.std.specs.Prelude.{ℕ, ◌*◌, ◌≡◌, ◌<◌, ◌^◌, List, ◌∷◌, ◌++◌, length, slice_index, Some, None}
 use Rattle.log_entry.specs.WordBytes.{word_bytes}
 use Rattle.log_image.specs.Image.{Shape}
 use Rattle.log_image.specs.Header.{shape_of, head_block}
