@@ -1,12 +1,11 @@
 -- What an image holds of which no condition holds.
-use Rattle.std.proofs.Common.{◌≡◌, ◌<◌, ◌≤◌, ◌+◌, ◌-◌, ◌*◌, ◌/◌, ◌^◌, ℕ, zero, suc, Bool, true, List, [], ◌∷◌, ◌++◌, length, take, drop, get_or, Err, refl, sym, ap, ◌∙◌, subst, arith, length-append}
-use Rattle.std.specs.List.{All, list_all}
+use Rattle.std.proofs.Common.{◌≡◌, ◌<◌, ◌≤◌, ◌-◌, ◌*◌, ◌/◌, ◌^◌, ℕ, zero, suc, Bool, true, List, [], ◌∷◌, ◌++◌, length, take, drop, get_or, Err, refl, sym, ap, ◌∙◌, subst, arith}
+use Rattle.std.specs.List.{list_all}
 use Rattle.std.proofs.lemmas.List.{take-append-drop, length-drop}
 use Rattle.std.proofs.lemmas.List.{take_all, get_or_default}
 use Rattle.log_entry.specs.Fields.{field}
 use Rattle.log_entry.specs.declared.layouts.TheConstants.{HEAD_GENERATION}
 use Rattle.log_entry.specs.WordBytes.{word_bytes}
-use Rattle.log_entry.proofs.WordBytesLemmas.{eight_each}
 use Rattle.log_entry.specs.declared.shapes.Geometry.{Geometry}
 use Rattle.log_image.specs.Image.{Shape, block_words}
 use Rattle.log_image.specs.Header.{shape_of, generation_of}
@@ -17,7 +16,7 @@ use Rattle.log_image.specs.Holes.{Hole as Place, last_block, hole_in, hole_of}
 use Rattle.log_image.specs.Stands.{StandsBy}
 use Rattle.log_image.proofs.HoldingLemmas.{both_left, both_right}
 use Rattle.opening_rules.specs.Walks.{end_place}
-use Rattle.opening_rules.specs.Opening.{Refuses, AcceptsBytes, chain_of}
+use Rattle.opening_rules.specs.Opening.{AcceptsBytes, chain_of}
 use Rattle.opening_rules.proofs.Accepted.{accepted_chain, file_of, stands_by}
 use Rattle.recovery.specs.declared.refusals.OpenRefusal.{OpenRefusal}
 use Rattle.recovery.specs.declared.refusals.OpenRefusal.TheVariants.{Bad, NoMemory}
