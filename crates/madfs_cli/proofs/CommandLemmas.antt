@@ -1,8 +1,10 @@
 -- Lists of words by their places.
-use Rattle.std.proofs.Common.{◌≡◌, ℕ, List, [], ◌∷◌, length, Option, None, Some, sym, ap, ◌∙◌, arith}
+use Rattle.std.proofs.Common.{◌≡◌, ℕ, List, [], ◌∷◌, length, Option, None, Some, refl, sym, ap, ◌∙◌, codes, arith, MatchOption}
 use Rattle.std.specs.Prelude.{slice_get}
 use Rattle.log_entry.specs.Text.{number_of}
-use Rattle.log_entry.specs.Geometry.{shape_refusal, HasShape}
+use Rattle.log_image.specs.Image.{Shape}
+use Rattle.chain_reader.specs.Tables.{shape_by}
+use Rattle.madfs_cli.specs.Commands.{IsMkfs, IsTry, SaysShapeAt}
 use Rattle.log_entry.specs.declared.shapes.Geometry.{Geometry}
 
 -- five words that were read at their places are the list
@@ -20,6 +22,71 @@ five_words (v ∷ w ∷ x ∷ y ∷ z ∷ more ∷ rest) a b c d e five at0 at1 
 pub read_word : (text bytes : List ℕ) (result : Option ℕ) (m n : ℕ) → bytes ≡ text → result ≡ number_of bytes → result ≡ Some n → m ≡ n → number_of text ≡ Some m
 read_word text bytes result m n same read found equal = ap number_of (sym same) ∙ (sym read ∙ (found ∙ ap Some (sym equal)))
 
--- a shape has the numbers that it was made of
-pub shaped : (shape : Geometry) (data_blocks log_blocks block_bytes : ℕ) → shape_refusal data_blocks log_blocks block_bytes ≡ None → HasShape shape data_blocks log_blocks block_bytes → shape_refusal shape.data_blocks shape.log_blocks shape.block_bytes ≡ None
-shaped shape data_blocks log_blocks block_bytes none has = rw (has.same_data, has.same_log, has.same_bytes) none
+-- four words that were read at their places are the list
+pub four_words : (words : List (List ℕ)) (a b c d : List ℕ) → length words ≡ 4 → slice_get words 0 ≡ Some a → slice_get words 1 ≡ Some b → slice_get words 2 ≡ Some c → slice_get words 3 ≡ Some d → words ≡ a ∷ b ∷ c ∷ d ∷ []
+four_words [] a b c d four at0 at1 at2 at3 = absurd (omega arith)
+four_words (v ∷ []) a b c d four at0 at1 at2 at3 = absurd (omega arith)
+four_words (v ∷ w ∷ []) a b c d four at0 at1 at2 at3 = absurd (omega arith)
+four_words (v ∷ w ∷ x ∷ []) a b c d four at0 at1 at2 at3 = absurd (omega arith)
+four_words (v ∷ w ∷ x ∷ y ∷ []) a b c d four at0 at1 at2 at3 = cc
+four_words (v ∷ w ∷ x ∷ y ∷ z ∷ rest) a b c d four at0 at1 at2 at3 = absurd (omega arith)
+
+-- one word that was read at its place is the list
+pub one_word : (words : List (List ℕ)) (a : List ℕ) → length words ≡ 1 → slice_get words 0 ≡ Some a → words ≡ a ∷ []
+one_word [] a one at0 = absurd (omega arith)
+one_word (v ∷ []) a one at0 = cc
+one_word (v ∷ w ∷ rest) a one at0 = absurd (omega arith)
+
+-- the words of `mkfs` are its name and three words that say a shape
+pub says_mkfs : (words : List (List ℕ)) (name : List ℕ) (shape : Shape) → length words ≡ 4 → slice_get words 0 ≡ Some name → name ≡ codes "mkfs" → SaysShapeAt words shape → IsMkfs words shape
+says_mkfs words name shape four first is says = record {
+  data_word = says.data_word;
+  log_word = says.log_word;
+  bytes_word = says.bytes_word;
+  words_are = four_words words (codes "mkfs") says.data_word says.log_word says.bytes_word four (first ∙ ap Some is) says.data_at says.log_at says.bytes_at;
+  shape_is = says.shape_is;
+}
+
+pub mkfs_says : (words : List (List ℕ)) (shape : Shape) → IsMkfs words shape → SaysShapeAt words shape
+mkfs_says words shape is = record {
+  data_word = is.data_word;
+  log_word = is.log_word;
+  bytes_word = is.bytes_word;
+  data_at = rw is.words_are refl;
+  log_at = rw is.words_are refl;
+  bytes_at = rw is.words_are refl;
+  shape_is = is.shape_is;
+}
+
+pub mkfs_read : (words : List (List ℕ)) (name : List ℕ) (result : Option Geometry) → length words ≡ 4 → slice_get words 0 ≡ Some name → name ≡ codes "mkfs" →
+    MatchOption result ((shape : Shape) → SaysShapeAt words shape → ⊥) (λ shape. SaysShapeAt words (shape_by shape)) → MatchOption result ((shape : Shape) → IsMkfs words shape → ⊥) (λ shape. IsMkfs words (shape_by shape))
+mkfs_read words name None four first is says = λ shape mkfs. says shape (mkfs_says words shape mkfs)
+mkfs_read words name (Some shape) four first is says = says_mkfs words name (shape_by shape) four first is says
+
+-- the words of `try` are its name, the same three words, and one seat
+pub says_try : (words : List (List ℕ)) (name seats : List ℕ) (shape : Shape) → length words ≡ 5 → slice_get words 0 ≡ Some name → name ≡ codes "try" → slice_get words 4 ≡ Some seats → number_of seats ≡ Some 1 → SaysShapeAt words shape → IsTry words shape
+says_try words name seats shape five first is last one says = record {
+  data_word = says.data_word;
+  log_word = says.log_word;
+  bytes_word = says.bytes_word;
+  seats_word = seats;
+  words_are = five_words words (codes "try") says.data_word says.log_word says.bytes_word seats five (first ∙ ap Some is) says.data_at says.log_at says.bytes_at last;
+  shape_is = says.shape_is;
+  one_seat = one;
+}
+
+pub try_says : (words : List (List ℕ)) (shape : Shape) → IsTry words shape → SaysShapeAt words shape
+try_says words shape is = record {
+  data_word = is.data_word;
+  log_word = is.log_word;
+  bytes_word = is.bytes_word;
+  data_at = rw is.words_are refl;
+  log_at = rw is.words_are refl;
+  bytes_at = rw is.words_are refl;
+  shape_is = is.shape_is;
+}
+
+pub try_read : (words : List (List ℕ)) (name seats : List ℕ) (result : Option Geometry) → length words ≡ 5 → slice_get words 0 ≡ Some name → name ≡ codes "try" → slice_get words 4 ≡ Some seats → number_of seats ≡ Some 1 →
+    MatchOption result ((shape : Shape) → SaysShapeAt words shape → ⊥) (λ shape. SaysShapeAt words (shape_by shape)) → MatchOption result ((shape : Shape) → IsTry words shape → ⊥) (λ shape. IsTry words (shape_by shape))
+try_read words name seats None five first is last one says = λ shape try. says shape (try_says words shape try)
+try_read words name seats (Some shape) five first is last one says = says_try words name seats (shape_by shape) five first is last one says

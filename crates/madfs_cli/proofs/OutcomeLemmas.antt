@@ -1,38 +1,108 @@
--- What the one reading of a trace says of how a command ends.
-use Rattle.std.proofs.Common.{◌≡◌, ℕ, List, Option, Some, Ok, Err, refl, ap, inl, inr, ◌⊎◌, arith}
+-- What the making of an output and the writing of it say of how a command ends.
+use Rattle.std.proofs.Common.{◌≡◌, ◌<◌, ℕ, Bool, true, false, List, [], length, Some, Result, Ok, Err, IfOk, OnOk, refl, ap, inl, inr, ◌⊎◌, arith}
 use Rattle.io_ends.specs.Faults.{Rose}
 use Rattle.log_entry.specs.declared.calls.Job.{Job}
 use Rattle.trace_reader.specs.Reading.{Reads}
 use Rattle.trace_reader.specs.Laws.{OneReading}
-use Rattle.trace_reader.specs.declared.refusals.BadTrace.{BadTrace}
-use Rattle.madfs_cli.specs.Outcomes.{TryEnds, Seen}
+use Rattle.trace_reader.specs.declared.refusals.BadTrace.{BadTrace as TraceRefusal}
+use Rattle.opening_rules.specs.declared.refusals.BadImage.{BadImage as ImageRefusal}
+use Rattle.madfs_cli.specs.Commands.{Request, writes_image}
+use Rattle.madfs_cli.specs.Images.{RefusesImage}
+use Rattle.madfs_cli.specs.Outcomes.{IsReport, TakenFrom, Seen, IsOutputOf, WriteFailed, WritesNone, Ends, ImageRefused, TraceRefused, IsOutcome, IsNotMade, OutputEnds}
+use Rattle.madfs_cli.specs.declared.outputs.Output.{Output}
 use Rattle.madfs_cli.specs.declared.statuses.Status.{Status}
-use Rattle.madfs_cli.specs.declared.statuses.Status.TheVariants.{Done, Usage, BadTrace as Refused, ReadFault, WriteFault, NoMemory}
+use Rattle.madfs_cli.specs.declared.statuses.Status.TheVariants.{Done, Usage, BadImage, BadTrace, ReadFault, WriteFault, NoMemory}
+use Rattle.madfs_cli.proofs.ImageLemmas.{one_image_refusal}
 
 -- bytes that are a trace are not refused
-not_both : OneReading → (bytes : List ℕ) (jobs : List Job) (why : BadTrace) → Reads 1 bytes (Ok jobs) → Reads 1 bytes (Err why) → ⊥
-not_both one bytes jobs why read refused = let same = one 1 bytes (Ok jobs) (Err why) (omega arith) read refused in cc
+trace_not_both : OneReading → (bytes : List ℕ) (jobs : List Job) (why : TraceRefusal) → Reads 1 bytes (Ok jobs) → Reads 1 bytes (Err why) → ⊥
+trace_not_both one bytes jobs why read refused = let same = one 1 bytes (Ok jobs) (Err why) (omega arith) read refused in cc
 
--- there is one refusal
-same_refusal : OneReading → (bytes : List ℕ) (why other : BadTrace) → Reads 1 bytes (Err why) → Reads 1 bytes (Err other) → why ≡ other
-same_refusal one bytes why other refused again = let same = one 1 bytes (Err why) (Err other) (omega arith) refused again in cc
+-- there is one refusal of a trace
+one_trace_refusal : OneReading → (bytes : List ℕ) (why other : TraceRefusal) → Reads 1 bytes (Err why) → Reads 1 bytes (Err other) → why ≡ other
+one_trace_refusal one bytes why other refused again = let same = one 1 bytes (Err why) (Err other) (omega arith) refused again in cc
 
--- a trace that is refused ends so, but for a fault or want of memory before
-pub refusal_comes : OneReading → (block_bytes : ℕ) (left : Option (List ℕ)) (seen : Seen) (status : Status) (why : BadTrace) (bytes : List ℕ) → TryEnds block_bytes left seen status → left ≡ Some bytes → Reads 1 bytes (Err why)
-    → (status ≡ Refused why) ⊎ (status ≡ ReadFault) ⊎ (status ≡ NoMemory)
-refusal_comes one block_bytes left seen Done why bytes ends known refused = absurd (not_both one bytes (ends bytes known).1.trace why (ends bytes known).1.read refused)
-refusal_comes one block_bytes left seen (Refused other) why bytes ends known refused = inl (ap Refused (same_refusal one bytes other why (ends bytes known) refused))
-refusal_comes one block_bytes left seen ReadFault why bytes ends known refused = inr (inl refl)
-refusal_comes one block_bytes left seen WriteFault why bytes ends known refused = absurd (not_both one bytes (ends.1 bytes known).1.trace why (ends.1 bytes known).1.read refused)
-refusal_comes one block_bytes left seen NoMemory why bytes ends known refused = inr (inr refl)
-refusal_comes one block_bytes left seen Usage why bytes ends known refused = absurd ends
+-- where there is an image to write, the command writes one
+some_image : (writes : Bool) (image : List ℕ) → (writes ≡ false → image ≡ []) → 0 < length image → writes ≡ true
+some_image true image none some = refl
+some_image false image none some = let empty : length image ≡ 0 = ap length (none refl) in absurd (omega (arith, empty, some))
 
--- a trace that is not refused ends as done where no count of faults rises, but for want of memory
-pub done_comes : OneReading → (block_bytes : ℕ) (left : Option (List ℕ)) (seen : Seen) (status : Status) (jobs : List Job) (bytes : List ℕ) → TryEnds block_bytes left seen status → left ≡ Some bytes → Reads 1 bytes (Ok jobs)
-    → (Rose seen.read_before seen.read_after → ⊥) → (Rose seen.write_before seen.write_after → ⊥) → (status ≡ Done) ⊎ (status ≡ NoMemory)
-done_comes one block_bytes left seen Done jobs bytes ends known read no_read no_write = inl refl
-done_comes one block_bytes left seen (Refused why) jobs bytes ends known read no_read no_write = absurd (not_both one bytes jobs why read (ends bytes known))
-done_comes one block_bytes left seen ReadFault jobs bytes ends known read no_read no_write = absurd (no_read ends)
-done_comes one block_bytes left seen WriteFault jobs bytes ends known read no_read no_write = absurd (no_write ends.0)
-done_comes one block_bytes left seen NoMemory jobs bytes ends known read no_read no_write = inr refl
-done_comes one block_bytes left seen Usage jobs bytes ends known read no_read no_write = absurd ends
+-- how the write of an output ends
+output_ends : (request : Request) (seen : Seen) (text image : List ℕ) (status : Status) → IsOutputOf request seen.image seen.trace text image → (writes_image request ≡ false → image ≡ []) → OutputEnds seen.report seen.fresh text image status → Ends request seen status
+output_ends request seen text image Done output none ends = record { text = text; image = image; output = output; report_given = ends.0; image_given = ends.1 }
+output_ends request seen text image WriteFault output none ends = (failed ends.0, record { text = text; image = image; output = output; part = ends.1 })
+  where
+    failed : ((Rose seen.report.faults_before seen.report.faults_after × (seen.fresh.given_after ≡ seen.fresh.given_before)) ⊎ ((0 < length image) × Rose seen.fresh.faults_before seen.fresh.faults_after)) → WriteFailed request seen.report seen.fresh
+    failed (inl report) = inl report
+    failed (inr fresh) = inr (some_image (writes_image request) image none fresh.0, fresh.1)
+output_ends request seen text image NoMemory output none ends = inr (record { text = text; image = image; output = output; part = ends })
+output_ends request seen text image Usage output none ends = absurd ends
+output_ends request seen text image (BadImage why) output none ends = absurd ends
+output_ends request seen text image (BadTrace why) output none ends = absurd ends
+output_ends request seen text image ReadFault output none ends = absurd ends
+
+-- an output was made, and its write ends so
+pub made_outcome : (request : Request) (seen : Seen) (text image : List ℕ) (status : Status) → IsOutputOf request seen.image seen.trace text image → (writes_image request ≡ false → image ≡ []) →
+    ((why : ImageRefusal) → ImageRefused request seen.image why → ⊥) → ((why : TraceRefusal) → TraceRefused request seen.trace why → ⊥) → OutputEnds seen.report seen.fresh text image status → IsOutcome request seen status
+made_outcome request seen text image status output none image_good trace_good ends = record {
+  ends = output_ends request seen text image status output none ends;
+  bad_image_comes = λ why refused. absurd (image_good why refused);
+  bad_trace_comes = λ why refused. absurd (trace_good why refused);
+  complete = λ good no_read no_write. by status (output_ends request seen text image status output none ends) no_write ends;
+}
+  where
+    by : (status : Status) → Ends request seen status → (WriteFailed request seen.report seen.fresh → ⊥) → OutputEnds seen.report seen.fresh text image status → (status ≡ Done) ⊎ (status ≡ NoMemory)
+    by Done ended no_write ends = inl refl
+    by WriteFault ended no_write ends = absurd (no_write ended.0)
+    by NoMemory ended no_write ends = inr refl
+    by Usage ended no_write ends = absurd ends
+    by (BadImage why) ended no_write ends = absurd ends
+    by (BadTrace why) ended no_write ends = absurd ends
+    by ReadFault ended no_write ends = absurd ends
+
+-- no output was made, for this
+pub not_made_outcome : OneReading → (request : Request) (seen : Seen) (status : Status) → IsNotMade request seen.image seen.trace status → WritesNone seen → IsOutcome request seen status
+not_made_outcome one request seen Done not_made none = absurd not_made
+not_made_outcome one request seen Usage not_made none = absurd not_made
+not_made_outcome one request seen WriteFault not_made none = absurd not_made
+not_made_outcome one request seen (BadImage why) not_made none = record {
+  ends = not_made;
+  bad_image_comes = λ other refused. inl (ap BadImage (one_image_refusal refused.bytes why other (not_made.1 refused.bytes refused.left) refused.refused));
+  bad_trace_comes = λ other refused. inr (inl (why, refl));
+  complete = λ good no_read no_write. let bytes = good.image_bytes not_made.0 in absurd (good.image_good why (record { reads = not_made.0; bytes = bytes.0; left = bytes.1; refused = not_made.1 bytes.0 bytes.1 }));
+}
+not_made_outcome one request seen (BadTrace why) not_made none = record {
+  ends = (not_made.0, not_made.1);
+  bad_image_comes = λ other refused. absurd (not_made.2 other refused);
+  bad_trace_comes = λ other refused. inl (ap BadTrace (one_trace_refusal one refused.bytes why other (not_made.1 refused.bytes refused.left) refused.refused));
+  complete = λ good no_read no_write. let bytes = good.trace_bytes not_made.0 in absurd (good.trace_good why (record { reads = not_made.0; bytes = bytes.0; left = bytes.1; refused = not_made.1 bytes.0 bytes.1 }));
+}
+not_made_outcome one request seen ReadFault not_made none = record {
+  ends = not_made;
+  bad_image_comes = λ other refused. inr (inl refl);
+  bad_trace_comes = λ other refused. inr (inr (inl refl));
+  complete = λ good no_read no_write. absurd (no_read not_made);
+}
+not_made_outcome one request seen NoMemory not_made none = record {
+  ends = inl none;
+  bad_image_comes = λ other refused. inr (inr refl);
+  bad_trace_comes = λ other refused. inr (inr (inr refl));
+  complete = λ good no_read no_write. inr refl;
+}
+
+-- a trace that was read is not refused
+pub trace_read : OneReading → (request : Request) (trace : TakenFrom) (why : TraceRefusal) → ((bytes : List ℕ) → trace.left ≡ Some bytes → (jobs : List Job) × Reads 1 bytes (Ok jobs)) → TraceRefused request trace why → ⊥
+trace_read one request trace why read refused =
+    let known = read refused.bytes refused.left in
+    trace_not_both one refused.bytes known.0 why known.1 refused.refused
+
+-- the same of an output that was made
+pub trace_good : OneReading → (request : Request) (trace : TakenFrom) (block_bytes : ℕ) (result : Result Output Status) → IfOk result (λ output. (bytes : List ℕ) → trace.left ≡ Some bytes → IsReport block_bytes bytes output.text.items) →
+    OnOk result ((why : TraceRefusal) → TraceRefused request trace why → ⊥)
+trace_good one request trace block_bytes (Ok output) report = λ why refused. trace_read one request trace why (λ bytes known. ((report bytes known).trace, (report bytes known).read)) refused
+trace_good one request trace block_bytes (Err status) report = tt
+
+pub image_good : (request : Request) (image : TakenFrom) (result : Result Output Status) → OnOk result ((bytes : List ℕ) (why : ImageRefusal) → image.left ≡ Some bytes → RefusesImage bytes why → ⊥) →
+    OnOk result ((why : ImageRefusal) → ImageRefused request image why → ⊥)
+image_good request image (Ok output) accepted = λ why refused. accepted refused.bytes why refused.left refused.refused
+image_good request image (Err status) accepted = tt

@@ -1,27 +1,95 @@
--- Which lists of words are a command.
-use Rattle.std.specs.Prelude.{ℕ, ◌≡◌, List, [], ◌∷◌, Some, None, codes}
+-- Which lists of words are a command, and what each command reads and writes.
+use Rattle.std.specs.Prelude.{ℕ, ◌≡◌, Bool, true, false, List, [], ◌∷◌, Some, None, codes}
+use Rattle.std.specs.List.{slice_get}
 use Rattle.log_entry.specs.Text.{number_of}
 use Rattle.log_entry.specs.Geometry.{shape_refusal}
+use Rattle.log_image.specs.Image.{Shape}
+use Rattle.chain_reader.specs.Tables.{shape_by}
 use Rattle.madfs_cli.specs.declared.commands.Command.{Command}
-use Rattle.madfs_cli.specs.declared.commands.Command.TheVariants.{Try}
+use Rattle.madfs_cli.specs.declared.commands.Command.TheVariants.{Mkfs, Try, Cat, Dump}
 
--- the words are `try`, the blocks of the data and the log area, the bytes of a block, which are a shape, and one seat
-pub record IsTry (words : List (List ℕ)) (data_blocks log_blocks block_bytes : ℕ) : Type 0 where
+-- what a command asks: a new image of a shape; the run of a trace on a just-made image of a shape; the file of an image; the
+-- text of an image
+pub data Request : Type 0 where
+  MakeImage : (shape : Shape) → Request
+  TryTrace : (shape : Shape) → Request
+  ShowFile : Request
+  ShowImage : Request
+
+-- three words are the numbers of a shape that an image may have
+pub record SayShape (data_word log_word bytes_word : List ℕ) (shape : Shape) : Type 0 where
+  pub data_is : number_of data_word ≡ Some shape.data_blocks
+  pub log_is : number_of log_word ≡ Some shape.log_blocks
+  pub bytes_are : number_of bytes_word ≡ Some shape.block_bytes
+  pub shaped : shape_refusal shape.data_blocks shape.log_blocks shape.block_bytes ≡ None
+
+-- the second, third and fourth word are these numbers
+pub record SaysShapeAt (words : List (List ℕ)) (shape : Shape) : Type 0 where
+  pub data_word : List ℕ
+  pub log_word : List ℕ
+  pub bytes_word : List ℕ
+  pub data_at : slice_get words 1 ≡ Some data_word
+  pub log_at : slice_get words 2 ≡ Some log_word
+  pub bytes_at : slice_get words 3 ≡ Some bytes_word
+  pub shape_is : SayShape data_word log_word bytes_word shape
+
+-- the words are `mkfs`, the blocks of the data and the log area, and the bytes of a block
+pub record IsMkfs (words : List (List ℕ)) (shape : Shape) : Type 0 where
+  pub data_word : List ℕ
+  pub log_word : List ℕ
+  pub bytes_word : List ℕ
+  pub words_are : words ≡ codes "mkfs" ∷ data_word ∷ log_word ∷ bytes_word ∷ []
+  pub shape_is : SayShape data_word log_word bytes_word shape
+
+-- the words are `try`, the same numbers, and one seat
+pub record IsTry (words : List (List ℕ)) (shape : Shape) : Type 0 where
   pub data_word : List ℕ
   pub log_word : List ℕ
   pub bytes_word : List ℕ
   pub seats_word : List ℕ
   pub words_are : words ≡ codes "try" ∷ data_word ∷ log_word ∷ bytes_word ∷ seats_word ∷ []
-  pub data_is : number_of data_word ≡ Some data_blocks
-  pub log_is : number_of log_word ≡ Some log_blocks
-  pub bytes_are : number_of bytes_word ≡ Some block_bytes
+  pub shape_is : SayShape data_word log_word bytes_word shape
   pub one_seat : number_of seats_word ≡ Some 1
-  pub shaped : shape_refusal data_blocks log_blocks block_bytes ≡ None
+
+-- the words ask this
+abbrev pub Asks : List (List ℕ) → Request → Type 0
+Asks words (MakeImage shape) = IsMkfs words shape
+Asks words (TryTrace shape) = IsTry words shape
+Asks words ShowFile = words ≡ codes "cat" ∷ []
+Asks words ShowImage = words ≡ codes "dump" ∷ []
 
 -- the words are a command
 abbrev pub IsCommand : List (List ℕ) → Type 0
-IsCommand words = (data_blocks : ℕ) × (log_blocks : ℕ) × (block_bytes : ℕ) × IsTry words data_blocks log_blocks block_bytes
+IsCommand words = (request : Request) × Asks words request
+
+-- what a command of the program asks
+abbrev pub request_of : Command → Request
+request_of (Mkfs shape) = MakeImage (shape_by shape)
+request_of (Try shape) = TryTrace (shape_by shape)
+request_of Cat = ShowFile
+request_of Dump = ShowImage
 
 -- the words are this command
 abbrev pub Says : List (List ℕ) → Command → Type 0
-Says words (Try shape) = IsTry words shape.data_blocks shape.log_blocks shape.block_bytes
+Says words command = Asks words (request_of command)
+
+-- the command reads an image
+abbrev pub reads_image : Request → Bool
+reads_image (MakeImage shape) = false
+reads_image (TryTrace shape) = false
+reads_image ShowFile = true
+reads_image ShowImage = true
+
+-- the command reads a trace
+abbrev pub reads_trace : Request → Bool
+reads_trace (MakeImage shape) = false
+reads_trace (TryTrace shape) = true
+reads_trace ShowFile = false
+reads_trace ShowImage = false
+
+-- the command writes an image
+abbrev pub writes_image : Request → Bool
+writes_image (MakeImage shape) = true
+writes_image (TryTrace shape) = false
+writes_image ShowFile = false
+writes_image ShowImage = false

@@ -1,5 +1,5 @@
 -- What a command leaves for each way in which it ends.
-use Rattle.std.specs.Prelude.{ℕ, ◌≡◌, ◌⊎◌, List, [], length, Option, Some, Ok, Err}
+use Rattle.std.specs.Prelude.{ℕ, ◌≡◌, ◌<◌, ◌⊎◌, Bool, true, false, List, [], length, Option, Some, Ok, Err}
 use Rattle.io_ends.specs.Faults.{Rose}
 use Rattle.io_ends.specs.Giving.{Gives, GivesPrefix}
 use Rattle.log_entry.specs.Legal.{last_file, last_position_of}
@@ -7,10 +7,13 @@ use Rattle.log_entry.specs.declared.calls.Call.{Call}
 use Rattle.log_entry.specs.declared.calls.Job.{Job}
 use Rattle.trace_reader.specs.Reading.{Reads}
 use Rattle.history_report.specs.Report.{report_text}
-use Rattle.madfs_cli.specs.Commands.{IsTry}
+use Rattle.trace_reader.specs.declared.refusals.BadTrace.{BadTrace as TraceRefusal}
+use Rattle.opening_rules.specs.declared.refusals.BadImage.{BadImage as ImageRefusal}
+use Rattle.madfs_cli.specs.Commands.{Request, MakeImage, TryTrace, ShowFile, ShowImage, reads_image, reads_trace, writes_image}
 use Rattle.madfs_cli.specs.Histories.{IsHistory}
+use Rattle.madfs_cli.specs.Images.{RefusesImage, IsFileOf, IsDumpOf, made_text, IsNewImage}
 use Rattle.madfs_cli.specs.declared.statuses.Status.{Status}
-use Rattle.madfs_cli.specs.declared.statuses.Status.TheVariants.{Done, Usage, BadTrace, ReadFault, WriteFault, NoMemory}
+use Rattle.madfs_cli.specs.declared.statuses.Status.TheVariants.{Done, Usage, BadImage, BadTrace, ReadFault, WriteFault, NoMemory}
 
 -- the text is the report of a history of these jobs, with the position and the size at its end
 pub record IsReportOfJobs (block_bytes : ℕ) (trace : List Job) (text : List ℕ) : Type 0 where
@@ -24,51 +27,135 @@ pub record IsReport (block_bytes : ℕ) (bytes text : List ℕ) : Type 0 where
   pub read : Reads 1 bytes (Ok trace)
   pub report : IsReportOfJobs block_bytes trace text
 
--- the report of the trace that the source had left was written, whole
-abbrev pub ReportsAll : ℕ → Option (List ℕ) → Option (List ℕ) → Option (List ℕ) → Type 0
-ReportsAll block_bytes left before after = (bytes : List ℕ) → left ≡ Some bytes → (text : List ℕ) × IsReport block_bytes bytes text × Gives before after text
+-- what a command makes of the bytes of an image and of a trace: a text, and the bytes of an image
+abbrev pub IsOutput : Request → List ℕ → List ℕ → List ℕ → List ℕ → Type 0
+IsOutput (MakeImage shape) image trace text fresh = (text ≡ made_text shape) × IsNewImage shape fresh
+IsOutput (TryTrace shape) image trace text fresh = IsReport shape.block_bytes trace text × (fresh ≡ [])
+IsOutput ShowFile image trace text fresh = IsFileOf image text × (fresh ≡ [])
+IsOutput ShowImage image trace text fresh = IsDumpOf image text × (fresh ≡ [])
+
+-- a source before and after a command: what it had left, where it tells that, and its count of faults
+pub record TakenFrom : Type 0 where
+  pub left : Option (List ℕ)
+  pub faults_before : ℕ
+  pub faults_after : ℕ
+
+-- a sink before and after a command: what it was given, where it tells that, and its count of faults
+pub record GivenTo : Type 0 where
+  pub given_before : Option (List ℕ)
+  pub given_after : Option (List ℕ)
+  pub faults_before : ℕ
+  pub faults_after : ℕ
+
+-- the things that a command may read and write
+pub record Seen : Type 0 where
+  pub image : TakenFrom
+  pub trace : TakenFrom
+  pub report : GivenTo
+  pub fresh : GivenTo
+
+-- the bytes that a command reads of a source; none of one that it does not read
+abbrev pub HasInput : Bool → Option (List ℕ) → List ℕ → Type 0
+HasInput true left bytes = left ≡ Some bytes
+HasInput false left bytes = bytes ≡ []
+
+-- a text and the bytes of an image are what the command makes of its inputs, where those tell their bytes
+abbrev pub IsOutputOf : Request → TakenFrom → TakenFrom → List ℕ → List ℕ → Type 0
+IsOutputOf request image_source trace_source text fresh = (image trace : List ℕ) → HasInput (reads_image request) image_source.left image → HasInput (reads_trace request) trace_source.left trace →
+    IsOutput request image trace text fresh
+
+-- all of it was written
+pub record WritesAll (request : Request) (seen : Seen) : Type 0 where
+  pub text : List ℕ
+  pub image : List ℕ
+  pub output : IsOutputOf request seen.image seen.trace text image
+  pub report_given : Gives seen.report.given_before seen.report.given_after text
+  pub image_given : Gives seen.fresh.given_before seen.fresh.given_after image
+
+-- the text was written in part, and nothing of the image; or the text whole, and the image in part
+abbrev pub IsPart : GivenTo → GivenTo → List ℕ → List ℕ → Type 0
+IsPart report fresh text image =
+    (GivesPrefix report.given_before report.given_after text × (fresh.given_after ≡ fresh.given_before))
+    ⊎ (Gives report.given_before report.given_after text × GivesPrefix fresh.given_before fresh.given_after image)
 
 -- a first part of it was written
-abbrev pub ReportsPart : ℕ → Option (List ℕ) → Option (List ℕ) → Option (List ℕ) → Type 0
-ReportsPart block_bytes left before after = (bytes : List ℕ) → left ≡ Some bytes → (text : List ℕ) × IsReport block_bytes bytes text × GivesPrefix before after text
+pub record WritesPart (request : Request) (seen : Seen) : Type 0 where
+  pub text : List ℕ
+  pub image : List ℕ
+  pub output : IsOutputOf request seen.image seen.trace text image
+  pub part : IsPart seen.report seen.fresh text image
 
--- nothing was written, or a first part of it
-abbrev pub ReportsPartAtMost : ℕ → Option (List ℕ) → Option (List ℕ) → Option (List ℕ) → Type 0
-ReportsPartAtMost block_bytes left before after = (bytes : List ℕ) → left ≡ Some bytes → (after ≡ before) ⊎ ((text : List ℕ) × IsReport block_bytes bytes text × GivesPrefix before after text)
+-- nothing was written
+abbrev pub WritesNone : Seen → Type 0
+WritesNone seen = (seen.report.given_after ≡ seen.report.given_before) × (seen.fresh.given_after ≡ seen.fresh.given_before)
 
--- the same for the shape that the words of `try` give
-abbrev pub WritesAll : List (List ℕ) → Option (List ℕ) → Option (List ℕ) → Option (List ℕ) → Type 0
-WritesAll words left before after = (data_blocks log_blocks block_bytes : ℕ) → IsTry words data_blocks log_blocks block_bytes → ReportsAll block_bytes left before after
+-- a read failed of a source that the command reads
+abbrev pub ReadFailed : Request → TakenFrom → TakenFrom → Type 0
+ReadFailed request image trace =
+    ((reads_image request ≡ true) × Rose image.faults_before image.faults_after) ⊎ ((reads_trace request ≡ true) × Rose trace.faults_before trace.faults_after)
 
-abbrev pub WritesPart : List (List ℕ) → Option (List ℕ) → Option (List ℕ) → Option (List ℕ) → Type 0
-WritesPart words left before after = (data_blocks log_blocks block_bytes : ℕ) → IsTry words data_blocks log_blocks block_bytes → ReportsPart block_bytes left before after
+-- a write of the report failed, and then nothing of the image was written; or one of the image, where the command writes one
+abbrev pub WriteFailed : Request → GivenTo → GivenTo → Type 0
+WriteFailed request report fresh =
+    (Rose report.faults_before report.faults_after × (fresh.given_after ≡ fresh.given_before)) ⊎ ((writes_image request ≡ true) × Rose fresh.faults_before fresh.faults_after)
 
-abbrev pub WritesPartAtMost : List (List ℕ) → Option (List ℕ) → Option (List ℕ) → Option (List ℕ) → Type 0
-WritesPartAtMost words left before after = (data_blocks log_blocks block_bytes : ℕ) → IsTry words data_blocks log_blocks block_bytes → ReportsPartAtMost block_bytes left before after
+-- how a command ends
+abbrev pub Ends : Request → Seen → Status → Type 0
+Ends request seen Done = WritesAll request seen
+Ends request seen (BadImage why) = (reads_image request ≡ true) × ((bytes : List ℕ) → seen.image.left ≡ Some bytes → RefusesImage bytes why)
+Ends request seen (BadTrace why) = (reads_trace request ≡ true) × ((bytes : List ℕ) → seen.trace.left ≡ Some bytes → Reads 1 bytes (Err why))
+Ends request seen ReadFault = ReadFailed request seen.image seen.trace
+Ends request seen WriteFault = WriteFailed request seen.report seen.fresh × WritesPart request seen
+Ends request seen NoMemory = WritesNone seen ⊎ WritesPart request seen
+Ends request seen Usage = ⊥
 
--- why no jobs were read: the reading of all that was left refuses it, or a read failed, or want of memory
-abbrev pub IsNotRead : Option (List ℕ) → ℕ → ℕ → Status → Type 0
-IsNotRead left before now (BadTrace why) = (bytes : List ℕ) → left ≡ Some bytes → Reads 1 bytes (Err why)
-IsNotRead left before now ReadFault = Rose before now
-IsNotRead left before now NoMemory = Unit {0}
-IsNotRead left before now Done = ⊥
-IsNotRead left before now Usage = ⊥
-IsNotRead left before now WriteFault = ⊥
+-- the image that the command reads tells its bytes and is refused, for this
+pub record ImageRefused (request : Request) (image : TakenFrom) (why : ImageRefusal) : Type 0 where
+  pub reads : reads_image request ≡ true
+  pub bytes : List ℕ
+  pub left : image.left ≡ Some bytes
+  pub refused : RefusesImage bytes why
 
--- what the counts of faults and the sink are before a command and after it
-pub record Seen : Type 0 where
-  pub read_before : ℕ
-  pub read_after : ℕ
-  pub write_before : ℕ
-  pub write_after : ℕ
-  pub before : Option (List ℕ)
-  pub after : Option (List ℕ)
+-- the trace that the command reads tells its bytes and is refused, for this
+pub record TraceRefused (request : Request) (trace : TakenFrom) (why : TraceRefusal) : Type 0 where
+  pub reads : reads_trace request ≡ true
+  pub bytes : List ℕ
+  pub left : trace.left ≡ Some bytes
+  pub refused : Reads 1 bytes (Err why)
 
--- how `try` ends with blocks of so many bytes
-abbrev pub TryEnds : ℕ → Option (List ℕ) → Seen → Status → Type 0
-TryEnds block_bytes left seen Done = ReportsAll block_bytes left seen.before seen.after
-TryEnds block_bytes left seen (BadTrace why) = (bytes : List ℕ) → left ≡ Some bytes → Reads 1 bytes (Err why)
-TryEnds block_bytes left seen ReadFault = Rose seen.read_before seen.read_after
-TryEnds block_bytes left seen WriteFault = Rose seen.write_before seen.write_after × ReportsPart block_bytes left seen.before seen.after
-TryEnds block_bytes left seen NoMemory = ReportsPartAtMost block_bytes left seen.before seen.after
-TryEnds block_bytes left seen Usage = ⊥
+-- the inputs of a command tell their bytes and are not refused
+pub record HasGoodInputs (request : Request) (image trace : TakenFrom) : Type 0 where
+  pub image_bytes : reads_image request ≡ true → (bytes : List ℕ) × (image.left ≡ Some bytes)
+  pub image_good : (why : ImageRefusal) → ImageRefused request image why → ⊥
+  pub trace_bytes : reads_trace request ≡ true → (bytes : List ℕ) × (trace.left ≡ Some bytes)
+  pub trace_good : (why : TraceRefusal) → TraceRefused request trace why → ⊥
+
+-- what holds of the way in which a command ends: its cause; a refused image or trace ends so, but for a fault or want of memory
+-- before; and with inputs that are not refused and no fault it is done, but for want of memory
+pub record IsOutcome (request : Request) (seen : Seen) (status : Status) : Type 0 where
+  pub ends : Ends request seen status
+  pub bad_image_comes : (why : ImageRefusal) → ImageRefused request seen.image why → (status ≡ BadImage why) ⊎ (status ≡ ReadFault) ⊎ (status ≡ NoMemory)
+  pub bad_trace_comes : (why : TraceRefusal) → TraceRefused request seen.trace why → (status ≡ BadTrace why) ⊎ ((other : ImageRefusal) × (status ≡ BadImage other)) ⊎ (status ≡ ReadFault) ⊎ (status ≡ NoMemory)
+  pub complete : HasGoodInputs request seen.image seen.trace → (ReadFailed request seen.image seen.trace → ⊥) → (WriteFailed request seen.report seen.fresh → ⊥) → (status ≡ Done) ⊎ (status ≡ NoMemory)
+
+-- why there is no output
+abbrev pub IsNotMade : Request → TakenFrom → TakenFrom → Status → Type 0
+IsNotMade request image trace Done = ⊥
+IsNotMade request image trace (BadImage why) = (reads_image request ≡ true) × ((bytes : List ℕ) → image.left ≡ Some bytes → RefusesImage bytes why)
+IsNotMade request image trace (BadTrace why) =
+    (reads_trace request ≡ true) × ((bytes : List ℕ) → trace.left ≡ Some bytes → Reads 1 bytes (Err why)) × ((other : ImageRefusal) → ImageRefused request image other → ⊥)
+IsNotMade request image trace ReadFault = ReadFailed request image trace
+IsNotMade request image trace WriteFault = ⊥
+IsNotMade request image trace NoMemory = Unit {0}
+IsNotMade request image trace Usage = ⊥
+
+-- how writing a text and the bytes of an image ends
+abbrev pub OutputEnds : GivenTo → GivenTo → List ℕ → List ℕ → Status → Type 0
+OutputEnds report fresh text image Done = Gives report.given_before report.given_after text × Gives fresh.given_before fresh.given_after image
+OutputEnds report fresh text image WriteFault =
+    ((Rose report.faults_before report.faults_after × (fresh.given_after ≡ fresh.given_before)) ⊎ ((0 < length image) × Rose fresh.faults_before fresh.faults_after)) × IsPart report fresh text image
+OutputEnds report fresh text image NoMemory = IsPart report fresh text image
+OutputEnds report fresh text image Usage = ⊥
+OutputEnds report fresh text image (BadImage why) = ⊥
+OutputEnds report fresh text image (BadTrace why) = ⊥
+OutputEnds report fresh text image ReadFault = ⊥

@@ -1,8 +1,10 @@
 //! The words of a command.
 
-ghost use Rattle.std.specs.Prelude.{◌≡◌, ◌≢◌, MatchOption, None};
+ghost use Rattle.std.specs.Prelude.{◌≡◌, ◌≢◌, ◌≤◌, MatchOption, None, length, ℕ};
 ghost use Rattle.log_entry.specs.Geometry.{shape_refusal, HasShape};
-ghost use Rattle.madfs_cli.specs.Commands.{IsCommand, Says};
+ghost use Rattle.log_image.specs.Image.{Shape};
+ghost use Rattle.chain_reader.specs.Tables.{shape_by};
+ghost use Rattle.madfs_cli.specs.Commands.{IsCommand, IsMkfs, IsTry, Says, SaysShapeAt};
 
 use io_ends::Words;
 use log_entry::Geometry;
@@ -11,8 +13,14 @@ use log_entry::text::read_number;
 /// What the words of a command ask.
 #[derive(Clone, Copy)]
 pub enum Command {
+    /// Make an image of this shape.
+    Mkfs { shape: Geometry },
     /// Run a trace of one seat on an empty file, in the limits of an image of this shape.
     Try { shape: Geometry },
+    /// Show the file of an image.
+    Cat,
+    /// Show the text of an image.
+    Dump,
 }
 
 /// The shape of these numbers, where they are one.
@@ -27,20 +35,53 @@ fn shape_of(data_blocks: u64, log_blocks: u64, block_bytes: u64) -> Option<Geome
     Geometry::new(data_blocks, log_blocks, block_bytes).ok()
 }
 
-/// The command that the words are. None exactly where they are none.
-pub fn read_command(words: &Words) -> Option<Command>
-    ensures { MatchOption result (IsCommand words.now → ⊥) (Says words.now) }
+/// The shape that the words after the first say: the blocks of the data area, those of the log area, and the bytes of a block.
+fn read_shape(words: &Words) -> Option<Geometry>
+    requires { 4 ≤ length words.now }
+    ensures { MatchOption result ((shape : Shape) → SaysShapeAt words.now shape → ⊥) (λ shape. SaysShapeAt words.now (shape_by shape)) }
+{
+    let data_blocks = read_number(words.word(1).as_bytes())?;
+    let log_blocks = read_number(words.word(2).as_bytes())?;
+    let block_bytes = read_number(words.word(3).as_bytes())?;
+    shape_of(data_blocks, log_blocks, block_bytes)
+}
+
+/// The shape that the words of `mkfs` say, where they are its.
+fn read_mkfs(words: &Words) -> Option<Geometry>
+    ensures { MatchOption result ((shape : Shape) → IsMkfs words.now shape → ⊥) (λ shape. IsMkfs words.now (shape_by shape)) }
+{
+    if words.count() != 4 || words.word(0) != "mkfs" {
+        return None;
+    }
+    read_shape(words)
+}
+
+/// The shape that the words of `try` say, where they are its.
+fn read_try(words: &Words) -> Option<Geometry>
+    ensures { MatchOption result ((shape : Shape) → IsTry words.now shape → ⊥) (λ shape. IsTry words.now (shape_by shape)) }
 {
     if words.count() != 5 || words.word(0) != "try" {
         return None;
     }
-    let data_blocks = read_number(words.word(1).as_bytes())?;
-    let log_blocks = read_number(words.word(2).as_bytes())?;
-    let block_bytes = read_number(words.word(3).as_bytes())?;
-    let seats = read_number(words.word(4).as_bytes())?;
-    if seats != 1 {
+    if read_number(words.word(4).as_bytes())? != 1 {
         return None;
     }
-    let shape = shape_of(data_blocks, log_blocks, block_bytes)?;
+    read_shape(words)
+}
+
+/// The command that the words are. None exactly where they are none.
+pub fn read_command(words: &Words) -> Option<Command>
+    ensures { MatchOption result (IsCommand words.now → ⊥) (Says words.now) }
+{
+    if words.count() == 1 && words.word(0) == "cat" {
+        return Some(Command::Cat);
+    }
+    if words.count() == 1 && words.word(0) == "dump" {
+        return Some(Command::Dump);
+    }
+    if let Some(shape) = read_mkfs(words) {
+        return Some(Command::Mkfs { shape });
+    }
+    let shape = read_try(words)?;
     Some(Command::Try { shape })
 }

@@ -1,8 +1,11 @@
 //! Decides what a command does: what it reads, what it writes, and the status it ends with.
 #![tactic(auto)]
 
+pub mod answers;
 pub mod commands;
 pub mod histories;
+pub mod inputs;
+pub mod outputs;
 pub mod plain_file;
 pub mod statuses;
 #[cfg(test)]

@@ -2,6 +2,7 @@
 
 ghost use Rattle.std.specs.Prelude.{◌≡◌};
 
+use opening_rules::BadImage;
 use std::fmt;
 use trace_reader::BadTrace;
 
@@ -12,6 +13,8 @@ pub enum Status {
     Done,
     /// The words are no command. Nothing was read or written.
     Usage,
+    /// The image is refused, for this. Nothing was written.
+    BadImage(BadImage),
     /// The trace is refused, for this. Nothing was written.
     BadTrace(BadTrace),
     /// A read failed. Nothing was written.
@@ -25,13 +28,14 @@ pub enum Status {
 impl Status {
     ghost use Rattle.madfs_cli.specs.Endings.{exit_code_of};
 
-    /// The exit status of the program: 0 for `Done`, and 2 and 4 to 7 for the others.
+    /// The exit status of the program: 0 for `Done`, and 2 to 7 for the others, in their order.
     pub fn exit_code(&self) -> u8
         ensures { result ≡ exit_code_of self.now }
     {
         match self {
             Status::Done => 0,
             Status::Usage => 2,
+            Status::BadImage(_) => 3,
             Status::BadTrace(_) => 4,
             Status::ReadFault => 5,
             Status::WriteFault => 6,
@@ -51,6 +55,7 @@ impl fmt::Display for Status {
         match self {
             Status::Done => Ok(()),
             Status::Usage => write!(f, "madfs: usage: madfs <image> <command> <arguments>"),
+            Status::BadImage(why) => write!(f, "madfs: image: {why}"),
             Status::BadTrace(why) => write!(f, "madfs: trace: {why}"),
             Status::ReadFault => write!(f, "madfs: read fault"),
             Status::WriteFault => write!(f, "madfs: write fault"),

@@ -1,101 +1,58 @@
 //! The top call: one command, from its words to its status.
 
-ghost use Rattle.std.specs.Prelude.{◌≡◌, ◌≢◌, ◌↔◌, ◌≤◌, ◌⊎◌, ℕ, List, Some, Ok, Err, IfOk, IfErr, OnOk, OnErr};
-ghost use Rattle.io_ends.specs.Faults.{Rose};
+ghost use Rattle.std.specs.Prelude.{◌≡◌, ◌≢◌, ◌↔◌, ◌⊎◌, true, false};
 ghost use Rattle.io_ends.specs.Taking.{IsAtEnd};
-ghost use Rattle.io_ends.specs.Giving.{Gives};
-ghost use Rattle.trace_reader.specs.Trace.{IsTrace};
-ghost use Rattle.trace_reader.specs.Reading.{Reads};
+ghost use Rattle.opening_rules.specs.declared.refusals.BadImage.{BadImage};
 ghost use Rattle.trace_reader.specs.declared.refusals.BadTrace.{BadTrace};
-ghost use Rattle.madfs_cli.specs.Commands.{IsCommand};
-ghost use Rattle.madfs_cli.specs.Outcomes.{IsReportOfJobs, IsNotRead, TryEnds, WritesAll, WritesPart, WritesPartAtMost};
+ghost use Rattle.madfs_cli.specs.Commands.{Request, Asks, IsCommand, request_of, reads_image, reads_trace, writes_image};
+ghost use Rattle.madfs_cli.specs.Outcomes.{IsOutcome};
 
+use crate::answers::output_of;
 use crate::commands::{Command, read_command};
-use crate::histories::answer_all;
+use crate::outputs::write_output;
 use crate::statuses::Status;
-use history_report::print_report;
-use io_ends::{ReadAll, Sink, Source, Words, WriteAll, read_all, write_all};
-use log_entry::{Geometry, Job};
-use std::alloc::{AllocError, Global};
+use io_ends::{Sink, Source, Words};
+use std::alloc::Global;
 use trace_reader::laws::law_readings;
-use trace_reader::{BadTrace, TraceRefusal, read_trace};
 
-/// The most bytes that a trace may have.
-const TRACE_LIMIT: usize = 67_108_864;
-
-/// The jobs of the trace that a source has left, read to its end.
-fn read_jobs<T: Source>(alloc: Global, trace: &mut T) -> Result<Vec<Job>, Status>
-    ensures jobs { IfOk result (λ jobs. IsTrace 1 jobs.items) }
-    ensures read { IfOk result (λ jobs. (bytes : List ℕ) → T.left trace.old ≡ Some bytes → Reads 1 bytes (Ok jobs.items)) }
-    ensures end { OnOk result (IsAtEnd (T.left trace.new)) }
-    ensures refused { IfErr result (IsNotRead (T.left trace.old) (T.faults trace.old) (T.faults trace.new)) }
-{
-    let bytes = match read_all(alloc, trace, TRACE_LIMIT) {
-        Ok(bytes) => bytes,
-        Err(ReadAll::ReadFault) => return Err(Status::ReadFault),
-        Err(ReadAll::TooLong) => return Err(Status::BadTrace(BadTrace::TooLong)),
-        Err(ReadAll::NoMemory) => return Err(Status::NoMemory),
-    };
-    match read_trace(alloc, bytes.as_slice(), 1) {
-        Ok(jobs) => Ok(jobs),
-        Err(TraceRefusal::Bad(why)) => Err(Status::BadTrace(why)),
-        Err(TraceRefusal::NoMemory) => Err(Status::NoMemory),
-    }
-}
-
-/// The report of a trace's calls on an empty file.
-fn report_of(alloc: Global, shape: Geometry, jobs: Vec<Job>) -> Result<Vec<u8>, AllocError>
-    requires { IsTrace 1 jobs.items }
-    ensures { IfOk result (λ text. IsReportOfJobs shape.block_bytes jobs.items text.items) }
-{
-    let history = answer_all(alloc, shape, jobs)?;
-    print_report(
-        alloc,
-        history.calls.as_slice(),
-        history.position,
-        history.size,
-    )
-}
-
-/// The command `try` for an image of this shape and one seat.
-fn try_trace<T: Source, O: Sink>(
+/// Runs a command, and says how it ended.
+fn run_command<I: Source, T: Source, O: Sink, N: Sink>(
     alloc: Global,
-    shape: Geometry,
+    command: Command,
+    image: &mut I,
     trace: &mut T,
     report: &mut O,
+    fresh: &mut N,
 ) -> Status
-    ensures ends { TryEnds shape.block_bytes (T.left trace.old)
+    ensures not_usage { result ≢ Status.Usage }
+    ensures image_kept { reads_image (request_of command) ≡ false → image.new ≡ image.old }
+    ensures trace_kept { reads_trace (request_of command) ≡ false → trace.new ≡ trace.old }
+    ensures fresh_kept { writes_image (request_of command) ≡ false → fresh.new ≡ fresh.old }
+    ensures order { ((report.new ≡ report.old) × (fresh.new ≡ fresh.old))
+        ⊎ ((reads_image (request_of command) ≡ true → IsAtEnd (I.left image.new)) × (reads_trace (request_of command) ≡ true → IsAtEnd (T.left trace.new))) }
+    ensures unwritten { (result ≡ Status.ReadFault) ⊎ ((why : BadImage) × (result ≡ Status.BadImage why)) ⊎ ((why : BadTrace) × (result ≡ Status.BadTrace why))
+        → (report.new ≡ report.old) × (fresh.new ≡ fresh.old) }
+    ensures outcome { IsOutcome (request_of command)
         (record {
-          read_before = T.faults trace.old;
-          read_after = T.faults trace.new;
-          write_before = O.faults report.old;
-          write_after = O.faults report.new;
-          before = O.written report.old;
-          after = O.written report.new;
+          image = record { left = I.left image.old; faults_before = I.faults image.old; faults_after = I.faults image.new };
+          trace = record { left = T.left trace.old; faults_before = T.faults trace.old; faults_after = T.faults trace.new };
+          report = record { given_before = O.written report.old; given_after = O.written report.new; faults_before = O.faults report.old; faults_after = O.faults report.new };
+          fresh = record { given_before = N.written fresh.old; given_after = N.written fresh.new; faults_before = N.faults fresh.old; faults_after = N.faults fresh.new };
         })
         result }
-    ensures order { (report.new ≡ report.old) ⊎ IsAtEnd (T.left trace.new) }
-    ensures unwritten { (result ≡ Status.ReadFault) ⊎ ((why : BadTrace) × (result ≡ Status.BadTrace why)) → report.new ≡ report.old }
 {
-    let jobs = match read_jobs(alloc, trace) {
-        Ok(jobs) => jobs,
-        Err(status) => return status,
-    };
-    let text = match report_of(alloc, shape, jobs) {
-        Ok(text) => text,
-        Err(_) => return Status::NoMemory,
-    };
-    match write_all(report, text.as_slice()) {
-        Ok(()) => Status::Done,
-        Err(WriteAll::WriteFault) => Status::WriteFault,
-        Err(WriteAll::NoMemory) => Status::NoMemory,
+    law_readings();
+    match output_of(alloc, command, image, trace) {
+        Ok(output) => write_output(&output, report, fresh),
+        Err(status) => status,
     }
 }
 
 /// Runs the command that the words are, with these things to read and to write, and says how it ended.
 ///
-/// The order of work is: the words, the trace read to its end, the calls, the report. So far there is one command, `try`, of
-/// one seat; it reads the trace and writes the report, and `image` and `fresh` are for the commands to come.
+/// The order of work is: the words, the image read to its end, opened and cleared, the trace read to its end, the calls, the
+/// report, the new image. `mkfs` reads nothing and writes the line of the new image's size and the image; `try`, of one seat,
+/// reads the trace and writes the report; `cat` and `dump` read the image and write its file and its text.
 /// A source or a sink that does not tell its bytes has the clauses on causes alone.
 pub fn run<I: Source, T: Source, O: Sink, N: Sink>(
     alloc: Global,
@@ -108,41 +65,32 @@ pub fn run<I: Source, T: Source, O: Sink, N: Sink>(
     // The words alone decide whether there is a command, and without one nothing is read or written.
     ensures usage { (result ≡ Status.Usage) ↔ (IsCommand words.now → ⊥) }
     ensures command { result ≢ Status.Usage → IsCommand words.now }
-    ensures unread { result ≡ Status.Usage → (trace.new ≡ trace.old) × (report.new ≡ report.old) }
+    ensures unread { result ≡ Status.Usage → (image.new ≡ image.old) × (trace.new ≡ trace.old) × (report.new ≡ report.old) × (fresh.new ≡ fresh.old) }
 
     // What the command does not name is as before.
-    ensures image { image.new ≡ image.old }
-    ensures fresh { fresh.new ≡ fresh.old }
+    ensures image_kept { (request : Request) → Asks words.now request → reads_image request ≡ false → image.new ≡ image.old }
+    ensures trace_kept { (request : Request) → Asks words.now request → reads_trace request ≡ false → trace.new ≡ trace.old }
+    ensures fresh_kept { (request : Request) → Asks words.now request → writes_image request ≡ false → fresh.new ≡ fresh.old }
 
-    // Nothing is written before the trace was read to its end and accepted.
-    ensures order { (report.new ≡ report.old) ⊎ IsAtEnd (T.left trace.new) }
-    ensures unwritten { (result ≡ Status.ReadFault) ⊎ ((why : BadTrace) × (result ≡ Status.BadTrace why)) → report.new ≡ report.old }
+    // Nothing is written before what the command reads was read to its end and accepted.
+    ensures order { (request : Request) → Asks words.now request → ((report.new ≡ report.old) × (fresh.new ≡ fresh.old))
+        ⊎ ((reads_image request ≡ true → IsAtEnd (I.left image.new)) × (reads_trace request ≡ true → IsAtEnd (T.left trace.new))) }
+    ensures unwritten { (result ≡ Status.ReadFault) ⊎ ((why : BadImage) × (result ≡ Status.BadImage why)) ⊎ ((why : BadTrace) × (result ≡ Status.BadTrace why))
+        → (report.new ≡ report.old) × (fresh.new ≡ fresh.old) }
 
-    // The report is that of the calls of the whole trace, in one legal history.
-    ensures done { result ≡ Status.Done → WritesAll words.now (T.left trace.old) (O.written report.old) (O.written report.new) }
-
-    // A trace is refused exactly as the reading of all its bytes says.
-    ensures bad_trace { (why : BadTrace) (bytes : List ℕ) → result ≡ Status.BadTrace why → T.left trace.old ≡ Some bytes → Reads 1 bytes (Err why) }
-    ensures bad_trace_comes { (why : BadTrace) (bytes : List ℕ) → IsCommand words.now → T.left trace.old ≡ Some bytes → Reads 1 bytes (Err why)
-        → (result ≡ Status.BadTrace why) ⊎ (result ≡ Status.ReadFault) ⊎ (result ≡ Status.NoMemory) }
-
-    // A fault has its cause in this call, and after one a first part of the text was written.
-    ensures read_fault { result ≡ Status.ReadFault → Rose (T.faults trace.old) (T.faults trace.new) }
-    ensures write_fault { result ≡ Status.WriteFault → Rose (O.faults report.old) (O.faults report.new)
-        × WritesPart words.now (T.left trace.old) (O.written report.old) (O.written report.new) }
-    // Want of memory may come at any place, and leaves a first part of the text or nothing.
-    ensures no_memory { result ≡ Status.NoMemory → WritesPartAtMost words.now (T.left trace.old) (O.written report.old) (O.written report.new) }
-
-    // Completeness: a command whose trace has no refusal ends as done where no count of faults rises, but for want of memory.
-    ensures complete { (jobs : List Job) (bytes : List ℕ) → IsCommand words.now → T.left trace.old ≡ Some bytes → Reads 1 bytes (Ok jobs)
-        → (Rose (T.faults trace.old) (T.faults trace.new) → ⊥) → (Rose (O.faults report.old) (O.faults report.new) → ⊥)
-        → (result ≡ Status.Done) ⊎ (result ≡ Status.NoMemory) }
+    // What is written at `Done`, the cause of every other way to end, and that a command whose inputs are not refused ends as
+    // done where no count of faults rises, but for want of memory.
+    ensures outcome { (request : Request) → Asks words.now request → IsOutcome request
+        (record {
+          image = record { left = I.left image.old; faults_before = I.faults image.old; faults_after = I.faults image.new };
+          trace = record { left = T.left trace.old; faults_before = T.faults trace.old; faults_after = T.faults trace.new };
+          report = record { given_before = O.written report.old; given_after = O.written report.new; faults_before = O.faults report.old; faults_after = O.faults report.new };
+          fresh = record { given_before = N.written fresh.old; given_after = N.written fresh.new; faults_before = N.faults fresh.old; faults_after = N.faults fresh.new };
+        })
+        result }
 {
     match read_command(words) {
         None => Status::Usage,
-        Some(Command::Try { shape }) => {
-            law_readings();
-            try_trace(alloc, shape, trace, report)
-        }
+        Some(command) => run_command(alloc, command, image, trace, report, fresh),
     }
 }

@@ -1,10 +1,7 @@
-use Rattle.madfs_cli.proofs.OutcomeLemmas.{refusal_comes, done_comes}
+-- The words ask one thing.
+use Rattle.madfs_cli.specs.Commands.{request_of}
+use Rattle.madfs_cli.proofs.RequestLemmas.{outcome_of}
 use Rattle.madfs_cli.proofs.top.run.Goals as goal
 
-pub returns-in-Some-Try-clause-bad_trace_comes : goal.returns-in-Some-Try-clause-bad_trace_comes
-returns-in-Some-Try-clause-bad_trace_comes g c =
-    λ why bytes command known refused. refusal_comes c.law_readings.ensures.one_reading _ _ _ c.try_trace.result why bytes c.try_trace.ensures.ends known refused
-
-pub returns-in-Some-Try-clause-complete : goal.returns-in-Some-Try-clause-complete
-returns-in-Some-Try-clause-complete g c =
-    λ jobs bytes command known read no_read no_write. done_comes c.law_readings.ensures.one_reading _ _ _ c.try_trace.result jobs bytes c.try_trace.ensures.ends known read no_read no_write
+pub returns-in-Some-clause-outcome : goal.returns-in-Some-clause-outcome
+returns-in-Some-clause-outcome g c = λ request asks. outcome_of c.args.words.now (request_of c.in-Some.command) request _ c.run_command.result c.in-Some.ensures asks c.run_command.ensures.outcome

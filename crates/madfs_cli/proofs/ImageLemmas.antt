@@ -1,0 +1,101 @@
+-- What an opened image says of the image that a command reads.
+use Rattle.std.proofs.Common.{◌≡◌, ◌+◌, ◌<◌, ◌≤◌, ℕ, List, ◌++◌, length, None, Err, length-append, refl, sym, ap, ◌∙◌, subst, inl, inr, Some, Option, arith}
+use Rattle.io_ends.specs.Taking.{TakesAll, TakesCount}
+use Rattle.log_image.specs.Header.{shape_of}
+use Rattle.log_image.specs.Chains.{IsChain}
+use Rattle.log_image.specs.Holes.{hole_of, IsCleared}
+use Rattle.log_image.specs.Positions.{position_of}
+use Rattle.log_image.specs.Laws.{StaysCleared}
+use Rattle.log_image.specs.Stands.{StandsBy}
+use Rattle.log_image.specs.Recovered.{Recovered}
+use Rattle.log_image.specs.declared.starts.Start.{Start}
+use Rattle.log_image.proofs.OneChain.{one_chain}
+use Rattle.log_image.proofs.ClearedImages.{clearing_keeps}
+use Rattle.opening_rules.specs.Opening.{RefusesBytes, AcceptsBytes, chain_of}
+use Rattle.opening_rules.specs.declared.refusals.BadImage.{BadImage}
+use Rattle.opening_rules.proofs.Accepted.{file_of, stands_by, accepted_stands}
+use Rattle.opening_rules.proofs.WholeWords.{one_refusal_of_bytes, not_both_of_bytes}
+use Rattle.recovery.specs.OpenAnswers.{OpensBytes}
+use Rattle.recovery.specs.declared.refusals.OpenRefusal.{OpenRefusal}
+use Rattle.recovery.specs.declared.refusals.OpenRefusal.TheVariants.{Bad, NoMemory}
+use Rattle.image_tools.specs.DumpText.{dump_text}
+use Rattle.madfs_cli.specs.Images.{image_limit, RefusesImage, Clears, OpensTo, IsFileOf, IsDumpOf}
+
+-- what clearing leaves of an image that opens
+pub opens_to : (bytes words rest : List ℕ) (start : Start) → AcceptsBytes bytes words rest → ((chain file : List ℕ) (position : ℕ) → StandsBy words chain file position → Recovered words start file position) → OpensTo bytes start.words.items
+opens_to bytes words rest start accepts recovers =
+    let stands = accepted_stands words rest accepts.accepts in
+    let recovered = recovers (chain_of words rest) stands.0 stands.1 stands.2 in
+    let one : recovered.chain ≡ chain_of words rest = one_chain words (shape_of words) recovered.chain (chain_of words rest) recovered.of_words stands.2.stands.is_chain in
+    record {
+      chain = chain_of words rest;
+      clears = record {
+        words = words;
+        rest = rest;
+        accepts = accepts;
+        chain_is = refl;
+        cleared_is = subst (λ (l : List ℕ). IsCleared (shape_of words) (hole_of words (shape_of words) l) words start.words.items) one recovered.cleared;
+      };
+    }
+
+-- the words that clearing leaves stand for the same file
+clears_stand : (bytes chain cleared : List ℕ) → (clears : Clears bytes chain cleared) → StaysCleared clears.words cleared (chain_of clears.words clears.rest) (file_of clears.words clears.rest) (position_of clears.words (shape_of clears.words) (chain_of clears.words clears.rest))
+clears_stand bytes chain cleared clears =
+    clearing_keeps clears.words cleared (chain_of clears.words clears.rest) (file_of clears.words clears.rest) (position_of clears.words (shape_of clears.words) (chain_of clears.words clears.rest))
+    (stands_by clears.words clears.rest clears.accepts.accepts)
+    (subst (λ (l : List ℕ). IsCleared (shape_of clears.words) (hole_of clears.words (shape_of clears.words) l) clears.words cleared) clears.chain_is clears.cleared_is)
+
+-- the file of what clearing leaves is the image's
+pub file_shown : (bytes cleared text : List ℕ) → OpensTo bytes cleared → ((chain file : List ℕ) (position : ℕ) → StandsBy cleared chain file position → text ≡ file) → IsFileOf bytes text
+file_shown bytes cleared text opens shown =
+    let clears = opens.clears in
+    let same : text ≡ file_of clears.words clears.rest =
+    shown (chain_of clears.words clears.rest) (file_of clears.words clears.rest) (position_of clears.words (shape_of clears.words) (chain_of clears.words clears.rest)) (clears_stand bytes opens.chain cleared clears).stands in
+    record {
+      words = clears.words;
+      rest = clears.rest;
+      accepts = clears.accepts;
+      position = position_of clears.words (shape_of clears.words) (chain_of clears.words clears.rest);
+      stands = subst (λ (l : List ℕ). StandsBy clears.words (chain_of clears.words clears.rest) l (position_of clears.words (shape_of clears.words) (chain_of clears.words clears.rest))) (sym same) (stands_by clears.words clears.rest clears.accepts.accepts);
+    }
+
+-- the text of what clearing leaves
+pub dump_shown : (bytes cleared text : List ℕ) → OpensTo bytes cleared → ((chain : List ℕ) → IsChain cleared (shape_of cleared) chain → text ≡ dump_text cleared (shape_of cleared) chain) → IsDumpOf bytes text
+dump_shown bytes cleared text opens shown =
+    let clears = opens.clears in
+    let is : IsChain cleared (shape_of cleared) opens.chain = subst (λ (l : List ℕ). IsChain cleared (shape_of cleared) l) (sym clears.chain_is) (clears_stand bytes opens.chain cleared clears).stands.stands.is_chain in
+    record { chain = opens.chain; cleared = cleared; clears = clears; text_is = shown opens.chain is }
+
+-- an image has one refusal
+pub one_image_refusal : (bytes : List ℕ) (why other : BadImage) → RefusesImage bytes why → RefusesImage bytes other → why ≡ other
+one_image_refusal bytes why other (inl long) (inl also) = long.1 ∙ sym also.1
+one_image_refusal bytes why other (inl long) (inr short) = absurd (omega (arith, long.0, short.0))
+one_image_refusal bytes why other (inr short) (inl long) = absurd (omega (arith, long.0, short.0))
+one_image_refusal bytes why other (inr refused) (inr again) = one_refusal_of_bytes bytes why other refused.1 again.1
+
+-- an image that opens is not refused
+pub not_refused : (bytes words rest : List ℕ) (why : BadImage) → length bytes ≤ image_limit → AcceptsBytes bytes words rest → RefusesImage bytes why → ⊥
+not_refused bytes words rest why few accepts (inl long) = omega (arith, long.0, few)
+not_refused bytes words rest why few accepts (inr refused) = not_both_of_bytes bytes words rest why refused.1 accepts
+
+-- all that was left is these bytes
+pub all_taken : (before after : Option (List ℕ)) (taken bytes : List ℕ) → TakesAll before after taken → before ≡ Some bytes → taken ≡ bytes
+all_taken None after taken bytes takes known = cc
+all_taken (Some left) after taken bytes takes known = cc (takes.0, known)
+
+-- a source that gave one byte more than the limit had more
+pub too_long : (before after : Option (List ℕ)) (bytes : List ℕ) → TakesCount before after (image_limit + 1) → before ≡ Some bytes → image_limit < length bytes
+too_long before None bytes takes known = cc (takes.2, known)
+too_long before (Some left) bytes takes known =
+    let same : bytes ≡ takes.0 ++ left = some_same bytes (takes.0 ++ left) (sym known ∙ takes.2) in
+    omega (arith, ap length same, length-append takes.0 left, takes.1)
+  where
+    some_same : (a b : List ℕ) → Some a ≡ Some b → a ≡ b
+    some_same a b same = cc
+
+-- a refusal of the bytes that were read, which are no more than an image may have
+pub image_refused : (bytes read : List ℕ) (refusal : OpenRefusal) (why : BadImage) → refusal ≡ Bad why → OpensBytes (Err refusal) read → read ≡ bytes → length bytes ≤ image_limit → RefusesImage bytes why
+image_refused bytes read (Bad other) why same refuses is few =
+    let one : other ≡ why = cc in
+    inr (few, subst (λ (l : List ℕ). RefusesBytes l why) is (subst (λ (w : BadImage). RefusesBytes read w) one refuses))
+image_refused bytes read NoMemory why same refuses is few = cc
