@@ -1,25 +1,35 @@
 //! The program: makes the real things, calls the top call, and shows its status.
 #![tactic(auto)]
 
-ghost use Rattle.std.specs.Prelude.{◌≡◌, ◌↔◌, ◌⊎◌, IfErr};
+ghost use Rattle.std.specs.Prelude.{◌≡◌, ◌⊎◌, IfErr};
 ghost use Rattle.madfs_cli.specs.Commands.{IsCommand};
 
-use io_ends::{Bytes, FromRead, Gathered, ToWrite, Words};
+mod image_files;
+
+use crate::image_files::{ImageFile, NO_FILE, NewImage};
+use io_ends::{FromRead, ToWrite, Words};
 use madfs_cli::{Status, run};
-use std::alloc::Global;
+use std::alloc::{AllocError, Global};
 use std::process::ExitCode;
-use std::rt::Env;
+use std::rt::{Env, Files};
 use std::{env, io};
 
 /// What `--help` prints.
 const HELP: &str = "\
 madfs <image> <command> <arguments>
 
+mkfs <data blocks> <log blocks> <block bytes>
+    makes an image, and prints its blocks and bytes
 try <data blocks> <log blocks> <block bytes> <seats>
     runs the trace on standard input on an empty file, and prints the report
+cat
+    prints the bytes of the image's file
+dump
+    prints the image's chain and its entries
 
-The image name - stands for an image of no bytes. Exit status: 0 done, 2 usage,
-4 bad trace, 5 read fault, 6 write fault, 7 no memory.";
+The image name - stands for an image of no bytes, and for a new image that is
+thrown away. Exit status: 0 done, 2 usage, 3 bad image, 4 bad trace, 5 read
+fault, 6 write fault, 7 no memory.";
 
 /// What `--version` prints.
 const VERSION: &str = "madfs 0.1.0";
@@ -29,8 +39,8 @@ const VERSION: &str = "madfs 0.1.0";
 enum Invocation {
     Help,
     Version,
-    /// A command of these words. No command reads or writes an image so far.
-    Command(Words),
+    /// A command of these words, on the image of this name.
+    Command { image: String, words: Words },
 }
 
 /// The arguments of the program: the image's name, and the words of a command after it.
@@ -47,7 +57,8 @@ fn read_arguments<R: Env + AllocGlobal>(rt: &R) -> Result<Invocation, Status>
     };
     let _program = arguments.next();
     let Some(image) = arguments.next() else {
-        return Ok(Invocation::Command(words));
+        let image = String::new(rt.alloc());
+        return Ok(Invocation::Command { image, words });
     };
     for word in arguments {
         if words.push(word.as_str()).is_err() {
@@ -60,26 +71,43 @@ fn read_arguments<R: Env + AllocGlobal>(rt: &R) -> Result<Invocation, Status>
     if words.count() == 0 && image.as_str() == "--version" {
         return Ok(Invocation::Version);
     }
-    Ok(Invocation::Command(words))
+    Ok(Invocation::Command { image, words })
 }
 
-/// Runs a command on standard input and output.
-fn run_command<R: Input + Print + AllocGlobal>(rt: &R, words: &Words) -> Status
-    ensures { (result ≡ Status.Usage) ↔ (IsCommand words.now → ⊥) }
+/// The name of the file that a new image goes to: that of the image and `.new`, or none where it is thrown away.
+fn new_name(alloc: Global, image: &str) -> Result<Option<String>, AllocError> {
+    if image == NO_FILE {
+        return Ok(None);
+    }
+    let name = format!(in alloc; "{image}.new")?;
+    Ok(Some(name))
+}
+
+/// Runs a command on the image of this name, standard input and standard output. Where it is done and made a new image, that takes
+/// the image's place; a renaming that fails is a write fault.
+fn run_command<R: Input + Print + Files + AllocGlobal>(rt: &R, image: &str, words: &Words) -> Status
+    ensures { result ≡ Status.Usage → IsCommand words.now → ⊥ }
 {
     let alloc: Global = rt.alloc();
-    let mut image = Bytes::new(Vec::new(alloc));
-    let mut fresh = Gathered::new(alloc);
+    let Ok(name) = new_name(alloc, image) else {
+        return Status::NoMemory;
+    };
+    let mut source = ImageFile::open(rt, image);
+    let mut fresh = NewImage::new(rt, name);
     let mut trace = FromRead::new(rt.reader());
     let mut report = ToWrite::new(io::writer(rt));
-    run(
+    let status = run(
         alloc,
         words,
-        &mut image,
+        &mut source,
         &mut trace,
         &mut report,
         &mut fresh,
-    )
+    );
+    if status == Status::Done && !fresh.replace(image) {
+        return Status::WriteFault;
+    }
+    status
 }
 
 /// Prints a text of the program's own. A write that fails is the program's write fault.
@@ -96,7 +124,7 @@ fn main(rt: HostRuntime) -> ExitCode {
     let status = match read_arguments(&rt) {
         Ok(Invocation::Help) => print_text(&rt, HELP),
         Ok(Invocation::Version) => print_text(&rt, VERSION),
-        Ok(Invocation::Command(words)) => run_command(&rt, &words),
+        Ok(Invocation::Command { image, words }) => run_command(&rt, image.as_str(), &words),
         Err(status) => status,
     };
     if status != Status::Done {

@@ -13,9 +13,10 @@ ghost use Rattle.trace_reader.specs.declared.refusals.BadTrace.{BadTrace};
 
 use crate::commands::Command;
 use crate::histories::answer_all;
-use crate::inputs::{open_image, read_jobs};
+use crate::images::open_image;
 use crate::outputs::Output;
 use crate::statuses::Status;
+use crate::traces::read_jobs;
 use history_report::print_report;
 use image_tools::{dump, file_of, mkfs};
 use io_ends::Source;

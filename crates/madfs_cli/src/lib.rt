@@ -4,13 +4,16 @@
 pub mod answers;
 pub mod commands;
 pub mod histories;
-pub mod inputs;
+#[cfg(test)]
+mod image_tests;
+pub mod images;
 pub mod outputs;
 pub mod plain_file;
 pub mod statuses;
 #[cfg(test)]
 mod tests;
 pub mod top;
+pub mod traces;
 
 pub use statuses::Status;
 pub use top::run;

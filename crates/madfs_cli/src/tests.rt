@@ -2,6 +2,7 @@
 
 use crate::{Status, run};
 use io_ends::{Bytes, FailingBytes, FailingGathered, Gathered, Sink, Source, Words};
+use opening_rules::BadImage;
 use std::alloc::{AllocError, Global};
 use std::test::Fail;
 use trace_reader::BadTrace;
@@ -95,7 +96,7 @@ fn writes_of_too_many_blocks_are_refused(rt: HostRuntime) -> Result<(), Fail> {
 }
 
 /// Words that are no command.
-const NO_COMMANDS: [&str; 14] = [
+const NO_COMMANDS: [&str; 18] = [
     "",
     "try",
     "try 40 4 64",
@@ -110,6 +111,10 @@ const NO_COMMANDS: [&str; 14] = [
     "try -1 4 64 1",
     "try 40 4 64 +1",
     "replay 1",
+    "mkfs 2 1 63",
+    "mkfs 2 1 64 1",
+    "cat -",
+    "dump dump",
 ];
 
 #[test]
@@ -168,12 +173,26 @@ fn faults_are_reported(rt: HostRuntime) -> Result<(), Fail> {
 }
 
 /// The line of each status, and its exit status.
-const ENDINGS: [(Status, &str, u8); 11] = [
+const ENDINGS: [(Status, &str, u8); 13] = [
     (Status::Done, "", 0),
     (
         Status::Usage,
         "madfs: usage: madfs <image> <command> <arguments>",
         2,
+    ),
+    (
+        Status::BadImage(BadImage::BadMagic),
+        "madfs: image: BadMagic",
+        3,
+    ),
+    (
+        Status::BadImage(BadImage::BadEntry {
+            block: 41,
+            slot: 3,
+            word: 3,
+        }),
+        "madfs: image: BadEntry 41 3 3",
+        3,
     ),
     (
         Status::BadTrace(BadTrace::BadLine { line: 1 }),

@@ -1,47 +1,20 @@
-//! What a command reads.
+//! The image that a command reads.
 
-ghost use Rattle.std.specs.Prelude.{◌≡◌, ℕ, List, Some, Ok, Err, IfOk, IfErr, OnOk};
+ghost use Rattle.std.specs.Prelude.{◌≡◌, ℕ, List, Some, IfOk, IfErr, OnOk};
 ghost use Rattle.io_ends.specs.Taking.{IsAtEnd};
-ghost use Rattle.trace_reader.specs.Trace.{IsTrace};
-ghost use Rattle.trace_reader.specs.Reading.{Reads};
 ghost use Rattle.opening_rules.specs.declared.refusals.BadImage.{BadImage};
 ghost use Rattle.madfs_cli.specs.Images.{RefusesImage, OpensTo};
-ghost use Rattle.madfs_cli.specs.Inputs.{IsNotRead, IsNotOpened};
+ghost use Rattle.madfs_cli.specs.Inputs.{IsNotOpened};
 
 use crate::statuses::Status;
 use io_ends::{ReadAll, Source, read_all};
-use log_entry::Job;
 use log_image::Start;
 use opening_rules::BadImage;
 use recovery::{OpenRefusal, open_bytes};
 use std::alloc::Global;
-use trace_reader::{BadTrace, TraceRefusal, read_trace};
-
-/// The most bytes that a trace may have.
-const TRACE_LIMIT: usize = 67_108_864;
 
 /// The most bytes that an image may have: 65,535 blocks of 4,096 bytes.
 const IMAGE_LIMIT: usize = 268_431_360;
-
-/// The jobs of the trace that a source has left, read to its end.
-pub fn read_jobs<T: Source>(alloc: Global, trace: &mut T) -> Result<Vec<Job>, Status>
-    ensures jobs { IfOk result (λ jobs. IsTrace 1 jobs.items) }
-    ensures read { IfOk result (λ jobs. (bytes : List ℕ) → T.left trace.old ≡ Some bytes → Reads 1 bytes (Ok jobs.items)) }
-    ensures end { OnOk result (IsAtEnd (T.left trace.new)) }
-    ensures refused { IfErr result (IsNotRead (T.left trace.old) (T.faults trace.old) (T.faults trace.new)) }
-{
-    let bytes = match read_all(alloc, trace, TRACE_LIMIT) {
-        Ok(bytes) => bytes,
-        Err(ReadAll::ReadFault) => return Err(Status::ReadFault),
-        Err(ReadAll::TooLong) => return Err(Status::BadTrace(BadTrace::TooLong)),
-        Err(ReadAll::NoMemory) => return Err(Status::NoMemory),
-    };
-    match read_trace(alloc, bytes.as_slice(), 1) {
-        Ok(jobs) => Ok(jobs),
-        Err(TraceRefusal::Bad(why)) => Err(Status::BadTrace(why)),
-        Err(TraceRefusal::NoMemory) => Err(Status::NoMemory),
-    }
-}
 
 /// The image that a source has left, read to its end, opened and cleared.
 pub fn open_image<I: Source>(alloc: Global, image: &mut I) -> Result<Start, Status>

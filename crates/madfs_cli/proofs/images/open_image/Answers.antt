@@ -3,7 +3,7 @@ use Rattle.std.proofs.Common.{◌≡◌, ◌≤◌, ◌∙◌, ℕ, List, length
 use Rattle.opening_rules.specs.Opening.{AcceptsBytes}
 use Rattle.madfs_cli.specs.Images.{image_limit}
 use Rattle.madfs_cli.proofs.ImageLemmas.{opens_to, not_refused, all_taken, image_refused}
-use Rattle.madfs_cli.proofs.inputs.open_image.Goals as goal
+use Rattle.madfs_cli.proofs.images.open_image.Goals as goal
 
 pub returns-in-Ok-open_bytes-clause-opened : goal.returns-in-Ok-open_bytes-clause-opened
 returns-in-Ok-open_bytes-clause-opened g c = λ bytes known.

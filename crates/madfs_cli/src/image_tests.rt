@@ -1,0 +1,150 @@
+//! Images made, shown and refused, through the top call.
+
+use crate::{Status, run};
+use io_ends::{Bytes, FailingBytes, FailingGathered, Gathered, Sink, Source, Words};
+use log_entry::{of_bytes, to_bytes};
+use opening_rules::BadImage;
+use std::alloc::{AllocError, Global};
+use std::test::Fail;
+
+/// Runs a command over this image and this new image, with no trace.
+fn run_over<I: Source, N: Sink>(
+    alloc: Global,
+    line: &str,
+    image: &mut I,
+    report: &mut Gathered,
+    fresh: &mut N,
+) -> Result<Status, AllocError> {
+    let mut words = Words::new(alloc);
+    for word in line.split_whitespace() {
+        words.push(word)?;
+    }
+    let mut trace = Bytes::new(Vec::new(alloc));
+    Ok(run(alloc, &words, image, &mut trace, report, fresh))
+}
+
+/// The bytes of a just-made image.
+fn made(alloc: Global, line: &str) -> Result<Vec<u8>, AllocError> {
+    let mut none = Bytes::new(Vec::new(alloc));
+    let mut report = Gathered::new(alloc);
+    let mut fresh = Gathered::new(alloc);
+    let _status = run_over(alloc, line, &mut none, &mut report, &mut fresh)?;
+    Vec::from_slice(alloc, fresh.bytes())
+}
+
+#[test]
+fn an_image_is_made_and_shown(rt: HostRuntime) -> Result<(), Fail> {
+    let alloc = rt.alloc();
+    let mut none = Bytes::new(Vec::new(alloc));
+    let mut report = Gathered::new(alloc);
+    let mut fresh = Gathered::new(alloc);
+    let status = run_over(alloc, "mkfs 2 1 64", &mut none, &mut report, &mut fresh)?;
+    assert_eq!(rt; status, Status::Done);
+    assert_eq!(rt; report.bytes(), b"blocks 24 bytes 1536\n".as_slice());
+    let mut want = vec![in alloc; 0u64; 192]?;
+    want[0] = 0x314d_4953_4644_414d;
+    want[1] = 393217;
+    want[2] = 4294967298;
+    want[3] = 4294967299;
+    want[25] = 4611686018427387904;
+    let want = to_bytes(alloc, &want)?;
+    assert_eq!(rt; fresh.bytes(), want.as_slice());
+    let mut image = Bytes::new(Vec::from_slice(alloc, fresh.bytes())?);
+    let mut text = Gathered::new(alloc);
+    let status = run_over(alloc, "dump", &mut image, &mut text, &mut fresh)?;
+    assert_eq!(rt; status, Status::Done);
+    let want =
+        b"image data 2 log 1 spare 20 block 64\nhead generation 1 block 3\nlog 3 base 0\nend 0 0\n";
+    assert_eq!(rt; text.bytes(), want.as_slice());
+    Ok(())
+}
+
+/// Words of an image of 40 data blocks, four log blocks and 64-byte blocks that are changed, and how showing its file then ends.
+/// Each has the entry of one byte in block 1, but the last.
+const CHANGES: [([(usize, u64); 3], Status); 4] = [
+    (
+        [(331, 277076930461697), (332, 3), (328, 41)],
+        Status::BadImage(BadImage::BadLink {
+            block: 41,
+            word: 41,
+        }),
+    ),
+    (
+        [(331, 277076930461697), (332, 277076930461697), (328, 0)],
+        Status::BadImage(BadImage::BadShare { block: 1 }),
+    ),
+    (
+        [(331, 277076930461697), (8, 256), (328, 0)],
+        Status::BadImage(BadImage::BadSlack { block: 1 }),
+    ),
+    (
+        [(331, 3), (332, 0), (328, 0)],
+        Status::BadImage(BadImage::BadEntry {
+            block: 41,
+            slot: 3,
+            word: 3,
+        }),
+    ),
+];
+
+#[test]
+fn bad_images_are_refused(rt: HostRuntime) -> Result<(), Fail> {
+    let alloc = rt.alloc();
+    let bytes = made(alloc, "mkfs 40 4 64")?;
+    for (changes, want) in CHANGES {
+        let mut words = of_bytes(alloc, &bytes)?;
+        for (place, word) in changes {
+            words[place] = word;
+        }
+        let mut image = Bytes::new(to_bytes(alloc, &words)?);
+        let mut report = Gathered::new(alloc);
+        let mut fresh = Gathered::new(alloc);
+        let status = run_over(alloc, "cat", &mut image, &mut report, &mut fresh)?;
+        assert_eq!(rt; status, want);
+        assert_eq!(rt; report.bytes(), b"".as_slice());
+    }
+    Ok(())
+}
+
+#[test]
+fn a_file_is_shown(rt: HostRuntime) -> Result<(), Fail> {
+    let alloc = rt.alloc();
+    let mut words = of_bytes(alloc, &made(alloc, "mkfs 40 4 64")?)?;
+    words[331] = 277076930461697;
+    words[8] = 0x61;
+    let bytes = to_bytes(alloc, &words)?;
+    let mut fresh = Gathered::new(alloc);
+    let mut image = Bytes::new(Vec::from_slice(alloc, &bytes)?);
+    let mut report = Gathered::new(alloc);
+    let status = run_over(alloc, "cat", &mut image, &mut report, &mut fresh)?;
+    assert_eq!(rt; status, Status::Done);
+    assert_eq!(rt; report.bytes(), b"a".as_slice());
+    let mut short = Bytes::new(Vec::from_slice(alloc, &bytes[..5055])?);
+    let status = run_over(alloc, "cat", &mut short, &mut report, &mut fresh)?;
+    assert_eq!(rt; status, Status::BadImage(BadImage::Short { bytes: 5055 }));
+    let mut long = bytes;
+    long.push(0)?;
+    let mut long = Bytes::new(long);
+    let status = run_over(alloc, "cat", &mut long, &mut report, &mut fresh)?;
+    assert_eq!(rt; status, Status::BadImage(BadImage::Long { bytes: 5057 }));
+    Ok(())
+}
+
+#[test]
+fn faults_of_images_are_reported(rt: HostRuntime) -> Result<(), Fail> {
+    let alloc = rt.alloc();
+    let bytes = made(alloc, "mkfs 2 1 64")?;
+    let mut broken = FailingBytes::new(bytes, vec![in alloc; 2]?);
+    let mut report = Gathered::new(alloc);
+    let mut fresh = Gathered::new(alloc);
+    let status = run_over(alloc, "dump", &mut broken, &mut report, &mut fresh)?;
+    assert_eq!(rt; status, Status::ReadFault);
+    assert_eq!(rt; report.bytes(), b"".as_slice());
+    let mut none = Bytes::new(Vec::new(alloc));
+    let mut full = FailingGathered::new(alloc, vec![in alloc; 1]?);
+    let status = run_over(alloc, "mkfs 2 1 64", &mut none, &mut report, &mut full)?;
+    assert_eq!(rt; status, Status::WriteFault);
+    assert_eq!(rt; report.bytes(), b"blocks 24 bytes 1536\n".as_slice());
+    assert_eq!(rt; full.bytes(), b"".as_slice());
+    Ok(())
+}
