@@ -1,0 +1,4 @@
+pub mod ListLemmas
+pub mod ChainSteps
+pub mod EntrySteps
+pub mod Extension
