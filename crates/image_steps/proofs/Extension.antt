@@ -17,13 +17,10 @@ use Rattle.log_image.specs.Format.{fits, is_direct, is_log_entry, is_log_block, 
 use Rattle.log_image.proofs.HoldingLemmas.{both_left, both_right}
 use Rattle.log_image.proofs.ClearedChains.{both}
 use Rattle.image_steps.specs.SameWords.{SameBlocks}
+use Rattle.image_steps.specs.Steps.{fits_log}
 use Rattle.image_steps.proofs.ListLemmas.{all_join, all_front, all_back, each_front, each_back}
 use Rattle.image_steps.proofs.ChainSteps.{log_entry_words, snapshots_front, logs_front, snapshots_kept, logs_kept, same_snapshots, same_logs, linked_kept, bases_kept, first_base_kept, first_size_kept, words_kept, logs_go_on}
 use Rattle.image_steps.proofs.EntrySteps.{meanings_kept, entries_kept, names_join, third_of, entries_in, good_block, logs_good, kept_in, kept_same, tests_kept, direct_entries}
-
--- a direct entry that fits a log block
-abbrev pub fits_log : Shape → ℕ → Bool
-fits_log shape word = is_direct word && fits shape (longest_of shape.block_bytes) (direct_meaning word)
 
 -- the blocks before the tail, and those that the entries name, are the same; the tail has these entries more, and these log
 -- blocks, of no entry yet, follow it

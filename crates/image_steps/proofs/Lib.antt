@@ -6,3 +6,6 @@ pub mod BlockLemmas
 pub mod SlotLemmas
 pub mod HeaderSteps
 pub mod NameLemmas
+pub mod TailLemmas
+pub mod StoreStep
+pub mod SetWordLemmas
