@@ -9,3 +9,4 @@ pub mod NameLemmas
 pub mod TailLemmas
 pub mod StoreStep
 pub mod SetWordLemmas
+pub mod EntryStep

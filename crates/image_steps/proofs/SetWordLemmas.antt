@@ -46,7 +46,7 @@ set_header shape old block index word long log = record {
 
 -- a number before the last of different ones is not the last
 pub not_last : (front : List ℕ) (tail : ℕ) (more : List ℕ) → all_different (front ++ tail ∷ more) ≡ true → (block : ℕ) → is_in front block ≡ true → block ≢ tail
-not_last [] tail more different block inside same = cc
+not_last [] tail more different block inside = λ same. (let never : false ≡ true = inside in cc)
 not_last (first ∷ front) tail more different block inside = go (first == block) refl (λ later. not_last front tail more (both_right (not (is_in (front ++ tail ∷ more) first)) (all_different (front ++ tail ∷ more)) different) block later)
   where
     never : (b : Bool) → not b ≡ true → b ≡ true → ⊥
