@@ -10,3 +10,4 @@ pub mod TailLemmas
 pub mod StoreStep
 pub mod SetWordLemmas
 pub mod EntryStep
+pub mod LinkStep
