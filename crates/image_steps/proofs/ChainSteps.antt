@@ -1,8 +1,8 @@
 -- The chain of an image in which the blocks before the tail are the same and the tail has the same kind and base.
-use Rattle.std.proofs.Common.{◌≡◌, ◌+◌, ◌==◌, ℕ, Bool, true, false, List, [], ◌∷◌, ◌++◌, length, get_or, if◌then◌else◌, refl, sym, ap, ◌∙◌, subst, arith, length-append}
-use Rattle.std.specs.List.{flat_map, AllByRecursion}
+use Rattle.std.proofs.Common.{◌≡◌, ◌+◌, ℕ, Bool, true, false, List, [], ◌∷◌, ◌++◌, length, get_or, if◌then◌else◌, refl, sym, ap, ◌∙◌, subst, arith, length-append}
+use Rattle.std.specs.List.{flat_map}
 use Rattle.log_entry.specs.Fields.{field}
-use Rattle.log_entry.specs.declared.layouts.TheConstants.{BLOCK_KIND, BLOCK_BASE, SNAPSHOT}
+use Rattle.log_entry.specs.declared.layouts.TheConstants.{BLOCK_KIND, BLOCK_BASE}
 use Rattle.log_image.specs.Image.{Shape, block_words}
 use Rattle.log_image.specs.Header.{head_block}
 use Rattle.log_image.specs.Blocks.{link_of, is_snapshot, base_of, file_size, slots_of, entry_words, leads_on}

@@ -1,7 +1,6 @@
 -- An entry in the slot that is the hole is a write.
 use Rattle.std.proofs.Common.{◌≡◌, ◌≢◌, ◌<◌, ◌≤◌, ◌+◌, ◌-◌, ◌*◌, ◌==◌, ◌&&◌, ◌||◌, ◌^◌, not, max, nat_lt, ℕ, Bool, true, false, List, [], ◌∷◌, ◌++◌, length, get_or, set, Option, Some, None, if◌then◌else◌, refl, sym, ap, ◌∙◌, subst, arith, length-drop, length-append}
-use Rattle.std.specs.List.{list_all, range_with_len}
-use Rattle.std.proofs.lemmas.Bool.{eq-eqb, ne_eqb, eqb-true, eqb-false, lt-ltb, ltb-true, ltb-false}
+use Rattle.std.proofs.lemmas.Bool.{eq-eqb, ne_eqb, eqb-true, lt-ltb, ltb-true, ltb-false}
 use Rattle.std.proofs.lemmas.Bool.Decides.{nat_tests}
 use Rattle.std.proofs.lemmas.List.{get_or-set_other, get_or-drop, get_or_past}
 use Rattle.std.proofs.lemmas.Grind.{flat_map-append}
@@ -11,20 +10,20 @@ use Rattle.log_entry.specs.WordBytes.{word_bytes}
 use Rattle.log_entry.specs.Words.{entry_unnamed}
 use Rattle.log_entry.specs.declared.layouts.TheConstants.{HEAD_BLOCK, ENTRY_KIND, DIRECT, BLOCK_KIND, SNAPSHOT, DIRECT_BLOCK, DIRECT_COUNT}
 use Rattle.log_image.specs.Image.{Shape, words_in, is_in_data, is_in_log, block_words, block_content}
-use Rattle.log_image.specs.Header.{shape_of, HasHeader}
+use Rattle.log_image.specs.Header.{shape_of}
 use Rattle.log_image.specs.Entries.{Meaning, direct_meaning, names, all_names}
-use Rattle.log_image.specs.Blocks.{is_snapshot, link_of, slots_of, entry_words, is_closed, leads_on}
-use Rattle.log_image.specs.Maps.{block_in, map_of, size_after, end_of}
+use Rattle.log_image.specs.Blocks.{is_snapshot, link_of, slots_of, entry_words, is_closed}
+use Rattle.log_image.specs.Maps.{block_in, map_of, end_of}
 use Rattle.log_image.specs.Chains.{all_different}
-use Rattle.log_image.specs.Positions.{entries_of, position_of, size_at_end}
+use Rattle.log_image.specs.Positions.{entries_of}
 use Rattle.log_image.specs.Format.{fits, is_direct, is_seal_placed, HasFormat}
-use Rattle.log_image.specs.Stands.{HoldsFile, StandsIn, StandsBy}
+use Rattle.log_image.specs.Stands.{HoldsFile, StandsIn}
 use Rattle.log_image.specs.Holes.{Hole, AtSlot, AtLink, last_block, hole_in, hole_of, is_after, IsClear}
 use Rattle.log_image.specs.Taken.{is_taken}
 use Rattle.log_image.proofs.HoldingLemmas.{both_left, both_right}
 use Rattle.log_image.proofs.ImageLemmas.{in_block, length_range}
-use Rattle.image_steps.specs.SameWords.{SameHeader, SameBlocks}
-use Rattle.image_steps.specs.Steps.{StandsClear, fits_log, IsEntryOf, next_hole, TakesEntry, EntriesAreWrites}
+use Rattle.image_steps.specs.SameWords.{SameHeader}
+use Rattle.image_steps.specs.Steps.{StandsClear, IsEntryOf, next_hole, TakesEntry, EntriesAreWrites}
 use Rattle.image_steps.proofs.ChainSteps.{log_entry_words}
 use Rattle.image_steps.proofs.Extension.{Extends, Extended, extended}
 use Rattle.image_steps.proofs.BlockLemmas.{set_here}
@@ -32,7 +31,7 @@ use Rattle.image_steps.proofs.SlotLemmas.{IsUsed, IsOpen, words_set, placed_set,
 use Rattle.image_steps.proofs.HeaderSteps.{header_shape, header_same, keeps_header, long_words}
 use Rattle.image_steps.proofs.NameLemmas.{is_in, test_in, fits_blocks, different_join, range_different}
 use Rattle.image_steps.proofs.TailLemmas.{split_chain, last_of, AtTail, at_tail, no_lead, name_taken, block_in_blocks, map_in_names, map_new, map_rest}
-use Rattle.image_steps.proofs.SetWordLemmas.{drop_set, past_header, set_header, set_front, set_data, set_named, set_names, tail_inside}
+use Rattle.image_steps.proofs.SetWordLemmas.{drop_set, set_header, set_front, set_data, set_named, set_names, tail_inside}
 use Rattle.image_steps.proofs.StoreStep.{nothing_after}
 
 -- what a hole that is a slot says
@@ -129,6 +128,7 @@ hole_moves shape old tail slot word is used =
   where
     test : (n long size at : ℕ) → 3 + n ≡ at → long ≡ size - 3 → 8 ≤ size → (n + 1 == long) ≡ (at + 1 == size)
     test n long size at slot_is long_is big = grind (arith, nat_tests)
+
     last : (length (log_entry_words old shape tail) + 1 == length (slots_of (block_words old shape tail))) ≡ (slot + 1 == words_in shape)
     last = test (length (log_entry_words old shape tail)) (length (slots_of (block_words old shape tail))) (words_in shape) slot is.same_slot (slots_long shape old tail slot is) is.long
 
@@ -143,6 +143,7 @@ clear_after shape old tail slot word is = go (slot + 1 == words_in shape)
         let past : tail * words_in shape + (slot + 1) < place = ltb-true (tail * words_in shape + (slot + 1)) place (both_left (nat_lt (tail * words_in shape + (slot + 1)) place) (nat_lt place (tail * words_in shape + words_in shape)) after) in
         let below : nat_lt place (tail * words_in shape + words_in shape) ≡ true = both_right (nat_lt (tail * words_in shape + (slot + 1)) place) (nat_lt place (tail * words_in shape + words_in shape)) after in
         (λ e. omega (arith, e, past), rw (is_link, below, lt-ltb (tail * words_in shape + slot) place (omega (arith, past))) refl)
+
     go : (last : Bool) → IsClear (set old (tail * words_in shape + slot) word) shape (if last then AtLink tail else AtSlot tail (slot + 1))
     go true place after = (let never : false ≡ true = after in cc)
     go false place after =
@@ -174,6 +175,7 @@ holds_new shape old chain file new_file tail slot word is format entry holds = r
   where
     small : slot < words_in shape
     small = slot_small shape old tail slot is
+
     mapped : (virt block : ℕ) → map_of (entries_of old shape chain ++ direct_meaning word ∷ []) virt ≡ Some block → (at : ℕ) → at < shape.block_bytes → (found : Option ℕ) → block_in (direct_meaning word) virt ≡ found →
         get_or (block_content (set old (tail * words_in shape + slot) word) shape block) at 0 ≡ get_or new_file (virt * shape.block_bytes + at) 0
     mapped virt block maps at inside (Some other) found =
@@ -186,6 +188,7 @@ holds_new shape old chain file new_file tail slot word is format entry holds = r
         let before : map_of (entries_of old shape chain) virt ≡ Some block = sym (map_rest (entries_of old shape chain) (direct_meaning word) virt none) ∙ maps in
         ap (λ (l : List ℕ). get_or (word_bytes l) at 0) (set_named shape old chain tail slot word small is.area format block (map_in_names (entries_of old shape chain) virt block before))
         ∙ holds.mapped virt block before at inside ∙ sym (entry.others virt none at inside)
+
     unmapped : (virt : ℕ) → map_of (entries_of old shape chain ++ direct_meaning word ∷ []) virt ≡ None → (at : ℕ) → at < shape.block_bytes → (found : Option ℕ) → block_in (direct_meaning word) virt ≡ found → get_or new_file (virt * shape.block_bytes + at) 0 ≡ 0
     unmapped virt none at inside (Some other) found = (let wrong : Some other ≡ None = sym (map_new (entries_of old shape chain) (direct_meaning word) virt other found) ∙ none in cc)
     unmapped virt none at inside None found = entry.others virt found at inside ∙ holds.unmapped virt (sym (map_rest (entries_of old shape chain) (direct_meaning word) virt found) ∙ none) at inside

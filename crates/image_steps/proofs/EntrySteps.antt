@@ -1,5 +1,5 @@
 -- The entries of a chain, and the rules of its blocks, in an image in which the blocks that the entries name are the same.
-use Rattle.std.proofs.Common.{◌≡◌, ◌+◌, ◌==◌, ◌&&◌, ◌||◌, ◌^◌, ℕ, Bool, true, false, List, [], ◌∷◌, ◌++◌, length, get_or, map, take, if◌then◌else◌, refl, sym, ap, ◌∙◌, subst, arith, length-append}
+use Rattle.std.proofs.Common.{◌≡◌, ◌==◌, ◌&&◌, ◌||◌, ℕ, Bool, true, false, List, [], ◌∷◌, ◌++◌, get_or, map, take, if◌then◌else◌, refl, sym, ap, ◌∙◌, subst}
 use Rattle.std.specs.List.{list_all, flat_map}
 use Rattle.std.proofs.lemmas.Bool.{eqb-true}
 use Rattle.std.proofs.lemmas.List.{map-append}
@@ -10,12 +10,12 @@ use Rattle.log_entry.specs.Words.{entry_unnamed}
 use Rattle.log_entry.specs.declared.layouts.TheConstants.{ENTRY_KIND, DIRECT, INDIRECT, INDIRECT_BLOCK}
 use Rattle.log_image.specs.Image.{Shape, is_in_data, block_words}
 use Rattle.log_image.specs.Entries.{Meaning, direct_meaning, indirect_meaning, meaning, names, all_names}
-use Rattle.log_image.specs.Blocks.{is_snapshot, entry_count, slots_of, entry_words}
-use Rattle.log_image.specs.Format.{fits, is_direct, is_indirect, is_indirect_block, is_log_entry, is_log_block, is_seal_placed, is_snapshot_block, is_kind_word}
+use Rattle.log_image.specs.Blocks.{entry_count, slots_of, entry_words}
+use Rattle.log_image.specs.Format.{fits, is_direct, is_indirect, is_indirect_block, is_log_entry, is_log_block, is_seal_placed}
 use Rattle.log_image.proofs.HoldingLemmas.{both_left, both_right}
 use Rattle.log_image.proofs.ClearedChains.{both}
 use Rattle.image_steps.specs.SameWords.{SameBlocks}
-use Rattle.image_steps.proofs.ListLemmas.{all_join, each_front, each_back}
+use Rattle.image_steps.proofs.ListLemmas.{each_front, each_back}
 use Rattle.image_steps.proofs.ChainSteps.{log_entry_words}
 
 -- an entry means the same where the blocks that it names are the same
@@ -45,8 +45,10 @@ entry_kept shape old new word same good = go (field ENTRY_KIND word == DIRECT) r
 pub meanings_kept : (shape : Shape) (old new words : List ℕ) → SameBlocks shape old new (all_names (map (meaning old shape) words)) → map (meaning new shape) words ≡ map (meaning old shape) words
 meanings_kept shape old new [] same = refl
 meanings_kept shape old new (word ∷ words) same =
-    rw (meaning_kept shape old new word (each_front (λ (b : ℕ). block_words new shape b ≡ block_words old shape b) (names (meaning old shape word)) (all_names (map (meaning old shape) words)) same),
-    meanings_kept shape old new words (each_back (λ (b : ℕ). block_words new shape b ≡ block_words old shape b) (names (meaning old shape word)) (all_names (map (meaning old shape) words)) same)) refl
+    rw (
+      meaning_kept shape old new word (each_front (λ (b : ℕ). block_words new shape b ≡ block_words old shape b) (names (meaning old shape word)) (all_names (map (meaning old shape) words)) same),
+      meanings_kept shape old new words (each_back (λ (b : ℕ). block_words new shape b ≡ block_words old shape b) (names (meaning old shape word)) (all_names (map (meaning old shape) words)) same),
+    ) refl
 
 pub entries_kept : (shape : Shape) (old new words : List ℕ) → SameBlocks shape old new (all_names (map (meaning old shape) words)) → list_all (is_log_entry old shape) words ≡ true → list_all (is_log_entry new shape) words ≡ true
 entries_kept shape old new [] same good = refl
@@ -122,5 +124,6 @@ direct_entries shape image (word ∷ words) good =
   where
     either : (a b : Bool) → a ≡ true → (a || b) ≡ true
     either a b is = rw is refl
+
     one : (w : ℕ) → is_direct w ≡ true → meaning image shape w ≡ direct_meaning w
     one w is = (let kind : (field ENTRY_KIND w == DIRECT) ≡ true = both_left (field ENTRY_KIND w == DIRECT) (entry_unnamed w == 0) is in rw kind refl)

@@ -1,20 +1,19 @@
 -- A chain that goes on: the blocks before its tail and those that its entries name are the same, the tail may have more entries, and blocks may follow it.
-use Rattle.std.proofs.Common.{◌≡◌, ◌+◌, ◌<◌, ◌==◌, ◌&&◌, ◌^◌, max, ℕ, Bool, true, false, List, [], ◌∷◌, ◌++◌, length, get_or, map, refl, sym, ap, ◌∙◌, subst, arith, length-append, append_assoc}
+use Rattle.std.proofs.Common.{◌≡◌, ◌+◌, ◌<◌, ◌==◌, ◌^◌, max, ℕ, true, false, List, [], ◌∷◌, ◌++◌, length, get_or, map, refl, sym, ap, ◌∙◌, subst, arith, length-append, append_assoc}
 use Rattle.std.specs.List.{list_all, flat_map}
 use Rattle.std.proofs.lemmas.List.{map-append}
 use Rattle.std.proofs.lemmas.Grind.{flat_map-append}
 use Rattle.log_entry.specs.Fields.{field}
-use Rattle.log_entry.specs.Shape.{longest_of}
 use Rattle.log_entry.specs.declared.layouts.TheConstants.{BLOCK_KIND, SNAPSHOT, BLOCK_UNNAMED}
 use Rattle.log_image.specs.Image.{Shape, is_in_log, block_words}
 use Rattle.log_image.specs.Header.{head_block}
 use Rattle.log_image.specs.Entries.{Meaning, direct_meaning, meaning, all_names}
-use Rattle.log_image.specs.Blocks.{is_snapshot, slots_of, entry_words}
-use Rattle.log_image.specs.Chains.{all_different, snapshots_of, logs_of, Leads, IsLinked, first_base, first_size, snapshot_base, snapshot_size, HaveOneBase, AreLogsFrom, IsChain}
+use Rattle.log_image.specs.Blocks.{is_snapshot, slots_of}
+use Rattle.log_image.specs.Chains.{all_different, snapshots_of, logs_of, Leads, first_base, first_size, snapshot_base, snapshot_size, HaveOneBase, AreLogsFrom, IsChain}
 use Rattle.log_image.specs.Positions.{snapshot_entries, log_words, log_entries, entries_of, position_of, size_at_end}
 use Rattle.log_image.specs.Maps.{size_after, end_of}
-use Rattle.log_image.specs.Format.{fits, is_direct, is_log_entry, is_log_block, is_seal_placed, is_snapshot_block, is_kind_word, HasFormat}
-use Rattle.log_image.proofs.HoldingLemmas.{both_left, both_right}
+use Rattle.log_image.specs.Format.{is_log_entry, is_log_block, is_seal_placed, is_snapshot_block, is_kind_word, HasFormat}
+use Rattle.log_image.proofs.HoldingLemmas.{both_left}
 use Rattle.log_image.proofs.ClearedChains.{both}
 use Rattle.image_steps.specs.SameWords.{SameBlocks}
 use Rattle.image_steps.specs.Steps.{fits_log}
@@ -160,8 +159,13 @@ chain_new shape old new front tail more added began is = record {
       (logs_go_on shape old new (snapshot_base old shape (front ++ tail ∷ [])) (logs_of old shape front) tail more (same_logs shape old new front is.front_same) is.word
       (subst (λ (l : List ℕ). AreLogsFrom old shape (snapshot_base old shape (front ++ tail ∷ [])) l) (logs_front old shape front tail [] is.is_log) began.is_chain.logs)
       (subst (λ (n : ℕ). AreLogsFrom new shape n more)
-      (omega (arith, ap length (words_old shape old front tail is.is_log), length-append (flat_map (log_entry_words old shape) (logs_of old shape front)) (log_entry_words old shape tail),
-      ap length is.tail_words, length-append (log_entry_words old shape tail) added)) is.more_logs)));
+      (omega (
+        arith,
+        ap length (words_old shape old front tail is.is_log),
+        length-append (flat_map (log_entry_words old shape) (logs_of old shape front)) (log_entry_words old shape tail),
+        ap length is.tail_words,
+        length-append (log_entry_words old shape tail) added,
+      )) is.more_logs)));
 }
 
 format_new : (shape : Shape) (old new front : List ℕ) (tail : ℕ) (more added : List ℕ) → Began shape old front tail → Extends shape old new front tail more added → HasFormat new shape (front ++ tail ∷ more)
@@ -186,18 +190,23 @@ format_new shape old new front tail more added began is = record {
   where
     logs_old : list_all (λ (b : ℕ). is_log_block old shape (block_words old shape b)) (logs_of old shape front ++ tail ∷ []) ≡ true
     logs_old = sym (ap (λ (l : List ℕ). list_all (λ (b : ℕ). is_log_block old shape (block_words old shape b)) l) (logs_front old shape front tail [] is.is_log)) ∙ began.format.logs
+
     tail_old : is_log_block old shape (block_words old shape tail) ≡ true
     tail_old = both_left (is_log_block old shape (block_words old shape tail)) true (all_back (λ (b : ℕ). is_log_block old shape (block_words old shape b)) (logs_of old shape front) (tail ∷ []) logs_old)
+
     parts : SameBlocks shape old new (all_names (map (meaning old shape) (flat_map (log_entry_words old shape) (logs_of old shape front))) ++ all_names (map (meaning old shape) (log_entry_words old shape tail)))
     parts =
         subst (λ (l : List ℕ). SameBlocks shape old new l)
         (ap (λ (l : List ℕ). all_names (map (meaning old shape) l)) (words_old shape old front tail is.is_log)
         ∙ names_join shape old (flat_map (log_entry_words old shape) (logs_of old shape front)) (log_entry_words old shape tail))
         (log_names shape old new front tail more added is)
+
     before : SameBlocks shape old new (all_names (map (meaning old shape) (flat_map (log_entry_words old shape) (logs_of old shape front))))
     before = each_front (λ (b : ℕ). block_words new shape b ≡ block_words old shape b) (all_names (map (meaning old shape) (flat_map (log_entry_words old shape) (logs_of old shape front)))) (all_names (map (meaning old shape) (log_entry_words old shape tail))) parts
+
     in_tail : SameBlocks shape old new (all_names (map (meaning old shape) (log_entry_words old shape tail)))
     in_tail = each_back (λ (b : ℕ). block_words new shape b ≡ block_words old shape b) (all_names (map (meaning old shape) (flat_map (log_entry_words old shape) (logs_of old shape front)))) (all_names (map (meaning old shape) (log_entry_words old shape tail))) parts
+
     tail_good : is_log_block new shape (block_words new shape tail) ≡ true
     tail_good = good_block new shape (block_words new shape tail)
         (ap (λ (w : ℕ). w == 0) is.third ∙ third_of old shape (block_words old shape tail) tail_old)

@@ -1,5 +1,5 @@
 -- The header of words whose first four are those of others, and of which there are as many.
-use Rattle.std.proofs.Common.{◌≡◌, ◌≤◌, ◌<◌, ◌*◌, ◌/◌, ◌^◌, ℕ, List, length, get_or, None, refl, sym, ap, ◌∙◌, subst, arith}
+use Rattle.std.proofs.Common.{◌≡◌, ◌≤◌, ◌<◌, ◌*◌, ◌/◌, ◌^◌, ℕ, List, length, get_or, None, sym, ap, ◌∙◌, subst, arith}
 use Rattle.log_entry.specs.Fields.{field}
 use Rattle.log_entry.specs.Geometry.{shape_refusal}
 use Rattle.log_entry.specs.declared.layouts.TheConstants.{HEAD_UNNAMED, HEAD_GENERATION}

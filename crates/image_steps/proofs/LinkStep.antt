@@ -1,35 +1,34 @@
 -- The link that is the hole, set to a fresh log block, makes the chain longer and changes no more.
-use Rattle.std.proofs.Common.{◌≡◌, ◌≢◌, ◌<◌, ◌≤◌, ◌+◌, ◌-◌, ◌*◌, ◌==◌, ◌&&◌, ◌||◌, ◌^◌, not, nat_lt, ℕ, Bool, true, false, List, [], ◌∷◌, ◌++◌, length, get_or, set, drop, if◌then◌else◌, refl, sym, ap, ◌∙◌, subst, arith, append_assoc, length-drop}
+use Rattle.std.proofs.Common.{◌≡◌, ◌≢◌, ◌<◌, ◌≤◌, ◌+◌, ◌-◌, ◌*◌, ◌==◌, ◌&&◌, ◌||◌, not, nat_lt, ℕ, Bool, true, false, List, [], ◌∷◌, ◌++◌, length, get_or, set, if◌then◌else◌, refl, sym, ap, ◌∙◌, subst, arith, append_assoc, length-drop}
 use Rattle.std.specs.List.{list_all}
-use Rattle.std.proofs.lemmas.Bool.{eq-eqb, ne_eqb, eqb-true, eqb-false, ltb-true}
+use Rattle.std.proofs.lemmas.Bool.{eq-eqb, ne_eqb, eqb-true, ltb-true}
 use Rattle.std.proofs.lemmas.List.{get_or-set_other, get_or-set_same, get_or-drop}
 use Rattle.log_entry.specs.Fields.{field}
-use Rattle.log_entry.specs.WordBytes.{word_bytes}
-use Rattle.log_entry.specs.declared.layouts.TheConstants.{HEAD_BLOCK, BLOCK_KIND, SNAPSHOT, LOG}
+use Rattle.log_entry.specs.declared.layouts.TheConstants.{HEAD_BLOCK, BLOCK_KIND, SNAPSHOT}
 use Rattle.log_image.specs.Image.{Shape, words_in, total, is_in_log, block_words}
 use Rattle.log_image.specs.Header.{shape_of}
 use Rattle.log_image.specs.Entries.{Meaning, all_names}
 use Rattle.log_image.specs.Blocks.{is_snapshot, link_of, slots_of, entry_words, is_closed, leads_on, kind_of, base_of}
 use Rattle.log_image.specs.Chains.{all_different}
-use Rattle.log_image.specs.Positions.{entries_of, position_of}
+use Rattle.log_image.specs.Positions.{entries_of}
 use Rattle.log_image.specs.Format.{is_log_entry, is_log_block, is_seal_placed, is_seal_last, is_kind_word}
 use Rattle.log_image.proofs.ClearedChains.{both}
 use Rattle.log_image.specs.Stands.{HoldsFile, StandsIn}
-use Rattle.log_image.specs.Holes.{Hole, AtSlot, AtLink, last_block, hole_in, hole_of, is_after, IsClear}
+use Rattle.log_image.specs.Holes.{Hole, AtSlot, AtLink, last_block, hole_in, hole_of, IsClear}
 use Rattle.log_image.specs.Taken.{is_taken}
-use Rattle.log_image.proofs.HoldingLemmas.{both_left, both_right}
-use Rattle.log_image.proofs.ImageLemmas.{in_block, length_range}
+use Rattle.log_image.proofs.HoldingLemmas.{both_left}
+use Rattle.log_image.proofs.ImageLemmas.{length_range}
 use Rattle.image_steps.specs.SameWords.{SameHeader}
 use Rattle.image_steps.specs.Steps.{StandsClear, IsFreshLog, TakesBlock, LinksGrowTheLog}
 use Rattle.image_steps.proofs.ChainSteps.{log_entry_words}
 use Rattle.image_steps.proofs.EntrySteps.{placed_in, good_block}
 use Rattle.image_steps.proofs.Extension.{Extends, Extended, extended}
-use Rattle.image_steps.proofs.BlockLemmas.{set_here, set_elsewhere, block_inside}
+use Rattle.image_steps.proofs.BlockLemmas.{set_here, set_elsewhere}
 use Rattle.image_steps.proofs.SlotLemmas.{no_words, no_seal}
 use Rattle.image_steps.proofs.HeaderSteps.{header_shape, header_same, keeps_header, long_words}
 use Rattle.image_steps.proofs.NameLemmas.{is_in, or_left, different_join}
-use Rattle.image_steps.proofs.TailLemmas.{split_chain, last_of, AtTail, at_tail, no_lead, link_none, chain_taken, in_right, InBlock, after_in_block, by_block}
-use Rattle.image_steps.proofs.SetWordLemmas.{drop_first, set_header, set_front, set_named, set_names, log_inside, tail_inside}
+use Rattle.image_steps.proofs.TailLemmas.{split_chain, last_of, AtTail, at_tail, no_lead, chain_taken, in_right, InBlock, after_in_block, by_block}
+use Rattle.image_steps.proofs.SetWordLemmas.{drop_first, set_header, set_front, set_named, set_names, tail_inside}
 use Rattle.image_steps.proofs.StoreStep.{nothing_after, holds_kept}
 
 -- what a hole that is a link says
@@ -201,14 +200,14 @@ link_at old front tail file position next clear hole area untaken fresh =
           header = header_same old (linked (shape_of old) old tail next) header clear.stands.header;
           stands = subst (λ (s : Shape). StandsIn (linked (shape_of old) old tail next) s ((front ++ tail ∷ []) ++ next ∷ []) file position) (sym (header_shape old (linked (shape_of old) old tail next) header))
               (subst (λ (l : List ℕ). StandsIn (linked (shape_of old) old tail next) (shape_of old) l file position) joined (record {
-              is_chain = done.is_chain;
-              format = done.format;
-              ends_at = done.position ∙ omega (arith, clear.stands.stands.ends_at);
-              ends_with = done.size ∙ clear.stands.stands.ends_with;
-              holds = subst (λ (l : List Meaning). HoldsFile (linked (shape_of old) old tail next) (shape_of old) l file) (sym same_entries)
-                  (holds_kept (shape_of old) old (linked (shape_of old) old tail next) (entries_of old (shape_of old) (front ++ tail ∷ [])) file
-                  (set_named (shape_of old) old (front ++ tail ∷ []) tail 0 next (omega (arith, is.long)) at.area clear.stands.stands.format) clear.stands.stands.holds);
-            }));
+                is_chain = done.is_chain;
+                format = done.format;
+                ends_at = done.position ∙ omega (arith, clear.stands.stands.ends_at);
+                ends_with = done.size ∙ clear.stands.stands.ends_with;
+                holds = subst (λ (l : List Meaning). HoldsFile (linked (shape_of old) old tail next) (shape_of old) l file) (sym same_entries)
+                    (holds_kept (shape_of old) old (linked (shape_of old) old tail next) (entries_of old (shape_of old) (front ++ tail ∷ [])) file
+                    (set_named (shape_of old) old (front ++ tail ∷ []) tail 0 next (omega (arith, is.long)) at.area clear.stands.stands.format) clear.stands.stands.holds);
+              }));
         };
         clear = subst (λ (s : Shape). IsClear (linked (shape_of old) old tail next) s (hole_of (linked (shape_of old) old tail next) s ((front ++ tail ∷ []) ++ next ∷ []))) (sym (header_shape old (linked (shape_of old) old tail next) header))
             (subst (λ (h : Hole). IsClear (linked (shape_of old) old tail next) (shape_of old) h) (sym new_hole) (fresh_clear (shape_of old) old front tail next position is));

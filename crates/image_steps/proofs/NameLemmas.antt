@@ -1,7 +1,7 @@
 -- Which blocks a chain and its entries name.
-use Rattle.std.proofs.Common.{◌≡◌, ◌≢◌, ◌<◌, ◌≤◌, ◌+◌, ◌-◌, ◌==◌, ◌&&◌, ◌||◌, not, drop, nat_le, nat_lt, ℕ, zero, suc, Bool, true, false, List, [], ◌∷◌, ◌++◌, length, map, take, if◌then◌else◌, refl, sym, ap, ◌∙◌, subst, arith}
+use Rattle.std.proofs.Common.{◌≡◌, ◌≢◌, ◌<◌, ◌≤◌, ◌+◌, ◌-◌, ◌==◌, ◌&&◌, ◌||◌, not, drop, nat_le, nat_lt, ℕ, zero, suc, Bool, true, false, List, [], ◌∷◌, ◌++◌, length, map, take, refl, sym, ap, ◌∙◌, subst, arith}
 use Rattle.std.specs.List.{list_all, list_any, flat_map, AllByRecursion, range_with_len}
-use Rattle.std.proofs.lemmas.Bool.{eq-eqb, ne_eqb, eqb-true, eqb-false, leb-true, ltb-true}
+use Rattle.std.proofs.lemmas.Bool.{eq-eqb, ne_eqb, eqb-true, leb-true, ltb-true}
 use Rattle.std.proofs.lemmas.List.Folds.{list_any-append}
 use Rattle.std.proofs.lemmas.Grind.{flat_map-append}
 use Rattle.log_entry.specs.Fields.{field}
@@ -10,7 +10,7 @@ use Rattle.log_entry.specs.Words.{entry_unnamed}
 use Rattle.log_entry.specs.declared.layouts.TheConstants.{ENTRY_KIND, DIRECT, INDIRECT_BLOCK, DIRECT_LEFTOVER}
 use Rattle.log_image.specs.Image.{Shape, words_in, total, is_in_data, is_in_log, block_words}
 use Rattle.log_image.specs.Entries.{Meaning, direct_meaning, indirect_meaning, meaning, names, all_names}
-use Rattle.log_image.specs.Blocks.{entry_count, file_size, slots_of, entry_words}
+use Rattle.log_image.specs.Blocks.{entry_count, file_size, slots_of}
 use Rattle.log_image.specs.Chains.{all_different, snapshots_of, logs_of}
 use Rattle.log_image.specs.Positions.{snapshot_entries, log_words, log_entries, entries_of}
 use Rattle.log_image.specs.Format.{all_zero, fits, is_direct, is_indirect, is_indirect_block, has_runs, is_log_entry, is_log_block, is_snapshot_entry, is_snapshot_block, HasFormat}
@@ -65,8 +65,10 @@ entry_names image shape word good = go (field ENTRY_KIND word == DIRECT) refl (f
   where
     accepted : (is_direct word || (is_indirect word && has_runs image shape word)) ≡ true
     accepted = both_left (is_direct word || (is_indirect word && has_runs image shape word)) (fits shape (longest_of shape.block_bytes) (meaning image shape word)) good
+
     fitting : fits shape (longest_of shape.block_bytes) (meaning image shape word) ≡ true
     fitting = both_right (is_direct word || (is_indirect word && has_runs image shape word)) (fits shape (longest_of shape.block_bytes) (meaning image shape word)) good
+
     go : (direct : Bool) → (field ENTRY_KIND word == DIRECT) ≡ direct → list_all (is_in_data shape) (meaning image shape word).blocks ≡ true → list_all (is_in_data shape) (names (meaning image shape word)) ≡ true
     go true is inside = rw is (rw is at inside)
     go false is inside =

@@ -1,11 +1,11 @@
 -- A word that is set in the tail: the other blocks stay, and the header does.
-use Rattle.std.proofs.Common.{◌≡◌, ◌≢◌, ◌<◌, ◌≤◌, ◌+◌, ◌*◌, ◌==◌, ◌&&◌, not, nat_lt, ℕ, zero, suc, Bool, true, false, List, [], ◌∷◌, ◌++◌, length, get_or, drop, set, refl, sym, ap, ◌∙◌, subst, arith}
-use Rattle.std.proofs.lemmas.Bool.{ltb-true, eqb-true, eqb-false, eq-eqb}
+use Rattle.std.proofs.Common.{◌≡◌, ◌≢◌, ◌<◌, ◌≤◌, ◌+◌, ◌*◌, ◌==◌, not, nat_lt, ℕ, suc, Bool, true, false, List, [], ◌∷◌, ◌++◌, length, drop, set, refl, sym, ◌∙◌, subst, arith}
+use Rattle.std.proofs.lemmas.Bool.{ltb-true, eqb-true, eq-eqb}
 use Rattle.std.proofs.lemmas.List.{get_or-set_other, length-set}
 use Rattle.std.proofs.Math.Nat.{mul-le-mul_right}
 use Rattle.log_image.specs.Image.{Shape, words_in, total, is_in_data, is_in_log, block_words}
 use Rattle.log_image.specs.Header.{shape_of, HasHeader}
-use Rattle.log_image.specs.Entries.{Meaning, all_names}
+use Rattle.log_image.specs.Entries.{all_names}
 use Rattle.log_image.specs.Chains.{all_different}
 use Rattle.log_image.specs.Positions.{entries_of}
 use Rattle.log_image.specs.Format.{HasFormat}
@@ -51,9 +51,11 @@ not_last (first ∷ front) tail more different block inside = go (first == block
   where
     never : (b : Bool) → not b ≡ true → b ≡ true → ⊥
     never b no_b is = cc
+
     in_back : (front : List ℕ) → is_in (front ++ tail ∷ more) tail ≡ true
     in_back [] = or_left (tail == tail) (is_in more tail) (eq-eqb tail tail refl)
     in_back (other ∷ front) = or_right (other == tail) (is_in (front ++ tail ∷ more) tail) (in_back front)
+
     go : (same : Bool) → (first == block) ≡ same → (is_in front block ≡ true → block ≢ tail) → block ≢ tail
     go true is rest e =
         let one : first ≡ tail = eqb-true first block is ∙ e in

@@ -1,9 +1,8 @@
 -- Open slots, and the same with a word in the first empty one.
-use Rattle.std.proofs.Common.{◌≡◌, ◌≢◌, ◌<◌, ◌+◌, ◌==◌, ◌&&◌, not, ℕ, suc, Bool, true, false, List, [], ◌∷◌, ◌++◌, length, get_or, set, if◌then◌else◌, refl, sym, ap, ◌∙◌, subst, arith}
+use Rattle.std.proofs.Common.{◌≡◌, ◌<◌, ◌+◌, ◌==◌, not, ℕ, suc, Bool, true, false, List, [], ◌∷◌, ◌++◌, length, get_or, set, if◌then◌else◌, refl, sym, ap, ◌∙◌, arith}
 use Rattle.std.proofs.lemmas.Bool.Decides.{nat_tests}
 use Rattle.log_image.specs.Blocks.{entry_words, is_closed}
 use Rattle.log_image.specs.Format.{is_seal_last, is_seal_placed}
-use Rattle.log_image.proofs.HoldingLemmas.{both_left, both_right}
 use Rattle.log_image.proofs.ClearedChains.{both}
 
 -- a slot that holds an entry
@@ -100,8 +99,10 @@ closed_set (slot ∷ slots) word is used = go (slot == 0) refl (λ opens. closed
       where
         zero_suc : (n : ℕ) → (0 == suc n) ≡ false
         zero_suc n = grind (arith, nat_tests)
+
     same_test : (a b : ℕ) → (a + 1 == b) ≡ (suc a + 1 == suc b)
     same_test a b = grind (arith, nat_tests)
+
     go : (empty : Bool) → (slot == 0) ≡ empty → (IsOpen slots → is_closed (set slots (length (entry_words slots)) word) ≡ (length (entry_words slots) + 1 == length slots)) →
         is_closed (set (slot ∷ slots) (length (entry_words (slot ∷ slots))) word) ≡ (length (entry_words (slot ∷ slots)) + 1 == suc (length slots))
     go true empty rest = rw (empty, used.some, used.entry) (after_empty slots (first_empty slot slots is empty) ∙ same_zero (length slots))

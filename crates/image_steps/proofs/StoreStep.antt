@@ -1,5 +1,5 @@
 -- Words of blocks that are not taken mean nothing.
-use Rattle.std.proofs.Common.{◌≡◌, ◌<◌, ◌≤◌, ◌+◌, ◌*◌, ◌==◌, ◌^◌, ℕ, Bool, true, false, List, [], ◌∷◌, ◌++◌, length, get_or, Some, refl, sym, ap, ◌∙◌, subst, arith}
+use Rattle.std.proofs.Common.{◌≡◌, ◌≤◌, ◌+◌, ◌*◌, ◌==◌, ℕ, true, false, List, [], ◌∷◌, ◌++◌, length, get_or, refl, sym, ap, ◌∙◌, subst, arith}
 use Rattle.log_entry.specs.Fields.{field}
 use Rattle.log_entry.specs.WordBytes.{word_bytes}
 use Rattle.log_entry.specs.declared.layouts.TheConstants.{HEAD_BLOCK}
@@ -8,15 +8,13 @@ use Rattle.log_image.specs.Header.{shape_of}
 use Rattle.log_image.specs.Entries.{Meaning, all_names}
 use Rattle.log_image.specs.Blocks.{slots_of, entry_words, leads_on}
 use Rattle.log_image.specs.Format.{is_seal_placed}
-use Rattle.log_image.specs.Maps.{map_of}
 use Rattle.std.proofs.lemmas.Bool.{eq-eqb}
 use Rattle.log_image.specs.Chains.{all_different}
-use Rattle.log_image.specs.Positions.{entries_of, position_of, size_at_end}
-use Rattle.log_image.specs.Stands.{HoldsFile, StandsIn, StandsBy}
+use Rattle.log_image.specs.Positions.{entries_of}
+use Rattle.log_image.specs.Stands.{HoldsFile, StandsIn}
 use Rattle.log_image.specs.Holes.{Hole, last_block, hole_in, hole_of, IsClear}
-use Rattle.log_image.specs.Taken.{is_taken}
 use Rattle.log_image.proofs.ImageLemmas.{in_block}
-use Rattle.image_steps.specs.SameWords.{SameHeader, SameBlocks}
+use Rattle.image_steps.specs.SameWords.{SameHeader}
 use Rattle.image_steps.specs.Steps.{StandsClear, KeepsTaken, StandsAsBefore, StoresMeanNothing}
 use Rattle.image_steps.proofs.ChainSteps.{log_entry_words}
 use Rattle.image_steps.proofs.EntrySteps.{placed_in}

@@ -1,6 +1,6 @@
 -- The tail of a chain, the last of its blocks.
 use Rattle.std.proofs.Common.{◌≡◌, ◌<◌, ◌≤◌, ◌+◌, ◌-◌, ◌*◌, ◌==◌, ◌&&◌, ◌||◌, not, nat_lt, nat_le, ℕ, zero, suc, Bool, true, false, List, [], ◌∷◌, ◌++◌, length, get_or, Option, Some, None, ◌⊎◌, inl, inr, if◌then◌else◌, refl, sym, ap, ◌∙◌, subst, arith}
-use Rattle.std.specs.List.{list_all, list_any, slice_get}
+use Rattle.std.specs.List.{list_all, slice_get}
 use Rattle.std.specs.Option.{option_or}
 use Rattle.std.proofs.lemmas.Bool.{eq-eqb, eqb-true, ltb-true}
 use Rattle.std.proofs.lemmas.List.Folds.{list_any-append}
@@ -10,9 +10,9 @@ use Rattle.log_image.specs.Blocks.{is_snapshot, link_of, slots_of, entry_words, 
 use Rattle.log_image.specs.Maps.{block_in, map_of}
 use Rattle.log_image.specs.Chains.{Leads, IsLinked, logs_of}
 use Rattle.log_image.specs.Positions.{entries_of}
-use Rattle.log_image.specs.Format.{is_log_block, is_seal_placed}
+use Rattle.log_image.specs.Format.{is_log_block}
 use Rattle.log_image.specs.Stands.{StandsIn}
-use Rattle.log_image.specs.Holes.{Hole, AtSlot, AtLink, last_block, hole_in, hole_of, is_after, IsClear}
+use Rattle.log_image.specs.Holes.{AtSlot, AtLink, last_block, hole_in, is_after, IsClear}
 use Rattle.log_image.specs.Taken.{named_blocks, is_taken}
 use Rattle.log_image.proofs.HoldingLemmas.{both_left, both_right}
 use Rattle.log_image.proofs.ImageLemmas.{in_block}

@@ -1,18 +1,18 @@
 -- What one step on the words of an image makes of them.
-use Rattle.std.specs.Prelude.{ℕ, ◌+◌, ◌*◌, ◌^◌, ◌≡◌, ◌<◌, ◌≤◌, ◌==◌, ◌&&◌, ◌||◌, max, not, Bool, true, false, if◌then◌else◌, List, [], ◌∷◌, ◌++◌, length, slice_index, set, Some, None}
+use Rattle.std.specs.Prelude.{ℕ, ◌+◌, ◌*◌, ◌^◌, ◌≡◌, ◌<◌, ◌≤◌, ◌==◌, ◌&&◌, max, not, Bool, true, false, if◌then◌else◌, List, [], ◌∷◌, ◌++◌, length, slice_index, set, Some, None}
 use Rattle.std.specs.List.{list_all}
 use Rattle.log_entry.specs.Shape.{longest_of}
 use Rattle.log_entry.specs.declared.layouts.TheConstants.{LOG}
 use Rattle.log_image.specs.Image.{Shape, words_in, is_in_log, block_words, block_content}
 use Rattle.log_image.specs.Header.{shape_of, generation_of}
-use Rattle.log_image.specs.Entries.{Meaning, direct_meaning}
+use Rattle.log_image.specs.Entries.{direct_meaning}
 use Rattle.log_image.specs.Blocks.{link_of, kind_of, base_of}
 use Rattle.log_image.specs.Maps.{block_in, end_of}
 use Rattle.log_image.specs.Positions.{entries_of}
 use Rattle.log_image.specs.Format.{fits, is_direct, is_kind_word}
 use Rattle.log_image.specs.Stands.{StandsBy}
 use Rattle.log_image.specs.Holes.{Hole, AtSlot, AtLink, hole_of, IsClear}
-use Rattle.log_image.specs.Taken.{named_blocks, is_taken}
+use Rattle.log_image.specs.Taken.{is_taken}
 
 -- the words stand for the file at the position by the chain, and nothing stands after its hole
 pub record StandsClear (words chain file : List ℕ) (position : ℕ) : Type 0 where
