@@ -1,0 +1,9 @@
+use Rattle.std.proofs.Common.{◌≡◌, ℕ, ◌+◌, ◌*◌, ◌<◌, ◌≤◌, ◌⊎◌, get_or}
+use Rattle.plain_engine.specs.Bytes.{IsLaid, source_word}
+use Rattle.plain_engine.proofs.stores.store_block.Given as goal
+
+abbrev pub invariant-loop-index : goal.invariant-loop-index
+invariant-loop-index l = record {
+  stored : (at : ℕ) → at < l.index → IsLaid l.offset l.bytes (l.place + 8 * at) (source_word l.fn.words l.source at) (get_or l.words (l.first + at) 0);
+  others : (at : ℕ) → (at < l.first) ⊎ (l.first + l.index ≤ at) → get_or l.words at 0 ≡ get_or l.fn.words at 0;
+}

@@ -1,0 +1,5 @@
+//! Answers the calls of one caller on an image: a vector of words, the least free blocks, direct entries, a log that grows.
+#![tactic(auto)]
+
+pub mod bitmap;
+pub mod stores;
