@@ -1,2 +1,4 @@
 pub mod Clear
 pub mod Bytes
+pub mod Running
+pub mod Space
