@@ -2,3 +2,5 @@ pub mod BitLemmas
 pub mod WordLemmas
 pub mod StoreLemmas
 pub mod RunningSteps
+pub mod BoundsLemmas
+pub mod EngineLemmas

@@ -160,3 +160,45 @@ link_step words taken new_taken table position tail_block tail_slot first_clear 
     both_bits true false c same = refl
     both_bits false true c same = ap (λ (d : Bool). if d then 1 else 0) same
     both_bits false false c same = ap (λ (d : Bool). if d then 1 else 0) same
+
+-- the same steps at the shape that the words have
+pub store_at : (shape : Shape) (words new taken : List ℕ) (table : FileMap) (position tail_block tail_slot first_clear : ℕ) (chain file : List ℕ) → Runs shape words taken table position tail_block tail_slot first_clear chain file →
+    KeepsTaken shape chain words new → Runs shape new taken table position tail_block tail_slot first_clear chain file
+store_at shape words new taken table position tail_block tail_slot first_clear chain file runs keeps =
+    subst (λ (s : Shape). Runs s words taken table position tail_block tail_slot first_clear chain file → KeepsTaken s chain words new → Runs s new taken table position tail_block tail_slot first_clear chain file) runs.fits.same_shape
+    (store_step words new taken table position tail_block tail_slot first_clear chain file) runs keeps
+
+-- the chain names the same, and has the same hole
+pub store_names : (shape : Shape) (words new taken : List ℕ) (table : FileMap) (position tail_block tail_slot first_clear : ℕ) (chain file : List ℕ) → Runs shape words taken table position tail_block tail_slot first_clear chain file →
+    KeepsTaken shape chain words new → ((block : ℕ) → is_taken new shape chain block ≡ is_taken words shape chain block) × (hole_of new shape chain ≡ hole_of words shape chain)
+store_names shape words new taken table position tail_block tail_slot first_clear chain file runs keeps =
+    subst (λ (s : Shape). Runs s words taken table position tail_block tail_slot first_clear chain file → KeepsTaken s chain words new → ((block : ℕ) → is_taken new s chain block ≡ is_taken words s chain block) × (hole_of new s chain ≡ hole_of words s chain)) runs.fits.same_shape
+    (λ here keep.
+    let is : StandsAsBefore words new chain file position = stores_mean_nothing words new chain file position (stands_clear words taken table position tail_block tail_slot first_clear chain file here) keep in
+    (taken_same words new (shape_of words) chain is.entries, is.hole)) runs keeps
+
+pub entry_put : (shape : Shape) (words taken new_taken : List ℕ) (table new_table : FileMap) (position tail_block tail_slot first_clear new_clear : ℕ) (chain file new_file : List ℕ) (word : ℕ) → Runs shape words taken table position tail_block tail_slot first_clear chain file →
+    tail_slot ≢ words_in shape → position + 1 < 2 ^ 40 → IsEntryOf words shape chain file new_file word →
+    length new_taken ≡ length taken → ((block : ℕ) → bit_of new_taken block ≡ (if is_in (direct_meaning word).blocks block then 1 else bit_of taken block)) →
+    HasMap new_table (entries_of words shape chain ++ direct_meaning word ∷ []) → new_table.size ≡ length new_file →
+    ((block : ℕ) → 1 ≤ block → block < new_clear → (is_taken words shape chain block ≡ true) ⊎ (is_in (direct_meaning word).blocks block ≡ true)) →
+    Runs shape (set words (tail_block * words_in shape + tail_slot) word) new_taken new_table (position + 1) tail_block (tail_slot + 1) new_clear chain new_file
+entry_put shape words taken new_taken table new_table position tail_block tail_slot first_clear new_clear chain file new_file word runs =
+    subst (λ (s : Shape). Runs s words taken table position tail_block tail_slot first_clear chain file →
+    tail_slot ≢ words_in s → position + 1 < 2 ^ 40 → IsEntryOf words s chain file new_file word →
+    length new_taken ≡ length taken → ((block : ℕ) → bit_of new_taken block ≡ (if is_in (direct_meaning word).blocks block then 1 else bit_of taken block)) →
+    HasMap new_table (entries_of words s chain ++ direct_meaning word ∷ []) → new_table.size ≡ length new_file →
+    ((block : ℕ) → 1 ≤ block → block < new_clear → (is_taken words s chain block ≡ true) ⊎ (is_in (direct_meaning word).blocks block ≡ true)) →
+    Runs s (set words (tail_block * words_in s + tail_slot) word) new_taken new_table (position + 1) tail_block (tail_slot + 1) new_clear chain new_file) runs.fits.same_shape
+    (entry_step words taken new_taken table new_table position tail_block tail_slot first_clear new_clear chain file new_file word) runs
+
+pub link_put : (shape : Shape) (words taken new_taken : List ℕ) (table : FileMap) (position tail_block tail_slot first_clear next : ℕ) (chain file : List ℕ) → Runs shape words taken table position tail_block tail_slot first_clear chain file →
+    tail_slot ≡ words_in shape → 4 ≤ words_in shape → is_in_log shape next ≡ true → is_taken words shape chain next ≡ false → IsFreshLog position (block_words words shape next) →
+    length new_taken ≡ length taken → ((block : ℕ) → bit_of new_taken block ≡ (if block == next then 1 else bit_of taken block)) →
+    Runs shape (set words (tail_block * words_in shape) next) new_taken table position next 3 first_clear (chain ++ next ∷ []) file
+link_put shape words taken new_taken table position tail_block tail_slot first_clear next chain file runs =
+    subst (λ (s : Shape). Runs s words taken table position tail_block tail_slot first_clear chain file →
+    tail_slot ≡ words_in s → 4 ≤ words_in s → is_in_log s next ≡ true → is_taken words s chain next ≡ false → IsFreshLog position (block_words words s next) →
+    length new_taken ≡ length taken → ((block : ℕ) → bit_of new_taken block ≡ (if block == next then 1 else bit_of taken block)) →
+    Runs s (set words (tail_block * words_in s) next) new_taken table position next 3 first_clear (chain ++ next ∷ []) file) runs.fits.same_shape
+    (link_step words taken new_taken table position tail_block tail_slot first_clear next chain file) runs

@@ -34,3 +34,7 @@ pub record RunsOnSome (shape : Shape) (words taken : List ℕ) (table : FileMap)
   pub chain : List ℕ
   pub file : List ℕ
   pub runs : Runs shape words taken table position tail_block tail_slot first_clear chain file
+
+-- each data block before this one is taken
+abbrev pub AllTakenBefore : List ℕ → Shape → List ℕ → ℕ → Type 0
+AllTakenBefore words shape chain block = (other : ℕ) → 1 ≤ other → other < block → is_taken words shape chain other ≡ true

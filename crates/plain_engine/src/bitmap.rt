@@ -2,7 +2,7 @@
 
 ghost use Rattle.std.specs.Prelude.{◌≡◌, ◌≢◌, ℕ, ◌+◌, ◌*◌, ◌^◌, ◌<◌, ◌≤◌, ◌↔◌, ◌==◌, if◌then◌else◌, nat_le, nat_lt, ◌&&◌, length, IsTrue, MatchOption};
 ghost use Rattle.log_image.specs.Taken.{bit_of};
-ghost use Rattle.plain_engine.specs.Clear.{IsFirstClear, AllTaken, AllClear};
+ghost use Rattle.plain_engine.specs.Clear.{IsFirstClear, AllTaken, AllClear, IsLeastRun};
 
 /// Whether the bit of a block is 0.
 pub fn is_clear(taken: &[u64], block: usize) -> bool
@@ -55,4 +55,18 @@ pub fn are_clear(taken: &[u64], from: usize, end: usize) -> bool
         }
     }
     true
+}
+
+/// The least clear block of a range, if so many blocks from it on are clear in the range.
+pub fn least_run(taken: &[u64], from: usize, end: usize, count: usize) -> Option<usize>
+    requires inside { end ≤ 64 * length taken.now }
+    requires near { end < 2 ^ 32 }
+    requires few { count < 2 ^ 32 }
+    ensures { MatchOption result ((block : ℕ) → IsLeastRun taken.now from end count block → ⊥) (IsLeastRun taken.now from end count) }
+{
+    let first = first_clear(taken, from, end)?;
+    if first + count <= end && are_clear(taken, first, first + count) {
+        return Some(first);
+    }
+    None
 }

@@ -2,4 +2,8 @@
 #![tactic(auto)]
 
 pub mod bitmap;
+pub mod engine;
+mod fresh;
 pub mod stores;
+
+pub use engine::PlainEngine;

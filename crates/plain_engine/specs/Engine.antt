@@ -1,0 +1,65 @@
+-- What the parts of a write make of an engine.
+use Rattle.std.specs.Prelude.{ℕ, ◌+◌, ◌-◌, ◌*◌, ◌^◌, ◌≡◌, ◌≢◌, ◌<◌, ◌≤◌, ◌==◌, not, ◌||◌, Bool, true, false, max, List, [], ◌∷◌, ◌++◌, length, slice_index, Option, Some, None}
+use Rattle.std.specs.List.{list_all}
+use Rattle.block_table.specs.FileMap.{block_at}
+use Rattle.block_table.specs.declared.map_run.MapRun.{MapRun}
+use Rattle.log_entry.specs.Words.{entry_word}
+use Rattle.log_entry.specs.declared.entries.Entry.TheVariants.{Direct}
+use Rattle.log_image.specs.Image.{Shape, words_in, is_in_data, block_words}
+use Rattle.log_image.specs.Holes.{hole_of}
+use Rattle.log_image.specs.Taken.{bit_of, is_taken}
+use Rattle.image_steps.specs.Steps.{IsEntryOf}
+use Rattle.chain_reader.specs.Tables.{shape_by}
+use Rattle.plain_engine.specs.Running.{Runs}
+use Rattle.plain_engine.specs.Space.{lacks_log}
+use Rattle.plain_engine.specs.declared.engine.PlainEngine.{PlainEngine}
+
+-- the shape of the engine's image
+abbrev pub shape_in : PlainEngine → Shape
+shape_in engine = shape_by engine.geometry
+
+-- the engine's words stand for the file by the chain, and the rest of it fits them
+abbrev pub Running : PlainEngine → List ℕ → List ℕ → Type 0
+Running engine chain file =
+    Runs (shape_in engine) engine.words.items engine.taken.items engine.table engine.position engine.tail_block engine.tail_slot engine.first_clear chain file
+
+-- all but the words is the same
+pub record SameBesideWords (old new : PlainEngine) : Type 0 where
+  pub geometry : new.geometry ≡ old.geometry
+  pub taken : new.taken ≡ old.taken
+  pub table : new.table ≡ old.table
+  pub position : new.position ≡ old.position
+  pub tail_block : new.tail_block ≡ old.tail_block
+  pub tail_slot : new.tail_slot ≡ old.tail_slot
+  pub first_clear : new.first_clear ≡ old.first_clear
+
+-- the chain names the same blocks, and has the same hole
+pub record SameNames (old new : PlainEngine) (chain : List ℕ) : Type 0 where
+  pub taken : (block : ℕ) → is_taken new.words.items (shape_in old) chain block ≡ is_taken old.words.items (shape_in old) chain block
+  pub hole : hole_of new.words.items (shape_in old) chain ≡ hole_of old.words.items (shape_in old) chain
+
+-- the tail is a slot: it was one, or the chain has a block more, which is no data block
+pub record HasSlot (old new : PlainEngine) (chain file : List ℕ) : Type 0 where
+  pub longer : List ℕ
+  pub runs : Running new longer file
+  pub taken : (block : ℕ) → is_in_data (shape_in old) block ≡ true → is_taken new.words.items (shape_in old) longer block ≡ is_taken old.words.items (shape_in old) chain block
+  pub enough : lacks_log old.words.items (shape_in old) chain ≡ false
+
+-- there is no slot for an entry, and nothing has changed
+pub record LacksSlot (old new : PlainEngine) (chain file : List ℕ) : Type 0 where
+  pub runs : Running new chain file
+  pub same : new.words.items ≡ old.words.items
+  pub lacking : lacks_log old.words.items (shape_in old) chain ≡ true
+
+-- what changes where a slot is made
+pub record SameBesideTail (old new : PlainEngine) : Type 0 where
+  pub geometry : new.geometry ≡ old.geometry
+  pub table : new.table ≡ old.table
+  pub position : new.position ≡ old.position
+  pub first_clear : new.first_clear ≡ old.first_clear
+  pub content : (block : ℕ) → is_in_data (shape_in old) block ≡ true → block_words new.words.items (shape_in old) block ≡ block_words old.words.items (shape_in old) block
+  pub bits : (block : ℕ) → is_in_data (shape_in old) block ≡ true → bit_of new.taken.items block ≡ bit_of old.taken.items block
+
+-- the word of the entry of a run
+abbrev pub run_word : MapRun → ℕ → ℕ
+run_word run leftover = entry_word (Direct run.virt run.block run.count leftover)

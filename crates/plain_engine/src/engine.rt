@@ -1,0 +1,127 @@
+//! An engine: an image, and what one caller keeps of it between calls.
+
+ghost use Rattle.std.specs.Prelude.{◌≡◌, ◌≢◌, ℕ, ◌+◌, ◌-◌, ◌*◌, ◌^◌, ◌<◌, ◌≤◌, List, length, slice_index, IsTrue, Bool, false};
+ghost use Rattle.block_table.specs.FileMap.{block_at};
+ghost use Rattle.block_table.specs.declared.TheConstants.{VIRTUAL_BLOCKS};
+ghost use Rattle.log_entry.specs.Shape.{longest_of};
+ghost use Rattle.log_image.specs.Image.{words_in, block_content};
+ghost use Rattle.chain_reader.specs.Tables.{shape_by};
+ghost use Rattle.plain_engine.specs.Bytes.{laid_byte, present_byte};
+ghost use Rattle.plain_engine.specs.Clear.{AllClear};
+ghost use Rattle.plain_engine.specs.Running.{RunsOnSome, AllTakenBefore};
+
+use crate::bitmap::{first_clear, mark, mark_run};
+use crate::fresh::store_fresh;
+use crate::stores::store_run;
+use block_table::{MapRun, Table};
+use log_entry::{Area, Entry, Geometry, encode};
+
+/// An image that one caller runs on: its words, the bitmap of its taken blocks, the table of its map and size, and where its
+/// chain ends.
+#[derive(Drop)]
+pub struct PlainEngine {
+    geometry: Geometry,
+    words: Vec<u64>,
+    taken: Vec<u64>,
+    table: Table,
+    position: u64,
+    tail_block: u16,
+    tail_slot: u16,
+    first_clear: u16,
+    pub ghost kept: { ∥ RunsOnSome (shape_by geometry) words.items taken.items table position tail_block tail_slot first_clear ∥₁ },
+}
+
+impl PlainEngine {
+    ghost use Rattle.log_image.specs.Stands.{StandsBy};
+    ghost use Rattle.image_steps.specs.Steps.{IsEntryOf};
+    ghost use Rattle.plain_engine.specs.Engine.{shape_in, Running, SameBesideWords, SameNames, HasSlot, LacksSlot, SameBesideTail, run_word};
+
+    /// The words of the image.
+    pub fn into_words(self) -> Vec<u64>
+        ensures { result ≡ self.words }
+    {
+        self.words
+    }
+
+    /// Stores the new content of clear data blocks, which is the present content of the run's virtual blocks with bytes laid over it.
+    fn store(&mut self, run: MapRun, offset: u64, bytes: &[u8])
+        requires in_file { run.virt + run.count ≤ VIRTUAL_BLOCKS }
+        requires first { 1 ≤ run.block }
+        requires last { run.block + run.count ≤ 1 + self.old.geometry.data_blocks }
+        requires few { offset + length bytes.now < 2 ^ 63 }
+        requires clear { AllClear self.old.taken.items run.block (run.block + run.count) }
+        ensures runs { (chain file : List ℕ) → Running self.old chain file → Running self.new chain file }
+        ensures names { (chain file : List ℕ) → Running self.old chain file → SameNames self.old self.new chain }
+        ensures stored { (k at : ℕ) → k < run.count → at < self.old.geometry.block_bytes → slice_index (block_content self.new.words.items (shape_in self.old) (run.block + k)) at
+            ≡ laid_byte offset bytes.now ((run.virt + k) * self.old.geometry.block_bytes + at) (present_byte self.old.words.items (shape_in self.old) (block_at self.old.table (run.virt + k)) at) }
+        ensures same { SameBesideWords self.old self.new }
+    {
+        store_run(
+            &mut self.words,
+            &self.table,
+            self.geometry,
+            run,
+            offset,
+            bytes,
+        );
+    }
+
+    /// Makes a slot for the next entry: where the tail is a block's end, the least clear block of the log area is linked to it.
+    /// False where there is none.
+    fn make_slot(&mut self) -> bool
+        ensures slot { IsTrue result → (chain file : List ℕ) → Running self.old chain file → HasSlot self.old self.new chain file }
+        ensures none { (result ≡ false) → (chain file : List ℕ) → Running self.old chain file → LacksSlot self.old self.new chain file }
+        ensures opens { IsTrue result → self.new.tail_slot ≢ words_in (shape_in self.old) }
+        ensures same { SameBesideTail self.old self.new }
+    {
+        let count = self.geometry.q() as usize;
+        if self.tail_slot as usize != count {
+            return true;
+        }
+        let first = self.geometry.first(Area::Log) as usize;
+        let end = self.geometry.first(Area::Spare) as usize;
+        let Some(next) = first_clear(&self.taken, first, end) else {
+            return false;
+        };
+        store_fresh(&mut self.words, next * count, count, self.position);
+        self.words[self.tail_block as usize * count] = next as u64;
+        mark(&mut self.taken, next);
+        self.tail_block = next as u16;
+        self.tail_slot = 3;
+        true
+    }
+
+    /// Puts the entry of a run of stored blocks into the tail's slot. Its last block has `leftover` bytes past the end of the write.
+    fn commit(&mut self, run: MapRun, leftover: u16)
+        requires slot { self.old.tail_slot ≢ words_in (shape_in self.old) }
+        requires room { self.old.position + 1 < 2 ^ 40 }
+        requires some { 1 ≤ run.count }
+        requires few { run.count ≤ longest_of self.old.geometry.block_bytes }
+        requires in_file { run.virt + run.count ≤ VIRTUAL_BLOCKS }
+        requires first { 1 ≤ run.block }
+        requires last { run.block + run.count ≤ 1 + self.old.geometry.data_blocks }
+        requires left { leftover < self.old.geometry.block_bytes }
+        requires least { (chain file : List ℕ) → Running self.old chain file → AllTakenBefore self.old.words.items (shape_in self.old) chain run.block }
+        requires entry { (chain file : List ℕ) → Running self.old chain file → (new_file : List ℕ) × IsEntryOf self.old.words.items (shape_in self.old) chain file new_file (run_word run leftover) }
+        ensures { (chain file new_file : List ℕ) → Running self.old chain file → IsEntryOf self.old.words.items (shape_in self.old) chain file new_file (run_word run leftover) →
+            Running self.new chain new_file }
+    {
+        let word = encode(&Entry::Direct {
+            virt: run.virt,
+            block: run.block,
+            count: run.count,
+            leftover,
+        });
+        let count = self.geometry.q() as usize;
+        self.words[self.tail_block as usize * count + self.tail_slot as usize] = word;
+        mark_run(&mut self.taken, run.block as usize, run.count as usize);
+        self.table.apply(run.virt, run.block, run.count);
+        let end = (u64::from(run.virt) + u64::from(run.count))
+            * u64::from(self.geometry.block_bytes())
+            - u64::from(leftover);
+        self.table.grow(end);
+        self.position += 1;
+        self.tail_slot += 1;
+        self.first_clear = run.block + run.count;
+    }
+}
