@@ -4,3 +4,4 @@ pub mod StoreLemmas
 pub mod RunningSteps
 pub mod BoundsLemmas
 pub mod EngineLemmas
+pub mod CommitLemmas

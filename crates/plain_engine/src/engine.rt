@@ -1,9 +1,8 @@
 //! An engine: an image, and what one caller keeps of it between calls.
 
-ghost use Rattle.std.specs.Prelude.{◌≡◌, ◌≢◌, ℕ, ◌+◌, ◌-◌, ◌*◌, ◌^◌, ◌<◌, ◌≤◌, List, length, slice_index, IsTrue, Bool, false};
+ghost use Rattle.std.specs.Prelude.{◌≡◌, ◌≢◌, ℕ, ◌+◌, ◌-◌, ◌*◌, ◌^◌, ◌<◌, ◌≤◌, List, length, slice_index, IsTrue, Bool, true, false};
 ghost use Rattle.block_table.specs.FileMap.{block_at};
 ghost use Rattle.block_table.specs.declared.TheConstants.{VIRTUAL_BLOCKS};
-ghost use Rattle.log_entry.specs.Shape.{longest_of};
 ghost use Rattle.log_image.specs.Image.{words_in, block_content};
 ghost use Rattle.chain_reader.specs.Tables.{shape_by};
 ghost use Rattle.plain_engine.specs.Bytes.{laid_byte, present_byte};
@@ -14,6 +13,7 @@ use crate::bitmap::{first_clear, mark, mark_run};
 use crate::fresh::store_fresh;
 use crate::stores::store_run;
 use block_table::{MapRun, Table};
+use chain_reader::take_in;
 use log_entry::{Area, Entry, Geometry, encode};
 
 /// An image that one caller runs on: its words, the bitmap of its taken blocks, the table of its map and size, and where its
@@ -33,7 +33,7 @@ pub struct PlainEngine {
 
 impl PlainEngine {
     ghost use Rattle.log_image.specs.Stands.{StandsBy};
-    ghost use Rattle.image_steps.specs.Steps.{IsEntryOf};
+    ghost use Rattle.image_steps.specs.Steps.{IsEntryOf, fits_log};
     ghost use Rattle.plain_engine.specs.Engine.{shape_in, Running, SameBesideWords, SameNames, HasSlot, LacksSlot, SameBesideTail, run_word};
 
     /// The words of the image.
@@ -96,11 +96,11 @@ impl PlainEngine {
         requires slot { self.old.tail_slot ≢ words_in (shape_in self.old) }
         requires room { self.old.position + 1 < 2 ^ 40 }
         requires some { 1 ≤ run.count }
-        requires few { run.count ≤ longest_of self.old.geometry.block_bytes }
-        requires in_file { run.virt + run.count ≤ VIRTUAL_BLOCKS }
+        requires few { run.count ≤ 256 }
+        requires left { leftover < 4096 }
         requires first { 1 ≤ run.block }
         requires last { run.block + run.count ≤ 1 + self.old.geometry.data_blocks }
-        requires left { leftover < self.old.geometry.block_bytes }
+        requires fitting { fits_log (shape_in self.old) (run_word run leftover) ≡ true }
         requires least { (chain file : List ℕ) → Running self.old chain file → AllTakenBefore self.old.words.items (shape_in self.old) chain run.block }
         requires entry { (chain file : List ℕ) → Running self.old chain file → (new_file : List ℕ) × IsEntryOf self.old.words.items (shape_in self.old) chain file new_file (run_word run leftover) }
         ensures { (chain file new_file : List ℕ) → Running self.old chain file → IsEntryOf self.old.words.items (shape_in self.old) chain file new_file (run_word run leftover) →
@@ -113,13 +113,9 @@ impl PlainEngine {
             leftover,
         });
         let count = self.geometry.q() as usize;
+        take_in(&mut self.table, &self.words, self.geometry, word);
         self.words[self.tail_block as usize * count + self.tail_slot as usize] = word;
         mark_run(&mut self.taken, run.block as usize, run.count as usize);
-        self.table.apply(run.virt, run.block, run.count);
-        let end = (u64::from(run.virt) + u64::from(run.count))
-            * u64::from(self.geometry.block_bytes())
-            - u64::from(leftover);
-        self.table.grow(end);
         self.position += 1;
         self.tail_slot += 1;
         self.first_clear = run.block + run.count;
