@@ -32,6 +32,7 @@ pub record Bounds (shape : Shape) (words taken : List ℕ) (table : FileMap) (po
   pub long : 8 ≤ words_in shape
   pub short : words_in shape ≤ 512
   pub tail_inside : tail_block * words_in shape + words_in shape ≤ length words
+  pub tail_area : is_in_log shape tail_block ≡ true
   pub slot_inside : tail_slot ≤ words_in shape
   pub below : position < 2 ^ 40
   pub held : (virt block : ℕ) → block_at table virt ≡ Some block → (is_in_data shape block ≡ true) × (bit_of taken block ≡ 1)
@@ -74,6 +75,7 @@ bounds_by words taken table position tail_block tail_slot first_clear front tail
       long = long;
       short = short_words (shape_of words) (allowed_shape (shape_of words).data_blocks (shape_of words).log_blocks (shape_of words).block_bytes runs.stands.header.allowed).bytes_are;
       tail_inside = subst (λ (b : ℕ). b * words_in (shape_of words) + words_in (shape_of words) ≤ length words) end.same inside;
+      tail_area = subst (λ (b : ℕ). is_in_log (shape_of words) b ≡ true) end.same at.area;
       slot_inside = end.slot;
       below = omega (arith, runs.stands.stands.ends_at, runs.stands.stands.format.below_limit);
       held = λ virt block is.

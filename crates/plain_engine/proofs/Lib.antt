@@ -5,3 +5,4 @@ pub mod RunningSteps
 pub mod BoundsLemmas
 pub mod EngineLemmas
 pub mod CommitLemmas
+pub mod GrowLemmas
