@@ -6,3 +6,6 @@ pub mod BoundsLemmas
 pub mod EngineLemmas
 pub mod CommitLemmas
 pub mod GrowLemmas
+pub mod FileLemmas
+pub mod WriteLemmas
+pub mod SpaceLemmas

@@ -4,6 +4,9 @@ use Rattle.std.specs.List.{list_all}
 use Rattle.block_table.specs.FileMap.{block_at}
 use Rattle.block_table.specs.declared.map_run.MapRun.{MapRun}
 use Rattle.log_entry.specs.Words.{entry_word}
+use Rattle.log_entry.specs.ByteFile.{write}
+use Rattle.log_entry.specs.Legal.{touched_blocks}
+use Rattle.log_entry.specs.declared.shapes.Area.{Area}
 use Rattle.log_entry.specs.declared.entries.Entry.TheVariants.{Direct}
 use Rattle.log_image.specs.Image.{Shape, words_in, is_in_data, block_words}
 use Rattle.log_image.specs.Holes.{hole_of}
@@ -11,7 +14,7 @@ use Rattle.log_image.specs.Taken.{bit_of, is_taken}
 use Rattle.image_steps.specs.Steps.{IsEntryOf}
 use Rattle.chain_reader.specs.Tables.{shape_by}
 use Rattle.plain_engine.specs.Running.{Runs}
-use Rattle.plain_engine.specs.Space.{lacks_log}
+use Rattle.plain_engine.specs.Space.{lacks_log, lacking}
 use Rattle.plain_engine.specs.declared.engine.PlainEngine.{PlainEngine}
 
 -- the shape of the engine's image
@@ -63,3 +66,21 @@ pub record SameBesideTail (old new : PlainEngine) : Type 0 where
 -- the word of the entry of a run
 abbrev pub run_word : MapRun → ℕ → ℕ
 run_word run leftover = entry_word (Direct run.virt run.block run.count leftover)
+
+-- the file after a write that found space, or did not
+abbrev pub file_written : List ℕ → ℕ → List ℕ → Option Area → List ℕ
+file_written file offset bytes None = write file offset bytes
+file_written file offset bytes (Some area) = file
+
+-- the position after a write that found space, or did not
+abbrev pub position_written : ℕ → Option Area → ℕ
+position_written position None = position + 1
+position_written position (Some area) = position
+
+-- the engine runs on the file that the write makes, or found no space for it
+pub record Writes (old new : PlainEngine) (chain file : List ℕ) (offset : ℕ) (bytes : List ℕ) (result : Option Area) : Type 0 where
+  pub space : result ≡ lacking old.words.items (shape_in old) chain (touched_blocks old.geometry.block_bytes offset (length bytes))
+  pub geometry : new.geometry ≡ old.geometry
+  pub position : new.position ≡ position_written old.position result
+  pub longer : List ℕ
+  pub runs : Running new longer (file_written file offset bytes result)

@@ -3,13 +3,15 @@
 ghost use Rattle.std.specs.Prelude.{◌≡◌, ◌≢◌, ℕ, ◌+◌, ◌-◌, ◌*◌, ◌^◌, ◌<◌, ◌≤◌, List, length, slice_index, IsTrue, Bool, true, false};
 ghost use Rattle.block_table.specs.FileMap.{block_at};
 ghost use Rattle.block_table.specs.declared.TheConstants.{VIRTUAL_BLOCKS};
+ghost use Rattle.log_entry.specs.Shape.{longest_of, limit_of};
+ghost use Rattle.log_entry.specs.Legal.{touched_blocks};
 ghost use Rattle.log_image.specs.Image.{words_in, block_content};
 ghost use Rattle.chain_reader.specs.Tables.{shape_by};
 ghost use Rattle.plain_engine.specs.Bytes.{laid_byte, present_byte};
 ghost use Rattle.plain_engine.specs.Clear.{AllClear};
 ghost use Rattle.plain_engine.specs.Running.{RunsOnSome, AllTakenBefore};
 
-use crate::bitmap::{first_clear, mark, mark_run};
+use crate::bitmap::{first_clear, least_run, mark, mark_run};
 use crate::fresh::store_fresh;
 use crate::stores::store_run;
 use block_table::{MapRun, Table};
@@ -34,7 +36,7 @@ pub struct PlainEngine {
 impl PlainEngine {
     ghost use Rattle.log_image.specs.Stands.{StandsBy};
     ghost use Rattle.image_steps.specs.Steps.{IsEntryOf, fits_log};
-    ghost use Rattle.plain_engine.specs.Engine.{shape_in, Running, SameBesideWords, SameNames, HasSlot, LacksSlot, SameBesideTail, run_word};
+    ghost use Rattle.plain_engine.specs.Engine.{shape_in, Running, SameBesideWords, SameNames, HasSlot, LacksSlot, SameBesideTail, run_word, Writes};
 
     /// The words of the image.
     pub fn into_words(self) -> Vec<u64>
@@ -120,4 +122,45 @@ impl PlainEngine {
         self.tail_slot += 1;
         self.first_clear = run.block + run.count;
     }
+
+    /// Writes at least one byte at an offset; the bytes touch no more blocks than one write may and end within the limit of the file.
+    /// The area in which there is no space, if it is not written.
+    fn write(&mut self, offset: u64, bytes: &[u8]) -> Option<Area>
+        requires some { 0 < length bytes.now }
+        requires few { touched_blocks self.old.geometry.block_bytes offset (length bytes.now) ≤ longest_of self.old.geometry.block_bytes }
+        requires fits { offset + length bytes.now ≤ limit_of self.old.geometry.block_bytes }
+        requires room { self.old.position + 1 < 2 ^ 40 }
+        ensures { (chain file : List ℕ) → Running self.old chain file → Writes self.old self.new chain file offset bytes.now result }
+    {
+        let block_bytes = self.geometry.block_bytes();
+        let count = touched(block_bytes, offset, bytes.len());
+        let virt = offset / u64::from(block_bytes);
+        let end = self.geometry.first(Area::Log) as usize;
+        let Some(block) = least_run(&self.taken, self.first_clear as usize, end, count as usize) else {
+            return Some(Area::Data);
+        };
+        let run = MapRun {
+            virt: virt as u16,
+            block: block as u16,
+            count: count as u16,
+        };
+        self.store(run, offset, bytes);
+        if !self.make_slot() {
+            return Some(Area::Log);
+        }
+        let end = (virt + count) * u64::from(block_bytes);
+        self.commit(run, (end - (offset + bytes.len() as u64)) as u16);
+        None
+    }
+}
+
+/// How many blocks a range of at least one byte touches.
+fn touched(block_bytes: u32, offset: u64, count: usize) -> u64
+    requires block { 0 < block_bytes }
+    requires some { 0 < count }
+    requires few { count < 2 ^ 63 }
+    ensures { result ≡ touched_blocks block_bytes offset count }
+{
+    let block = u64::from(block_bytes);
+    (offset % block + (count as u64 - 1)) / block + 1
 }
