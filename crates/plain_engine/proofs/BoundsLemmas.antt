@@ -1,5 +1,5 @@
 -- What the numbers that an engine keeps are bounded by.
-use Rattle.std.proofs.Common.{◌≡◌, ◌≢◌, ◌<◌, ◌≤◌, ◌+◌, ◌*◌, ◌/◌, ◌==◌, ◌^◌, ◌⊎◌, inl, inr, ℕ, Bool, true, false, List, [], ◌∷◌, ◌++◌, length, Option, Some, None, not, if◌then◌else◌, refl, sym, ap, ◌∙◌, subst, arith, nat_le, length-drop}
+use Rattle.std.proofs.Common.{◌≡◌, ◌≢◌, ◌<◌, ◌≤◌, ◌+◌, ◌*◌, ◌/◌, ◌==◌, ◌^◌, ◌⊎◌, inl, inr, ℕ, zero, suc, Bool, true, false, List, [], ◌∷◌, ◌++◌, length, Option, Some, None, not, if◌then◌else◌, refl, sym, ap, ◌∙◌, subst, arith, nat_le, length-drop}
 use Rattle.log_image.proofs.HoldingLemmas.{both_right}
 use Rattle.std.proofs.Math.Logic.{∥∥₁_elim}
 use Rattle.std.proofs.Math.Nat.{ℕ_set}
@@ -98,3 +98,14 @@ bounds_of shape words taken table position tail_block tail_slot first_clear some
 
 pub bounds : (shape : Shape) (words taken : List ℕ) (table : FileMap) (position tail_block tail_slot first_clear : ℕ) → ∥ RunsOnSome shape words taken table position tail_block tail_slot first_clear ∥₁ → Bounds shape words taken table position tail_block tail_slot
 bounds shape words taken table position tail_block tail_slot first_clear kept = ∥∥₁_elim kept (hlevel (ℕ_set, Bool-set, le_prop)) (bounds_of shape words taken table position tail_block tail_slot first_clear)
+
+-- the bit of block 0, and those of the data blocks before the first that may be clear, are set
+pub set_bits : (shape : Shape) (words taken : List ℕ) (table : FileMap) (position tail_block tail_slot first_clear : ℕ) → ∥ RunsOnSome shape words taken table position tail_block tail_slot first_clear ∥₁ → (block : ℕ) → block < first_clear → block < total shape → bit_of taken block ≡ 1
+set_bits shape words taken table position tail_block tail_slot first_clear kept block before inside = ∥∥₁_elim kept (ℕ_set _ _) (λ some. by_one some block before inside)
+  where
+    by_one : RunsOnSome shape words taken table position tail_block tail_slot first_clear → (block : ℕ) → block < first_clear → block < total shape → bit_of taken block ≡ 1
+    by_one some zero before inside = some.runs.fits.bitmap.bits 0 inside
+    by_one some (suc block) before inside = some.runs.fits.bitmap.bits (suc block) inside ∙ ap (λ (b : Bool). if b then 1 else 0) (some.runs.fits.low (suc block) (omega arith) before)
+
+pub header_bit : (shape : Shape) (words taken : List ℕ) (table : FileMap) (position tail_block tail_slot first_clear : ℕ) → ∥ RunsOnSome shape words taken table position tail_block tail_slot first_clear ∥₁ → bit_of taken 0 ≡ 1
+header_bit shape words taken table position tail_block tail_slot first_clear kept = ∥∥₁_elim kept (ℕ_set _ _) (λ some. some.runs.fits.bitmap.bits 0 (omega arith))

@@ -9,3 +9,4 @@ pub mod GrowLemmas
 pub mod FileLemmas
 pub mod WriteLemmas
 pub mod SpaceLemmas
+pub mod WriteSteps

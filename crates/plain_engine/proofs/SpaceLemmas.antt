@@ -80,3 +80,126 @@ run_passes p first (suc count) (suc many) is = go (p first) refl (λ later. run_
     go false fails rest =
         let wrong : false ≡ true = sym (ap (λ (l : List ℕ). begins_run first (suc many) l) (first_fails p first count fails) ∙ later_only p (first + 1) count first many (omega arith)) ∙ is in
         absurd (cc)
+
+-- all numbers of a range fail, or there is a first that passes
+first_or_none : (p : ℕ → Bool) (first count : ℕ) → ((b : ℕ) → first ≤ b → b < first + count → p b ≡ false) ⊎ ((b : ℕ) × (first ≤ b) × (b < first + count) × (p b ≡ true) × ((k : ℕ) → first ≤ k → k < b → p k ≡ false))
+first_or_none p first zero = inl (λ b above below. absurd (omega (arith, above, below)))
+first_or_none p first (suc count) = go (p first) refl (first_or_none p (first + 1) count)
+  where
+    go : (here : Bool) → p first ≡ here → ((b : ℕ) → first + 1 ≤ b → b < first + 1 + count → p b ≡ false) ⊎ ((b : ℕ) × (first + 1 ≤ b) × (b < first + 1 + count) × (p b ≡ true) × ((k : ℕ) → first + 1 ≤ k → k < b → p k ≡ false)) →
+        ((b : ℕ) → first ≤ b → b < first + suc count → p b ≡ false) ⊎ ((b : ℕ) × (first ≤ b) × (b < first + suc count) × (p b ≡ true) × ((k : ℕ) → first ≤ k → k < b → p k ≡ false))
+    go true is rest = inr (first, omega arith, omega arith, is, λ k above below. absurd (omega (arith, above, below)))
+    go false is (inl none) = inl (λ b above below. each b above below (cases_lt first b))
+      where
+        each : (b : ℕ) → first ≤ b → b < first + suc count → (first < b) ⊎ (b ≤ first) → p b ≡ false
+        each b above below (inl later) = none b (omega (arith, later)) (omega (arith, below))
+        each b above below (inr same) = (let one : first ≡ b = omega (arith, above, same) in subst (λ (n : ℕ). p n ≡ false) one is)
+    go false is (inr found) = inr (found.0, omega (arith, found.1), omega (arith, found.2), found.3, λ k above below. each k above below (cases_lt first k))
+      where
+        each : (k : ℕ) → first ≤ k → k < found.0 → (first < k) ⊎ (k ≤ first) → p k ≡ false
+        each k above below (inl later) = found.4 k (omega (arith, later)) below
+        each k above below (inr same) = (let one : first ≡ k = omega (arith, above, same) in subst (λ (n : ℕ). p n ≡ false) one is)
+
+-- the list of clear blocks from the first clear one on
+from_first : (p : ℕ → Bool) (count block : ℕ) → 1 ≤ block → block < 1 + count → p block ≡ true → ((k : ℕ) → 1 ≤ k → k < block → p k ≡ false) →
+    (passing p 1 count ≡ passing p block (1 + count - block)) × (get_or (passing p 1 count) 0 0 ≡ block)
+from_first p count block low high passes before =
+    let skip : passing p 1 count ≡ passing p block (1 + count - block) = skip_failing p 1 count block low (omega (arith, high)) before in
+    let long : 1 + count - block ≡ suc (count - block) = omega (arith, low, high) in
+    (skip, ap (λ (l : List ℕ). get_or l 0 0) (skip ∙ ap (λ (n : ℕ). passing p block n) long ∙ first_passes p block (count - block) passes))
+
+-- what is known of the bits and of the cursor
+pub record Cursor (words : List ℕ) (shape : Shape) (chain taken : List ℕ) (first_clear : ℕ) : Type 0 where
+  pub has : HasTaken words shape chain taken
+  pub low : (block : ℕ) → 1 ≤ block → block < first_clear → is_taken words shape chain block ≡ true
+
+-- the blocks before a least run are taken
+before_run : (words : List ℕ) (shape : Shape) (chain taken : List ℕ) (first_clear count block : ℕ) → Cursor words shape chain taken first_clear → IsFirstClear taken first_clear (1 + shape.data_blocks) block → (k : ℕ) → 1 ≤ k → k < block → is_taken words shape chain k ≡ true
+before_run words shape chain taken first_clear count block is first k some below = go (cases_lt k first_clear)
+  where
+    go : (k < first_clear) ⊎ (first_clear ≤ k) → is_taken words shape chain k ≡ true
+    go (inl low) = is.low k some low
+    go (inr high) = set_taken words shape chain taken k is.has (omega (arith, below, first.inside)) (first.before k high below)
+
+pub run_enough : (words : List ℕ) (shape : Shape) (chain taken : List ℕ) (first_clear count block : ℕ) → 1 ≤ block → Cursor words shape chain taken first_clear → IsLeastRun taken first_clear (1 + shape.data_blocks) count block → lacks_data words shape chain count ≡ false
+run_enough words shape chain taken first_clear count block some is least =
+    let clear_at : (k : ℕ) → block ≤ k → k < block + count → not (is_taken words shape chain k) ≡ true =
+    λ k above below. ap (λ (b : Bool). not b) (clear_untaken words shape chain taken k is.has (omega (arith, below, least.room)) (least.run k above below)) in
+    let first : not (is_taken words shape chain block) ≡ true = ap (λ (b : Bool). not b) (clear_untaken words shape chain taken block is.has (omega (arith, least.first.inside)) least.first.clear) in
+    let both : (clear_blocks words shape chain 1 shape.data_blocks ≡ passing (λ (b : ℕ). not (is_taken words shape chain b)) block (1 + shape.data_blocks - block)) × (get_or (clear_blocks words shape chain 1 shape.data_blocks) 0 0 ≡ block) =
+    from_first (λ (b : ℕ). not (is_taken words shape chain b)) shape.data_blocks block some least.first.inside first
+    (λ k low below. ap (λ (b : Bool). not b) (before_run words shape chain taken first_clear count block is least.first k low below)) in
+    ap (λ (n : ℕ). not (begins_run n count (clear_blocks words shape chain 1 shape.data_blocks))) both.1
+    ∙ ap (λ (l : List ℕ). not (begins_run block count l)) both.0
+    ∙ ap (λ (b : Bool). not b) (run_begins (λ (b : ℕ). not (is_taken words shape chain b)) block (1 + shape.data_blocks - block) count (omega (arith, least.room)) clear_at)
+
+pub no_run_lacks : (words : List ℕ) (shape : Shape) (chain taken : List ℕ) (first_clear count : ℕ) → 1 ≤ count → Cursor words shape chain taken first_clear → ((block : ℕ) → IsLeastRun taken first_clear (1 + shape.data_blocks) count block → ⊥) → lacks_data words shape chain count ≡ true
+no_run_lacks words shape chain taken first_clear count some is none = go (begins_run (get_or (clear_blocks words shape chain 1 shape.data_blocks) 0 0) count (clear_blocks words shape chain 1 shape.data_blocks)) refl (first_or_none (λ (b : ℕ). not (is_taken words shape chain b)) 1 shape.data_blocks)
+  where
+    p : ℕ → Bool
+    p b = not (is_taken words shape chain b)
+    flip : (b : Bool) → not b ≡ false → b ≡ true
+    flip true is = refl
+    flip false is = cc
+    flop : (b : Bool) → not b ≡ true → b ≡ false
+    flop true is = cc
+    flop false is = refl
+    starts : (n : ℕ) → 1 ≤ n → begins_run 0 n [] ≡ false
+    starts zero low = absurd (omega (arith, low))
+    starts (suc n) low = refl
+    go : (found : Bool) → begins_run (get_or (clear_blocks words shape chain 1 shape.data_blocks) 0 0) count (clear_blocks words shape chain 1 shape.data_blocks) ≡ found →
+        ((b : ℕ) → 1 ≤ b → b < 1 + shape.data_blocks → not (is_taken words shape chain b) ≡ false) ⊎ ((b : ℕ) × (1 ≤ b) × (b < 1 + shape.data_blocks) × (not (is_taken words shape chain b) ≡ true) × ((k : ℕ) → 1 ≤ k → k < b → not (is_taken words shape chain k) ≡ false)) → lacks_data words shape chain count ≡ true
+    go false begun where_first = ap (λ (b : Bool). not b) begun
+    go true begun (inl all) =
+        let nought : 1 + shape.data_blocks - (1 + shape.data_blocks) ≡ 0 = omega arith in
+        let empty : clear_blocks words shape chain 1 shape.data_blocks ≡ [] = skip_failing (λ (b : ℕ). not (is_taken words shape chain b)) 1 shape.data_blocks (1 + shape.data_blocks) (omega arith) (omega arith) all ∙ ap (λ (n : ℕ). passing (λ (b : ℕ). not (is_taken words shape chain b)) (1 + shape.data_blocks) n) nought in
+        let wrong : false ≡ true = sym (starts count some) ∙ sym (ap (λ (l : List ℕ). begins_run (get_or l 0 0) count l) empty) ∙ begun in
+        absurd (cc)
+    go true begun (inr first) =
+        let both : (clear_blocks words shape chain 1 shape.data_blocks ≡ passing (λ (b : ℕ). not (is_taken words shape chain b)) first.0 (1 + shape.data_blocks - first.0)) × (get_or (clear_blocks words shape chain 1 shape.data_blocks) 0 0 ≡ first.0) =
+        from_first (λ (b : ℕ). not (is_taken words shape chain b)) shape.data_blocks first.0 first.1 first.2 first.3 first.4 in
+        let there : begins_run first.0 count (passing (λ (b : ℕ). not (is_taken words shape chain b)) first.0 (1 + shape.data_blocks - first.0)) ≡ true =
+        sym (ap (λ (l : List ℕ). begins_run first.0 count l) both.0) ∙ sym (ap (λ (n : ℕ). begins_run n count (clear_blocks words shape chain 1 shape.data_blocks)) both.1) ∙ begun in
+        let run : (count ≤ 1 + shape.data_blocks - first.0) × ((k : ℕ) → first.0 ≤ k → k < first.0 + count → not (is_taken words shape chain k) ≡ true) = run_passes (λ (b : ℕ). not (is_taken words shape chain b)) first.0 (1 + shape.data_blocks - first.0) count there in
+        absurd (none first.0 (record {
+          first = record {
+            after = low_enough first.0 first.1 first.3 (cases_lt first.0 first_clear);
+            inside = first.2;
+            clear = is.has.bits first.0 (omega (arith, first.2)) ∙ ap (λ (b : Bool). if b then 1 else 0) (flop (is_taken words shape chain first.0) first.3);
+            before = λ k high below zero_bit. zero_not (is.has.bits k (omega (arith, below, first.2)) ∙ ap (λ (b : Bool). if b then 1 else 0) (taken_before k below (cases_lt 0 k))) zero_bit;
+          };
+          room = omega (arith, run.0, first.2);
+          run = λ k above below. is.has.bits k (omega (arith, below, run.0, first.2)) ∙ ap (λ (b : Bool). if b then 1 else 0) (flop (is_taken words shape chain k) (run.1 k above below));
+        }))
+      where
+        zero_not : {n : ℕ} → n ≡ 1 → n ≡ 0 → ⊥
+        zero_not one zero_is = omega (arith, one, zero_is)
+        taken_before : (k : ℕ) → k < first.0 → (0 < k) ⊎ (k ≤ 0) → is_taken words shape chain k ≡ true
+        taken_before k below (inl low) = flip (is_taken words shape chain k) (first.4 k low below)
+        taken_before k below (inr low) = (let nought : 0 ≡ k = omega (arith, low) in subst (λ (n : ℕ). is_taken words shape chain n ≡ true) nought refl)
+        low_enough : (b : ℕ) → 1 ≤ b → not (is_taken words shape chain b) ≡ true → (b < first_clear) ⊎ (first_clear ≤ b) → first_clear ≤ b
+        low_enough b low passes (inr fine) = fine
+        low_enough b low passes (inl wrong) = absurd (differ (is_taken words shape chain b) (is.low b low wrong) (flop (is_taken words shape chain b) passes))
+          where
+            differ : (b : Bool) → b ≡ true → b ≡ false → ⊥
+            differ b yes_b no_b = cc
+
+-- what is lacking is the same where the chain names the same and has the same hole
+filter_same : (p q : ℕ → Bool) (xs : List ℕ) → ((x : ℕ) → p x ≡ q x) → filter p xs ≡ filter q xs
+filter_same p q [] same = refl
+filter_same p q (x ∷ xs) same = rw (same x, filter_same p q xs same) refl
+
+pub lacks_log_same : (words new : List ℕ) (shape : Shape) (chain : List ℕ) → ((block : ℕ) → is_taken new shape chain block ≡ is_taken words shape chain block) → hole_of new shape chain ≡ hole_of words shape chain → lacks_log new shape chain ≡ lacks_log words shape chain
+lacks_log_same words new shape chain taken hole =
+    ap (λ (h : Hole). is_link h && length (clear_blocks new shape chain (1 + shape.data_blocks) shape.log_blocks) == 0) hole
+    ∙ ap (λ (l : List ℕ). is_link (hole_of words shape chain) && length l == 0) (filter_same (λ (b : ℕ). not (is_taken new shape chain b)) (λ (b : ℕ). not (is_taken words shape chain b)) (range_with_len (1 + shape.data_blocks) shape.log_blocks) (λ b. ap (λ (t : Bool). not t) (taken b)))
+
+-- the three answers
+pub lacking_data : (words : List ℕ) (shape : Shape) (chain : List ℕ) (count : ℕ) → lacks_data words shape chain count ≡ true → Some Data ≡ lacking words shape chain count
+lacking_data words shape chain count is = rw is refl
+
+pub lacking_log : (words : List ℕ) (shape : Shape) (chain : List ℕ) (count : ℕ) → lacks_data words shape chain count ≡ false → lacks_log words shape chain ≡ true → Some Log ≡ lacking words shape chain count
+lacking_log words shape chain count is also = rw (is, also) refl
+
+pub lacking_none : (words : List ℕ) (shape : Shape) (chain : List ℕ) (count : ℕ) → lacks_data words shape chain count ≡ false → lacks_log words shape chain ≡ false → None ≡ lacking words shape chain count
+lacking_none words shape chain count is also = rw (is, also) refl

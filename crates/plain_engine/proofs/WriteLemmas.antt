@@ -1,12 +1,14 @@
 -- A write: its entry, and when it finds no space.
-use Rattle.std.proofs.Common.{◌≡◌, ◌≢◌, ◌<◌, ◌≤◌, ◌+◌, ◌-◌, ◌*◌, ◌/◌, ◌==◌, ◌&&◌, ◌⊎◌, inl, inr, max, ℕ, zero, suc, Bool, true, false, List, [], ◌∷◌, ◌++◌, length, get_or, not, nat_le, nat_lt, Option, Some, None, if◌then◌else◌, refl, sym, ap, ◌∙◌, subst, arith}
+use Rattle.std.proofs.Common.{◌≡◌, ◌≢◌, ◌<◌, ◌≤◌, ◌+◌, ◌-◌, ◌*◌, ◌/◌, ◌==◌, ◌&&◌, ◌⊎◌, inl, inr, max, ℕ, zero, suc, Bool, true, false, List, [], ◌∷◌, ◌++◌, length, get_or, not, nat_le, nat_lt, Option, Some, None, IsTrue, if◌then◌else◌, refl, sym, ap, ◌∙◌, subst, arith}
 use Rattle.std.specs.Prelude.{filter}
 use Rattle.std.specs.List.{list_all, slice_get, range_with_len}
 use Rattle.std.proofs.lemmas.Bool.{cases_lt, le-leb, lt-leb, lt-ltb, leb-true, leb-false, eq-eqb, ne_eqb, eqb-true}
 use Rattle.std.proofs.lemmas.List.FromFn.{length-range_with_len}
 use Rattle.log_entry.specs.ByteFile.{write}
 use Rattle.log_entry.specs.Fields.{field}
-use Rattle.log_entry.specs.Shape.{longest_of}
+use Rattle.log_entry.specs.Shape.{longest_of, limit_of, is_block_bytes}
+use Rattle.log_entry.specs.Legal.{touched_blocks}
+use Rattle.std.proofs.lemmas.Bool.Decides.{nat_tests}
 use Rattle.log_entry.specs.WordBytes.{word_bytes}
 use Rattle.log_entry.specs.Words.{entry_word, entry_unnamed}
 use Rattle.log_entry.specs.declared.entries.Entry.TheVariants.{Direct}
@@ -26,7 +28,7 @@ use Rattle.plain_engine.specs.Clear.{AllClear, AllTaken, IsFirstClear, IsLeastRu
 use Rattle.plain_engine.specs.Running.{Fits, Runs, AllTakenBefore}
 use Rattle.plain_engine.proofs.CommitLemmas.{HasFields, word_fields}
 use Rattle.plain_engine.proofs.EngineLemmas.{clear_untaken, set_taken}
-use Rattle.plain_engine.proofs.FileLemmas.{write_place, length_write, Touches}
+use Rattle.plain_engine.proofs.FileLemmas.{write_place, length_write, Touches, touches}
 use Rattle.plain_engine.proofs.WordLemmas.{laid_outside}
 use Rattle.image_steps.proofs.BlockLemmas.{block_inside}
 use Rattle.std.proofs.Math.Nat.{mul-le-mul_right}
@@ -144,3 +146,30 @@ run_entry words shape chain file bytes virt block count leftover offset is free 
     away : (at place : ℕ) → place < shape.block_bytes → (at < virt) ⊎ (virt + count ≤ at) → (at * shape.block_bytes + place < offset) ⊎ (offset + length bytes ≤ at * shape.block_bytes + place)
     away at place inside (inl before) = inl (omega (arith, inside, is.touches.starts, block_inside shape.block_bytes at virt before))
     away at place inside (inr past) = inr (omega (arith, inside, is.touches.ends, mul-le-mul_right shape.block_bytes past))
+
+-- the numbers of a write's run
+pub run_for : (shape : Shape) (offset long size again count block virt leftover : ℕ) → IsTrue (is_block_bytes shape.block_bytes) → total shape ≤ 65535 → size ≡ shape.block_bytes → again ≡ shape.block_bytes → count ≡ touched_blocks shape.block_bytes offset long → virt ≡ offset / size →
+    0 < long → touched_blocks shape.block_bytes offset long ≤ longest_of shape.block_bytes → offset + long ≤ limit_of shape.block_bytes → 1 ≤ block → block + count ≤ 1 + shape.data_blocks → leftover ≡ (virt + count) * again - (offset + long) → IsRunFor shape virt block count leftover offset long
+run_for shape offset long size again count block virt leftover allowed few is_size is_again is_count is_virt some fewer fits first last left =
+    let bytes : (0 < shape.block_bytes) × (shape.block_bytes ≤ 4096) = (grind (arith, nat_tests, allowed), grind (arith, nat_tests, allowed)) in
+    let same_virt : virt ≡ offset / shape.block_bytes = is_virt ∙ ap (λ (n : ℕ). offset / n) is_size in
+    let touch : Touches shape.block_bytes virt count offset long =
+    subst (λ (n : ℕ). Touches shape.block_bytes n count offset long) (sym same_virt) (subst (λ (n : ℕ). Touches shape.block_bytes (offset / shape.block_bytes) n offset long) (sym is_count) (touches shape.block_bytes offset long bytes.0 some)) in
+    let same_left : leftover ≡ (virt + count) * shape.block_bytes - (offset + long) = left ∙ ap (λ (n : ℕ). (virt + count) * n - (offset + long)) is_again in
+    record {
+      touches = touch;
+      few = omega (arith, is_count, fewer);
+      in_file = in_limit (virt + count) (cases_lt (virt + count) 65537) touch.last;
+      small_block = omega (arith, few, last, touch.some);
+      first = first;
+      last = last;
+      left = same_left;
+      small_left = omega (arith, same_left, touch.last, bytes.1);
+      some = some;
+      small_count = omega (arith, is_count, fewer);
+      below = omega (arith, same_left, touch.last, bytes.0);
+    }
+  where
+    in_limit : (blocks : ℕ) → (blocks < 65537) ⊎ (65537 ≤ blocks) → blocks * shape.block_bytes < offset + long + shape.block_bytes → blocks ≤ 65536
+    in_limit blocks (inl below) short = omega (arith, below)
+    in_limit blocks (inr past) short = (let times : 65537 * shape.block_bytes ≤ blocks * shape.block_bytes = mul-le-mul_right shape.block_bytes past in omega (arith, times, short, fits))

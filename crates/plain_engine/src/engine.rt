@@ -105,8 +105,10 @@ impl PlainEngine {
         requires fitting { fits_log (shape_in self.old) (run_word run leftover) ≡ true }
         requires least { (chain file : List ℕ) → Running self.old chain file → AllTakenBefore self.old.words.items (shape_in self.old) chain run.block }
         requires entry { (chain file : List ℕ) → Running self.old chain file → (new_file : List ℕ) × IsEntryOf self.old.words.items (shape_in self.old) chain file new_file (run_word run leftover) }
-        ensures { (chain file new_file : List ℕ) → Running self.old chain file → IsEntryOf self.old.words.items (shape_in self.old) chain file new_file (run_word run leftover) →
+        ensures runs { (chain file new_file : List ℕ) → Running self.old chain file → IsEntryOf self.old.words.items (shape_in self.old) chain file new_file (run_word run leftover) →
             Running self.new chain new_file }
+        ensures geometry { self.new.geometry ≡ self.old.geometry }
+        ensures position { self.new.position ≡ self.old.position + 1 }
     {
         let word = encode(&Entry::Direct {
             virt: run.virt,

@@ -40,8 +40,8 @@ invariant_of-self c =
               c.encode-word.ensures.same c.requires.fitting (c.requires.entry some.chain some.file some.runs).1 c.q-count.ensures c.deref.ensures.value c.deref_mut.ensures.value c.mark_run.auto.taken c.mark_run.ensures c.take_in.ensures.map c.take_in.ensures.size (c.requires.least some.chain some.file some.runs);
         })) }
 
-pub returns : goal.returns
-returns c = λ chain file new_file runs entry.
+pub returns-clause-runs : goal.returns-clause-runs
+returns-clause-runs c = λ chain file new_file runs entry.
     let e = c.args.self.now in
     let back : take e.taken.len (c.mark_run.new.taken ++ drop (length c.mark_run.new.taken) e.taken.items) ≡ c.mark_run.new.taken =
         lent_back c.mark_run.new.taken e.taken.items e.taken.len (c.mark_run.auto.taken ∙ ap length c.deref_mut.ensures.value) e.taken.ok.0 in
