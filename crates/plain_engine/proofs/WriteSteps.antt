@@ -24,6 +24,8 @@ use Rattle.plain_engine.specs.Engine.{shape_in, Running, SameBesideWords, SameNa
 use Rattle.plain_engine.specs.declared.engine.PlainEngine.{PlainEngine}
 use Rattle.plain_engine.proofs.BoundsLemmas.{set_bits, data_inside}
 use Rattle.plain_engine.proofs.EngineLemmas.{clear_untaken, set_taken}
+use Rattle.plain_engine.specs.Space.{lacks_log}
+use Rattle.plain_engine.proofs.SpaceLemmas.{lacks_log_same}
 use Rattle.plain_engine.proofs.WriteLemmas.{IsRunFor, run_entry, present_is}
 
 -- the engines before, after the blocks are stored, and after a slot is made
@@ -106,3 +108,9 @@ way_entry before stored slotted virt block count leftover offset bytes is chain 
         (is.same_tail.content (block + k) (subst (λ (s : Shape). is_in_data s (block + k) ≡ true) (sym (shape_stored before stored is.same)) (here k inside))))
         ∙ is.content k at inside small
         ∙ ap (λ (n : ℕ). laid_byte offset bytes ((virt + k) * before.geometry.block_bytes + at) n) (present (virt + k) at small)
+
+-- whether the log lacks a block is the same after the blocks are stored
+pub log_lack : (before stored : PlainEngine) (chain : List ℕ) → SameBesideWords before stored → SameNames before stored chain → (lack : Bool) → lacks_log stored.words.items (shape_in stored) chain ≡ lack → lacks_log before.words.items (shape_in before) chain ≡ lack
+log_lack before stored chain same names lack is =
+    sym (lacks_log_same before.words.items stored.words.items (shape_in before) chain names.taken names.hole)
+    ∙ subst (λ (s : Shape). lacks_log stored.words.items s chain ≡ lack) (shape_stored before stored same) is

@@ -7,12 +7,13 @@ use Rattle.image_steps.specs.Steps.{fits_log}
 use Rattle.chain_reader.specs.Tables.{shape_by}
 use Rattle.plain_engine.specs.Clear.{IsLeastRun}
 use Rattle.plain_engine.specs.Running.{Fits, Runs}
+use Rattle.plain_engine.specs.Space.{lacks_data}
 use Rattle.plain_engine.specs.Engine.{Running, HasSlot, LacksSlot, run_word}
 use Rattle.plain_engine.specs.declared.engine.PlainEngine.{PlainEngine}
 use Rattle.plain_engine.proofs.BoundsLemmas.{header_bit}
 use Rattle.plain_engine.proofs.WriteLemmas.{IsRunFor, run_for, run_fits}
 use Rattle.plain_engine.proofs.SpaceLemmas.{Cursor, run_enough, no_run_lacks, lacks_log_same, lacking_data, lacking_log, lacking_none}
-use Rattle.plain_engine.proofs.WriteSteps.{IsWay, way_entry, way_least, shape_slotted}
+use Rattle.plain_engine.proofs.WriteSteps.{IsWay, way_entry, way_least, shape_slotted, log_lack}
 use Rattle.plain_engine.proofs.engine.PlainEngine.write.Goals as goal
 
 -- a clear block is not the header
@@ -46,7 +47,23 @@ store-requires-clause-first c =
     not_header e c.in-Some.block (subst (λ (l : List ℕ). bit_of l c.in-Some.block ≡ 0) c.deref.ensures.value c.in-Some.ensures.first.clear)
 
 pub returns-then-not-make_slot : goal.returns-then-not-make_slot
-returns-then-not-make_slot c = ?
+returns-then-not-make_slot c = λ chain file runs.
+    let e = c.args.self.now in
+    let touch : c.touched-count.result ≡ touched_blocks e.geometry.block_bytes c.args.offset (length c.args.bytes.now) = c.touched-count.ensures ∙ ap (λ (n : ℕ). touched_blocks n c.args.offset (length c.args.bytes.now)) c.block_bytes-block_bytes.ensures.value in
+    let least : IsLeastRun e.taken.items e.first_clear (1 + e.geometry.data_blocks) c.touched-count.result c.in-Some.block =
+        subst (λ (l : List ℕ). IsLeastRun l e.first_clear (1 + e.geometry.data_blocks) c.touched-count.result c.in-Some.block) c.deref.ensures.value
+        (subst (λ (n : ℕ). IsLeastRun c.deref.result.now e.first_clear n c.touched-count.result c.in-Some.block) c.first-end.ensures c.in-Some.ensures) in
+    let first : 1 ≤ c.in-Some.block = not_header e c.in-Some.block least.first.clear in
+    let enough : lacks_data e.words.items (shape_by e.geometry) chain (touched_blocks e.geometry.block_bytes c.args.offset (length c.args.bytes.now)) ≡ false =
+        subst (λ (n : ℕ). lacks_data e.words.items (shape_by e.geometry) chain n ≡ false) touch (run_enough e.words.items (shape_by e.geometry) chain e.taken.items e.first_clear c.touched-count.result c.in-Some.block first (cursor e chain file runs) least) in
+    let none : LacksSlot c.store.new.self c.make_slot.new.self chain file = c.if-not-make_slot.ensures.none refl chain file (c.store.ensures.runs chain file runs) in
+    record {
+      space = lacking_log e.words.items (shape_by e.geometry) chain (touched_blocks e.geometry.block_bytes c.args.offset (length c.args.bytes.now)) enough (log_lack e c.store.new.self chain c.store.ensures.same (c.store.ensures.names chain file runs) true none.lacking);
+      geometry = c.make_slot.ensures.same.geometry ∙ c.store.ensures.same.geometry;
+      position = c.make_slot.ensures.same.position ∙ c.store.ensures.same.position;
+      longer = chain;
+      runs = none.runs;
+    }
 
 pub commit-requires-clause-first : goal.commit-requires-clause-first
 commit-requires-clause-first c =
@@ -89,7 +106,7 @@ commit-requires-clause-least c = λ chain file runs.
       runs = c.store.ensures.runs;
       content = c.store.ensures.stored;
       same = c.store.ensures.same;
-      slot = c.if-not-make_slot.ensures.slot tt;
+      slot = c.if-not-make_slot.ensures.slot refl;
       same_tail = c.make_slot.ensures.same;
     } in
     way_least e c.store.new.self c.make_slot.new.self (c.args.offset / c.from.result) c.in-Some.block c.touched-count.result ((c.args.offset / c.from.result + c.touched-count.result) * c.from-2.result - (c.args.offset + length c.args.bytes.now)) c.args.offset c.args.bytes.now way chain file runs
@@ -113,7 +130,7 @@ commit-requires-clause-entry c = λ chain file runs.
       runs = c.store.ensures.runs;
       content = c.store.ensures.stored;
       same = c.store.ensures.same;
-      slot = c.if-not-make_slot.ensures.slot tt;
+      slot = c.if-not-make_slot.ensures.slot refl;
       same_tail = c.make_slot.ensures.same;
     } in
     (write file c.args.offset c.args.bytes.now, way_entry e c.store.new.self c.make_slot.new.self (c.args.offset / c.from.result) c.in-Some.block c.touched-count.result ((c.args.offset / c.from.result + c.touched-count.result) * c.from-2.result - (c.args.offset + length c.args.bytes.now)) c.args.offset c.args.bytes.now way chain file runs)
@@ -137,12 +154,14 @@ returns c = λ chain file runs.
       runs = c.store.ensures.runs;
       content = c.store.ensures.stored;
       same = c.store.ensures.same;
-      slot = c.if-not-make_slot.ensures.slot tt;
+      slot = c.if-not-make_slot.ensures.slot refl;
       same_tail = c.make_slot.ensures.same;
     } in
     let slot : HasSlot c.store.new.self c.make_slot.new.self chain file = way.slot chain file (way.runs chain file runs) in
+    let enough : lacks_data e.words.items (shape_by e.geometry) chain (touched_blocks e.geometry.block_bytes c.args.offset (length c.args.bytes.now)) ≡ false =
+        subst (λ (n : ℕ). lacks_data e.words.items (shape_by e.geometry) chain n ≡ false) touch (run_enough e.words.items (shape_by e.geometry) chain e.taken.items e.first_clear c.touched-count.result c.in-Some.block first (cursor e chain file runs) least) in
     record {
-      space = lacking_none e.words.items (shape_by e.geometry) chain (touched_blocks e.geometry.block_bytes c.args.offset (length c.args.bytes.now)) ? ?;
+      space = lacking_none e.words.items (shape_by e.geometry) chain (touched_blocks e.geometry.block_bytes c.args.offset (length c.args.bytes.now)) enough (log_lack e c.store.new.self chain c.store.ensures.same (c.store.ensures.names chain file runs) false slot.enough);
       geometry = c.commit.ensures.geometry ∙ c.make_slot.ensures.same.geometry ∙ c.store.ensures.same.geometry;
       position = c.commit.ensures.position ∙ ap (λ (n : ℕ). n + 1) (c.make_slot.ensures.same.position ∙ c.store.ensures.same.position);
       longer = slot.longer;
