@@ -92,7 +92,7 @@ direct_names shape (word ∷ words) good =
     (direct_names shape words (both_right (is_snapshot_entry shape word) (list_all (is_snapshot_entry shape) words) good))
 
 -- the words of the log's entries are as they may be
-all_good : (image : List ℕ) (shape : Shape) (blocks : List ℕ) → list_all (λ (b : ℕ). is_log_block image shape (block_words image shape b)) blocks ≡ true → list_all (is_log_entry image shape) (flat_map (log_entry_words image shape) blocks) ≡ true
+pub all_good : (image : List ℕ) (shape : Shape) (blocks : List ℕ) → list_all (λ (b : ℕ). is_log_block image shape (block_words image shape b)) blocks ≡ true → list_all (is_log_entry image shape) (flat_map (log_entry_words image shape) blocks) ≡ true
 all_good image shape [] good = refl
 all_good image shape (block ∷ blocks) good =
     all_join (is_log_entry image shape) (log_entry_words image shape block) (flat_map (log_entry_words image shape) blocks)

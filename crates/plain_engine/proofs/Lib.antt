@@ -10,3 +10,5 @@ pub mod FileLemmas
 pub mod WriteLemmas
 pub mod SpaceLemmas
 pub mod WriteSteps
+pub mod ReadLemmas
+pub mod StartLemmas

@@ -1,11 +1,12 @@
 //! An engine: an image, and what one caller keeps of it between calls.
 
-ghost use Rattle.std.specs.Prelude.{◌≡◌, ◌≢◌, ℕ, ◌+◌, ◌-◌, ◌*◌, ◌^◌, ◌<◌, ◌≤◌, List, length, slice_index, IsTrue, Bool, true, false};
+ghost use Rattle.std.specs.Prelude.{◌≡◌, ◌≢◌, ℕ, ◌+◌, ◌-◌, ◌*◌, ◌^◌, ◌<◌, ◌≤◌, List, length, slice_index, IsTrue, Bool, true, false, IfOk};
 ghost use Rattle.block_table.specs.FileMap.{block_at};
 ghost use Rattle.block_table.specs.declared.TheConstants.{VIRTUAL_BLOCKS};
 ghost use Rattle.log_entry.specs.Shape.{longest_of, limit_of};
 ghost use Rattle.log_entry.specs.Legal.{touched_blocks};
-ghost use Rattle.log_image.specs.Image.{words_in, block_content};
+ghost use Rattle.log_entry.specs.ByteFile.{read};
+ghost use Rattle.log_image.specs.Image.{words_in, total, block_content};
 ghost use Rattle.chain_reader.specs.Tables.{shape_by};
 ghost use Rattle.plain_engine.specs.Bytes.{laid_byte, present_byte};
 ghost use Rattle.plain_engine.specs.Clear.{AllClear};
@@ -15,8 +16,11 @@ use crate::bitmap::{first_clear, least_run, mark, mark_run};
 use crate::fresh::store_fresh;
 use crate::stores::store_run;
 use block_table::{MapRun, Table};
-use chain_reader::take_in;
+use byteorder::{ByteOrder, LittleEndian};
+use chain_reader::{read_chain, take_in};
 use log_entry::{Area, Entry, Geometry, encode};
+use log_image::Start;
+use std::alloc::{AllocError, Global};
 
 /// An image that one caller runs on: its words, the bitmap of its taken blocks, the table of its map and size, and where its
 /// chain ends.
@@ -43,6 +47,83 @@ impl PlainEngine {
         ensures { result ≡ self.words }
     {
         self.words
+    }
+
+    /// The engine that runs on a start. Only want of memory refuses it.
+    pub fn new(alloc: Global, start: Start) -> Result<PlainEngine, AllocError>
+        ensures words { IfOk result (λ engine. engine.words ≡ start.words) }
+        ensures geometry { IfOk result (λ engine. engine.geometry ≡ start.geometry) }
+        ensures position { IfOk result (λ engine. engine.position ≡ start.position) }
+    {
+        let geometry = *start.geometry();
+        let position = start.position();
+        let read = read_chain(alloc, start.words(), geometry)?;
+        let (words, taken) = start.into_parts();
+        Ok(PlainEngine {
+            geometry,
+            words,
+            taken,
+            table: read.table,
+            position,
+            tail_block: read.tail_block,
+            tail_slot: read.tail_slot,
+            first_clear: 1,
+        })
+    }
+
+    /// The position of the file.
+    pub fn position(&self) -> u64
+        ensures { result ≡ self.now.position }
+    {
+        self.position
+    }
+
+    /// Bytes of the file.
+    pub fn size(&self) -> u64
+        ensures { result ≡ self.now.table.size }
+    {
+        self.table.size()
+    }
+
+    /// The byte at a place of the file, or 0 past its end.
+    fn byte(&self, place: u64) -> u8
+        ensures { (chain file : List ℕ) → Running self.now chain file → result ≡ slice_index file place }
+    {
+        let block_bytes = u64::from(self.geometry.block_bytes());
+        let virt = place / block_bytes;
+        if virt >= 65536 {
+            return 0;
+        }
+        match self.table.block(virt as u16) {
+            Some(block) => self.byte_in(block, (place % block_bytes) as usize),
+            None => 0,
+        }
+    }
+
+    /// A byte of a block.
+    fn byte_in(&self, block: u16, at: usize) -> u8
+        requires inside { block < total (shape_in self.now) }
+        requires small { at < self.now.geometry.block_bytes }
+        ensures { result ≡ slice_index (block_content self.now.words.items (shape_in self.now) block) at }
+    {
+        let first = block as usize * self.geometry.q() as usize;
+        let mut lowest_first = [0u8; 8];
+        LittleEndian::write_u64(&mut lowest_first, self.words[first + at / 8]);
+        lowest_first[at % 8]
+    }
+
+    /// The bytes of the file from an offset on, at most so many and none past the end.
+    fn read(&self, alloc: Global, offset: u64, count: u64) -> Result<Vec<u8>, AllocError>
+        ensures { IfOk result (λ bytes. (chain file : List ℕ) → Running self.now chain file → bytes.items ≡ read file offset count) }
+    {
+        let size = self.table.size();
+        let start = offset.min(size);
+        let count = count.min(size - start);
+        let mut bytes = Vec::with_capacity(alloc, count as usize)?;
+        for k in 0..count {
+            bytes.push(self.byte(start + k))?;
+        }
+        Ok(bytes)
     }
 
     /// Stores the new content of clear data blocks, which is the present content of the run's virtual blocks with bytes laid over it.
