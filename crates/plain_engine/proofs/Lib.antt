@@ -12,3 +12,5 @@ pub mod SpaceLemmas
 pub mod WriteSteps
 pub mod ReadLemmas
 pub mod StartLemmas
+pub mod ServeLemmas
+pub mod ReplayLemmas

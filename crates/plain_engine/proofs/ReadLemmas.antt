@@ -2,8 +2,9 @@
 use Rattle.std.proofs.Common.{◌≡◌, ◌≢◌, ◌<◌, ◌≤◌, ◌+◌, ◌-◌, ◌*◌, ◌/◌, ◌%◌, ◌==◌, ◌&&◌, ◌||◌, ◌⊎◌, inl, inr, min, ℕ, zero, suc, Bool, true, false, List, [], ◌∷◌, ◌++◌, length, get_or, take, drop, map, nat_le, nat_lt, Option, Some, None, IsTrue, if◌then◌else◌, refl, sym, ap, ◌∙◌, subst, arith, length-take, length-drop}
 use Rattle.std.specs.List.{list_all, flat_map}
 use Rattle.std.specs.Option.{option_or}
-use Rattle.std.proofs.lemmas.Bool.{leb-true}
-use Rattle.std.proofs.lemmas.List.{ext_get_or, get_or-take, get_or-drop}
+use Rattle.std.proofs.lemmas.Bool.{leb-true, cases_lt}
+use Rattle.std.proofs.Math.ListN.{get_or-append}
+use Rattle.std.proofs.lemmas.List.{ext_get_or, get_or-take, get_or-drop, get_or-append-add}
 use Rattle.std.proofs.Math.Nat.{mod-lt}
 use Rattle.std.proofs.lemmas.Nat.{div-add-mod'}
 use Rattle.log_entry.specs.ByteFile.{read}
@@ -114,3 +115,14 @@ past_at shape words taken table position tail_block tail_slot first_clear chain 
 -- a block of an allowed shape has some bytes
 pub some_bytes : (bytes : ℕ) → IsTrue (is_block_bytes bytes) → 0 < bytes
 some_bytes bytes allowed = grind (arith, nat_tests, allowed)
+
+-- one byte more
+pub read_more : (file bytes : List ℕ) (start k byte : ℕ) → length bytes ≡ k → ((at : ℕ) → at < k → get_or bytes at 0 ≡ get_or file (start + at) 0) → byte ≡ get_or file (start + k) 0 → (at : ℕ) → at < k + 1 → get_or (bytes ++ byte ∷ []) at 0 ≡ get_or file (start + at) 0
+read_more file bytes start k byte long same is at inside = go (cases_lt at k)
+  where
+    go : (at < k) ⊎ (k ≤ at) → get_or (bytes ++ byte ∷ []) at 0 ≡ get_or file (start + at) 0
+    go (inl before) = get_or-append bytes (byte ∷ []) 0 at (omega (arith, long, before)) ∙ same at before
+    go (inr past) =
+        let place : at ≡ length bytes + 0 = omega (arith, long, inside, past) in
+        let last : k ≡ at = omega (arith, inside, past) in
+        ap (λ (n : ℕ). get_or (bytes ++ byte ∷ []) n 0) place ∙ get_or-append-add bytes (byte ∷ []) 0 0 ∙ is ∙ ap (λ (n : ℕ). get_or file (start + n) 0) last

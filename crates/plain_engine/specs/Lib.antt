@@ -4,3 +4,5 @@ pub mod Running
 pub mod Space
 pub mod Engine
 pub mod Fresh
+pub mod Serving
+pub mod Replaying

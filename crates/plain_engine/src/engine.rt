@@ -4,7 +4,7 @@ ghost use Rattle.std.specs.Prelude.{◌≡◌, ◌≢◌, ℕ, ◌+◌, ◌-◌,
 ghost use Rattle.block_table.specs.FileMap.{block_at};
 ghost use Rattle.block_table.specs.declared.TheConstants.{VIRTUAL_BLOCKS};
 ghost use Rattle.log_entry.specs.Shape.{longest_of, limit_of};
-ghost use Rattle.log_entry.specs.Legal.{touched_blocks};
+ghost use Rattle.log_entry.specs.Legal.{touched_blocks, write_refusal};
 ghost use Rattle.log_entry.specs.ByteFile.{read};
 ghost use Rattle.log_image.specs.Image.{words_in, total, block_content};
 ghost use Rattle.chain_reader.specs.Tables.{shape_by};
@@ -18,9 +18,12 @@ use crate::stores::store_run;
 use block_table::{MapRun, Table};
 use byteorder::{ByteOrder, LittleEndian};
 use chain_reader::{read_chain, take_in};
-use log_entry::{Area, Entry, Geometry, encode};
+use log_entry::{Area, Blob, CollectRefusal, Entry, Geometry, Op, Reply, WriteRefusal, encode};
 use log_image::Start;
 use std::alloc::{AllocError, Global};
+
+/// The greatest position that a file may have: so many writes since it was made.
+const LAST_POSITION: u64 = (1 << 40) - 1;
 
 /// An image that one caller runs on: its words, the bitmap of its taken blocks, the table of its map and size, and where its
 /// chain ends.
@@ -40,6 +43,7 @@ pub struct PlainEngine {
 impl PlainEngine {
     ghost use Rattle.log_image.specs.Stands.{StandsBy};
     ghost use Rattle.image_steps.specs.Steps.{IsEntryOf, fits_log};
+    ghost use Rattle.plain_engine.specs.Serving.{Serves};
     ghost use Rattle.plain_engine.specs.Engine.{shape_in, Running, SameBesideWords, SameNames, HasSlot, LacksSlot, SameBesideTail, run_word, Writes};
 
     /// The words of the image.
@@ -234,6 +238,77 @@ impl PlainEngine {
         let end = (virt + count) * u64::from(block_bytes);
         self.commit(run, (end - (offset + bytes.len() as u64)) as u16);
         None
+    }
+
+    /// Why a write of at least one byte that touches so many blocks and ends there is refused whatever is free, if it is.
+    fn refusal(&self, blocks: u64, end: u128) -> Option<WriteRefusal>
+        ensures { result ≡ write_refusal self.now.geometry.block_bytes self.now.position blocks end }
+    {
+        if blocks > u64::from(self.geometry.longest()) {
+            Some(WriteRefusal::TooLong { blocks })
+        } else if end > u128::from(self.geometry.limit()) {
+            Some(WriteRefusal::TooLarge { end })
+        } else if self.position == LAST_POSITION {
+            Some(WriteRefusal::PositionLimit)
+        } else {
+            None
+        }
+    }
+
+    fn pwrite(&mut self, offset: u64, bytes: &Blob) -> Reply
+        ensures { (chain file : List ℕ) → Running self.old chain file → Serves self.old self.new chain file (Op.Pwrite offset bytes.now) result }
+    {
+        let bytes = bytes.bytes();
+        let length = bytes.len() as u64;
+        if bytes.is_empty() {
+            return Reply::Wrote { length };
+        }
+        let blocks = touched(self.geometry.block_bytes(), offset, bytes.len());
+        if let Some(why) = self.refusal(blocks, u128::from(offset) + u128::from(length)) {
+            return Reply::NotWritten(why);
+        }
+        match self.write(offset, bytes) {
+            None => Reply::Wrote { length },
+            Some(area) => Reply::NotWritten(WriteRefusal::NoSpace { area }),
+        }
+    }
+
+    fn append(&mut self, bytes: &Blob) -> Reply
+        ensures { (chain file : List ℕ) → Running self.old chain file → Serves self.old self.new chain file (Op.Append bytes.now) result }
+    {
+        let bytes = bytes.bytes();
+        let length = bytes.len() as u64;
+        let at = self.size();
+        if bytes.is_empty() {
+            return Reply::Appended { at, length };
+        }
+        let block = u64::from(self.geometry.block_bytes());
+        let blocks = (length + 2 * block - 2) / block;
+        if let Some(why) = self.refusal(blocks, u128::from(at) + u128::from(length)) {
+            return Reply::NotWritten(why);
+        }
+        match self.write(at, bytes) {
+            None => Reply::Appended { at, length },
+            Some(area) => Reply::NotWritten(WriteRefusal::NoSpace { area }),
+        }
+    }
+
+    /// The reply to a call. Only want of memory refuses it, and leaves the engine as it was. There is no collector yet: a collection
+    /// finds nothing to give back.
+    pub fn answer(&mut self, alloc: Global, op: &Op) -> Result<Reply, AllocError>
+        ensures { IfOk result (λ reply. (chain file : List ℕ) → Running self.old chain file → Serves self.old self.new chain file op.now reply) }
+    {
+        match op {
+            Op::Pwrite { offset, bytes } => Ok(self.pwrite(*offset, bytes)),
+            Op::Append { bytes } => Ok(self.append(bytes)),
+            Op::Pread { offset, length } => {
+                let bytes = self.read(alloc, *offset, *length)?;
+                Ok(Reply::Bytes(Blob::new(bytes)))
+            }
+            Op::Size => Ok(Reply::Size(self.size())),
+            Op::Sync => Ok(Reply::Synced(self.position)),
+            Op::Collect => Ok(Reply::NotCollected(CollectRefusal::Nothing)),
+        }
     }
 }
 

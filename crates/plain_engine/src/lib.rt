@@ -4,6 +4,8 @@
 pub mod bitmap;
 pub mod engine;
 mod fresh;
+pub mod replays;
 pub mod stores;
 
 pub use engine::PlainEngine;
+pub use replays::replay_all;

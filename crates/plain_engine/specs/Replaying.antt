@@ -1,0 +1,29 @@
+-- The history of some calls on an engine.
+use Rattle.std.specs.Prelude.{ℕ, ◌≡◌, ◌+◌, List, [], ◌∷◌}
+use Rattle.log_entry.specs.Legal.{Legal, last_file, last_position_of}
+use Rattle.log_entry.specs.OfTrace.{OfTrace}
+use Rattle.log_entry.specs.Order.{IsInOrder}
+use Rattle.log_entry.specs.declared.calls.Call.{Call}
+use Rattle.log_entry.specs.declared.calls.Job.{Job}
+use Rattle.plain_engine.specs.Engine.{Running}
+use Rattle.plain_engine.specs.declared.engine.PlainEngine.{PlainEngine}
+
+-- the jobs are one seat's, numbered in turn from this number on
+abbrev pub AreNumbered : ℕ → ℕ → List Job → Type 0
+AreNumbered seat number [] = Unit {0}
+AreNumbered seat number (job ∷ jobs) = (job.seat ≡ seat) × (job.number ≡ number) × AreNumbered seat (number + 1) jobs
+
+-- the jobs are those of seat 0, from its first call on
+abbrev pub AreOneSeat : List Job → Type 0
+AreOneSeat jobs = AreNumbered 0 1 jobs
+
+-- the calls are the jobs', each once, in one legal history that starts from the file and the position that the engine had, in the
+-- order of a report; the engine then runs on the history's last file, at its last position
+pub record Replays (old new : PlainEngine) (file : List ℕ) (jobs : List Job) (calls : List Call) : Type 0 where
+  pub of_trace : OfTrace calls jobs
+  pub legal : Legal old.geometry.block_bytes file old.position calls
+  pub in_order : IsInOrder calls
+  pub geometry : new.geometry ≡ old.geometry
+  pub position : new.position ≡ last_position_of old.position calls
+  pub longer : List ℕ
+  pub runs : Running new longer (last_file file calls)
