@@ -14,3 +14,4 @@ pub mod ReadLemmas
 pub mod StartLemmas
 pub mod ServeLemmas
 pub mod ReplayLemmas
+pub mod OpenLemmas

@@ -58,6 +58,7 @@ impl PlainEngine {
         ensures words { IfOk result (λ engine. engine.words ≡ start.words) }
         ensures geometry { IfOk result (λ engine. engine.geometry ≡ start.geometry) }
         ensures position { IfOk result (λ engine. engine.position ≡ start.position) }
+        ensures runs { IfOk result (λ engine. (chain file : List ℕ) (position : ℕ) → StandsBy start.words.items chain file position → (position ≡ engine.position) × Running engine chain file) }
     {
         let geometry = *start.geometry();
         let position = start.position();

@@ -7,5 +7,8 @@ mod fresh;
 pub mod replays;
 pub mod stores;
 
+#[cfg(test)]
+mod tests;
+
 pub use engine::PlainEngine;
 pub use replays::replay_all;
