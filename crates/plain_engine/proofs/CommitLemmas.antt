@@ -9,7 +9,7 @@ use Rattle.log_entry.specs.Shape.{longest_of}
 use Rattle.log_entry.specs.Words.{entry_word, entry_unnamed}
 use Rattle.log_entry.specs.declared.entries.Entry.TheVariants.{Direct}
 use Rattle.log_entry.specs.declared.layouts.TheConstants.{ENTRY_KIND, DIRECT_VIRT, DIRECT_BLOCK, DIRECT_COUNT, DIRECT_LEFTOVER, DIRECT_UNNAMED}
-use Rattle.log_image.specs.Image.{Shape, words_in, total}
+use Rattle.log_image.specs.Image.{Shape, words_in, total, is_in_log}
 use Rattle.log_image.specs.Entries.{Meaning, direct_meaning, meaning}
 use Rattle.log_image.specs.Maps.{end_of, size_after}
 use Rattle.log_image.specs.Positions.{entries_of}
@@ -17,6 +17,8 @@ use Rattle.log_image.specs.Format.{is_direct, is_log_entry, fits}
 use Rattle.log_image.specs.Taken.{bit_of, is_taken}
 use Rattle.image_steps.specs.Steps.{IsEntryOf, fits_log}
 use Rattle.image_steps.proofs.NameLemmas.{is_in}
+use Rattle.image_steps.proofs.SetWordLemmas.{past_header}
+use Rattle.std.proofs.lemmas.List.{get_or-set_other}
 use Rattle.image_steps.proofs.EntrySteps.{direct_entries}
 use Rattle.chain_reader.specs.Tables.{HasMap, HasSize}
 use Rattle.plain_engine.specs.Running.{Runs, RunsOnSome, AllTakenBefore}
@@ -111,3 +113,9 @@ commit_by shape words seen taken seen_taken marked table new_table position tail
 -- a slot of the tail is inside the image
 pub slot_place : (tail_block tail_slot size small whole : ℕ) → size ≡ small → tail_slot ≤ small → tail_slot ≢ small → tail_block * small + small ≤ whole → tail_block * size + tail_slot < whole
 slot_place tail_block tail_slot size small whole same inside other room = omega (arith, ap (λ (n : ℕ). tail_block * n) same, inside, other, room)
+
+-- the head's word is not one of the tail's
+pub commit_head : (shape : Shape) (words : List ℕ) (tail_block tail_slot size word : ℕ) → 4 ≤ words_in shape → size ≡ words_in shape → is_in_log shape tail_block ≡ true → get_or (set words (tail_block * size + tail_slot) word) 3 0 ≡ get_or words 3 0
+commit_head shape words tail_block tail_slot size word long is_size area =
+    let far : 4 ≤ tail_block * words_in shape = past_header shape tail_block long area in
+    get_or-set_other words (tail_block * size + tail_slot) 3 word 0 (λ e. omega (arith, e, far, ap (λ (n : ℕ). tail_block * n) is_size))

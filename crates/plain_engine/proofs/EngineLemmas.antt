@@ -9,6 +9,7 @@ use Rattle.log_image.specs.Holes.{hole_of}
 use Rattle.log_image.specs.Taken.{bit_of, is_taken, HasTaken}
 use Rattle.log_image.proofs.HoldingLemmas.{both_left, both_right}
 use Rattle.image_steps.specs.Steps.{KeepsTaken, IsEntryOf}
+use Rattle.image_steps.proofs.StoreStep.{first_words}
 use Rattle.plain_engine.specs.Clear.{AllClear, AllTaken}
 use Rattle.plain_engine.specs.Running.{Fits, Runs, RunsOnSome}
 use Rattle.plain_engine.proofs.BoundsLemmas.{Bounds, bounds, data_inside}
@@ -68,3 +69,9 @@ stored_kept shape words seen new taken table position tail_block tail_slot first
   runs = store_at shape words new taken table position tail_block tail_slot first_clear some.chain some.file some.runs
       (keeps_by shape words seen new taken some.chain block count same some.runs.fits.bitmap inside clear long others);
 }
+
+-- the head's word is that of block 0
+pub stored_head : (shape : Shape) (words seen new : List ℕ) (block count : ℕ) → 4 ≤ words_in shape → seen ≡ words → 1 ≤ block → length new ≡ length seen →
+    ((other : ℕ) → (other < block) ⊎ (block + count ≤ other) → block_words new shape other ≡ block_words seen shape other) → get_or new 3 0 ≡ get_or words 3 0
+stored_head shape words seen new block count long same low same_long others =
+    (first_words shape seen new long same_long (others 0 (inl (omega (arith, low))))).each 3 (omega arith) ∙ ap (λ (l : List ℕ). get_or l 3 0) same

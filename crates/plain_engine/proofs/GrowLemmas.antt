@@ -4,7 +4,8 @@ use Rattle.std.specs.Prelude.{filter}
 use Rattle.std.specs.List.{range_with_len}
 use Rattle.std.proofs.lemmas.Bool.{cases_lt, eq-eqb, ne_eqb, eqb-true, eqb-false, lt-ltb, ltb-true, leb-true}
 use Rattle.std.proofs.lemmas.Bool.Decides.{nat_tests}
-use Rattle.std.proofs.lemmas.List.{get_or_past}
+use Rattle.std.proofs.lemmas.List.{get_or_past, get_or-set_other}
+use Rattle.image_steps.proofs.SetWordLemmas.{past_header}
 use Rattle.block_table.specs.FileMap.{FileMap}
 use Rattle.log_entry.specs.Fields.{field}
 use Rattle.log_entry.specs.Words.{block_word}
@@ -201,3 +202,11 @@ tail_place tail_block size small whole same long room = omega (arith, ap (λ (n 
 
 pub block_place : (next size small total whole : ℕ) → size ≡ small → next < total → whole ≡ total * small → next * size + size ≤ whole
 block_place next size small total whole same inside is = omega (arith, ap (λ (n : ℕ). next * n) same, same, is, block_inside small next total inside)
+
+-- the head's word is the same
+pub grow_head : (shape : Shape) (words new written taken : List ℕ) (position tail_block next size : ℕ) → Stored shape words new taken position next → written ≡ new → size ≡ words_in shape → is_in_log shape tail_block ≡ true → get_or (set written (tail_block * size) next) 3 0 ≡ get_or words 3 0
+grow_head shape words new written taken position tail_block next size is back is_size area =
+    let far : 4 ≤ tail_block * words_in shape = past_header shape tail_block (omega (arith, is.long)) area in
+    let also : 4 ≤ next * words_in shape = past_header shape next (omega (arith, is.long)) (in_log_area shape words new taken position next is) in
+    get_or-set_other written (tail_block * size) 3 next 0 (λ e. omega (arith, e, far, ap (λ (n : ℕ). tail_block * n) is_size))
+    ∙ ap (λ (l : List ℕ). get_or l 3 0) back ∙ is.others 3 (inl (omega (arith, also)))

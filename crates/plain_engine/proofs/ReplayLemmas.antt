@@ -6,6 +6,7 @@ use Rattle.log_entry.specs.declared.calls.Call.{Call}
 use Rattle.log_entry.specs.declared.calls.Job.{Job}
 use Rattle.log_entry.specs.declared.calls.Reply.{Reply}
 use Rattle.log_entry.proofs.HistoryLemmas.{Mirrors, Legal-push, last_file-push, last_position_of-push, AreOfOneSeat, OfTrace-Mirrors, IsInOrder-one_seat}
+use Rattle.log_image.specs.Header.{generation_of}
 use Rattle.plain_engine.specs.Engine.{Running}
 use Rattle.plain_engine.specs.Serving.{Serves}
 use Rattle.plain_engine.specs.Replaying.{AreNumbered, AreOneSeat, Replays}
@@ -16,12 +17,13 @@ pub record SoFar (before engine : PlainEngine) (file : List ℕ) (calls : List C
   pub geometry : engine.geometry ≡ before.geometry
   pub legal : Legal before.geometry.block_bytes file before.position calls
   pub position : engine.position ≡ last_position_of before.position calls
+  pub generation : generation_of engine.words.items ≡ generation_of before.words.items
   pub longer : List ℕ
   pub runs : Running engine longer (last_file file calls)
 
 -- no call yet
 pub SoFar-none : (engine : PlainEngine) (chain file : List ℕ) (calls : List Call) → calls ≡ [] → Running engine chain file → SoFar engine engine file calls
-SoFar-none engine chain file calls none runs = subst (λ (l : List Call). SoFar engine engine file l) (sym none) (record { geometry = refl; legal = tt; position = refl; longer = chain; runs = runs })
+SoFar-none engine chain file calls none runs = subst (λ (l : List Call). SoFar engine engine file l) (sym none) (record { geometry = refl; legal = tt; position = refl; generation = refl; longer = chain; runs = runs })
 
 -- the record of a job
 abbrev pub record_of : Job → ℕ → Reply → Call
@@ -40,6 +42,7 @@ SoFar-push before engine next file calls job reply position is far serving =
       geometry = serves.geometry ∙ far.geometry;
       legal = Legal-push before.geometry.block_bytes file before.position calls (record_of job position reply) far.legal answers (is ∙ after);
       position = after ∙ sym (last_position_of-push before.position calls (record_of job position reply));
+      generation = serves.generation ∙ far.generation;
       longer = serves.longer;
       runs = subst (λ (l : List ℕ). Running next serves.longer l) (sym (last_file-push file calls (record_of job position reply))) serves.runs;
     }
@@ -59,6 +62,7 @@ Replays-all before engine file jobs calls numbered mirrors far = record {
   in_order = IsInOrder-one_seat before.geometry.block_bytes file before.position 0 1 calls far.legal (one_seat 1 jobs calls numbered mirrors);
   geometry = far.geometry;
   position = far.position;
+  generation = far.generation;
   longer = far.longer;
   runs = far.runs;
 }

@@ -4,6 +4,8 @@ use Rattle.std.proofs.lemmas.Bool.{ltb-false, eqb-false, cases_lt}
 use Rattle.std.proofs.Math.Nat.{mul-add-div, mod-lt, mul-le-mul_right}
 use Rattle.std.proofs.lemmas.Nat.{div-add-mod'}
 use Rattle.log_entry.specs.ByteFile.{write}
+use Rattle.log_entry.specs.Fields.{field}
+use Rattle.log_entry.specs.declared.layouts.TheConstants.{HEAD_GENERATION}
 use Rattle.log_entry.specs.Shape.{longest_of, limit_of}
 use Rattle.log_entry.specs.Legal.{AnswersWrite, write_refusal, touched_blocks, appended_blocks, last_position, position_after, file_after}
 use Rattle.log_entry.specs.declared.shapes.Area.{Area}
@@ -77,6 +79,7 @@ serve_pwrite old new chain file offset (byte ∷ bytes) result some none is = re
   space = area_same result ∙ is.space ∙ ap (λ (o : Option WriteRefusal). lacking_for old.words.items (shape_in old) chain (unless_refused o (touched_blocks old.geometry.block_bytes offset (length (byte ∷ bytes))))) (sym none);
   geometry = is.geometry;
   position = is.position ∙ place result;
+  generation = ap (λ (w : ℕ). field HEAD_GENERATION w) is.head;
   longer = is.longer;
   runs = subst (λ (l : List ℕ). Running new is.longer l) (after result) is.runs;
 }
@@ -102,6 +105,7 @@ serve_append old new chain file at (byte ∷ bytes) result is_end some none is =
       ∙ ap (λ (o : Option WriteRefusal). lacking_for old.words.items (shape_in old) chain (unless_refused o (touched_blocks old.geometry.block_bytes (length file) (length (byte ∷ bytes))))) (sym none);
   geometry = is.geometry;
   position = is.position ∙ place result;
+  generation = ap (λ (w : ℕ). field HEAD_GENERATION w) is.head;
   longer = is.longer;
   runs = subst (λ (l : List ℕ). Running new is.longer l) (after result) is.runs;
 }
@@ -149,6 +153,7 @@ refuse_pwrite e chain file offset (byte ∷ bytes) why some is runs = record {
       ∙ ap (λ (o : Option WriteRefusal). lacking_for e.words.items (shape_in e) chain (unless_refused o (touched_blocks e.geometry.block_bytes offset (length (byte ∷ bytes))))) (sym is);
   geometry = refl;
   position = refl;
+  generation = refl;
   longer = chain;
   runs = runs;
 }
@@ -162,6 +167,7 @@ refuse_append e chain file (byte ∷ bytes) why some is runs = record {
       ∙ ap (λ (o : Option WriteRefusal). lacking_for e.words.items (shape_in e) chain (unless_refused o (touched_blocks e.geometry.block_bytes (length file) (length (byte ∷ bytes))))) (sym is);
   geometry = refl;
   position = refl;
+  generation = refl;
   longer = chain;
   runs = runs;
 }
@@ -174,6 +180,7 @@ append_nothing e chain file bytes at count none is_end zero_count runs =
       space = refl;
       geometry = refl;
       position = refl;
+      generation = refl;
       longer = chain;
       runs = subst (λ (m : List ℕ). Running e chain m) (sym (nothing_after file)) runs;
     })

@@ -26,7 +26,7 @@ abbrev pub Running : PlainEngine → List ℕ → List ℕ → Type 0
 Running engine chain file =
     Runs (shape_in engine) engine.words.items engine.taken.items engine.table engine.position engine.tail_block engine.tail_slot engine.first_clear chain file
 
--- all but the words is the same
+-- all but the words is the same, and so is the head's word
 pub record SameBesideWords (old new : PlainEngine) : Type 0 where
   pub geometry : new.geometry ≡ old.geometry
   pub taken : new.taken ≡ old.taken
@@ -35,6 +35,7 @@ pub record SameBesideWords (old new : PlainEngine) : Type 0 where
   pub tail_block : new.tail_block ≡ old.tail_block
   pub tail_slot : new.tail_slot ≡ old.tail_slot
   pub first_clear : new.first_clear ≡ old.first_clear
+  pub head : slice_index new.words.items 3 ≡ slice_index old.words.items 3
 
 -- the chain names the same blocks, and has the same hole
 pub record SameNames (old new : PlainEngine) (chain : List ℕ) : Type 0 where
@@ -60,6 +61,7 @@ pub record SameBesideTail (old new : PlainEngine) : Type 0 where
   pub table : new.table ≡ old.table
   pub position : new.position ≡ old.position
   pub first_clear : new.first_clear ≡ old.first_clear
+  pub head : slice_index new.words.items 3 ≡ slice_index old.words.items 3
   pub content : (block : ℕ) → is_in_data (shape_in old) block ≡ true → block_words new.words.items (shape_in old) block ≡ block_words old.words.items (shape_in old) block
   pub bits : (block : ℕ) → is_in_data (shape_in old) block ≡ true → bit_of new.taken.items block ≡ bit_of old.taken.items block
 
@@ -77,10 +79,11 @@ abbrev pub position_written : ℕ → Option Area → ℕ
 position_written position None = position + 1
 position_written position (Some area) = position
 
--- the engine runs on the file that the write makes, or found no space for it
+-- the engine runs on the file that the write makes, or found no space for it; the head's word is the same
 pub record Writes (old new : PlainEngine) (chain file : List ℕ) (offset : ℕ) (bytes : List ℕ) (result : Option Area) : Type 0 where
   pub space : result ≡ lacking old.words.items (shape_in old) chain (touched_blocks old.geometry.block_bytes offset (length bytes))
   pub geometry : new.geometry ≡ old.geometry
   pub position : new.position ≡ position_written old.position result
+  pub head : slice_index new.words.items 3 ≡ slice_index old.words.items 3
   pub longer : List ℕ
   pub runs : Running new longer (file_written file offset bytes result)

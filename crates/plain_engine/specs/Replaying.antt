@@ -5,6 +5,7 @@ use Rattle.log_entry.specs.OfTrace.{OfTrace}
 use Rattle.log_entry.specs.Order.{IsInOrder}
 use Rattle.log_entry.specs.declared.calls.Call.{Call}
 use Rattle.log_entry.specs.declared.calls.Job.{Job}
+use Rattle.log_image.specs.Header.{generation_of}
 use Rattle.plain_engine.specs.Engine.{Running}
 use Rattle.plain_engine.specs.declared.engine.PlainEngine.{PlainEngine}
 
@@ -25,5 +26,6 @@ pub record Replays (old new : PlainEngine) (file : List ℕ) (jobs : List Job) (
   pub in_order : IsInOrder calls
   pub geometry : new.geometry ≡ old.geometry
   pub position : new.position ≡ last_position_of old.position calls
+  pub generation : generation_of new.words.items ≡ generation_of old.words.items
   pub longer : List ℕ
   pub runs : Running new longer (last_file file calls)

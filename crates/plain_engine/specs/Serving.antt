@@ -9,6 +9,7 @@ use Rattle.log_entry.specs.declared.calls.WriteRefusal.TheVariants.{NoSpace}
 use Rattle.log_entry.specs.declared.calls.Reply.{Reply}
 use Rattle.log_entry.specs.declared.calls.Reply.TheVariants.{NotWritten}
 use Rattle.log_image.specs.Image.{Shape}
+use Rattle.log_image.specs.Header.{generation_of}
 use Rattle.plain_engine.specs.Space.{lacking}
 use Rattle.plain_engine.specs.Engine.{shape_in, Running}
 use Rattle.plain_engine.specs.declared.engine.PlainEngine.{PlainEngine}
@@ -45,5 +46,6 @@ pub record Serves (old new : PlainEngine) (chain file : List ℕ) (op : Op) (rep
   pub space : refused_area reply ≡ lacking_for old.words.items (shape_in old) chain (wanted_blocks old.geometry.block_bytes old.position file op)
   pub geometry : new.geometry ≡ old.geometry
   pub position : new.position ≡ position_after old.position op reply
+  pub generation : generation_of new.words.items ≡ generation_of old.words.items
   pub longer : List ℕ
   pub runs : Running new longer (file_after file op reply)

@@ -195,6 +195,7 @@ impl PlainEngine {
             Running self.new chain new_file }
         ensures geometry { self.new.geometry ≡ self.old.geometry }
         ensures position { self.new.position ≡ self.old.position + 1 }
+        ensures head { slice_index self.new.words.items 3 ≡ slice_index self.old.words.items 3 }
     {
         let word = encode(&Entry::Direct {
             virt: run.virt,

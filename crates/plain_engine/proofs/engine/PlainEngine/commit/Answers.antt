@@ -6,7 +6,7 @@ use Rattle.plain_engine.specs.Running.{Runs, RunsOnSome}
 use Rattle.plain_engine.specs.declared.engine.PlainEngine.{PlainEngine}
 use Rattle.plain_engine.proofs.BoundsLemmas.{Bounds, bounds}
 use Rattle.plain_engine.proofs.EngineLemmas.{lent_back}
-use Rattle.plain_engine.proofs.CommitLemmas.{entry_is, commit_by, slot_place}
+use Rattle.plain_engine.proofs.CommitLemmas.{entry_is, commit_by, commit_head, slot_place}
 use Rattle.plain_engine.proofs.engine.PlainEngine.commit.Goals as goal
 
 -- the bounds of an engine
@@ -49,3 +49,9 @@ returns-clause-runs c = λ chain file new_file runs entry.
     (commit_by (shape_by e.geometry) e.words.items c.deref.result.now e.taken.items c.deref_mut.result.now c.mark_run.new.taken e.table c.take_in.new.table e.position e.tail_block e.tail_slot e.first_clear chain file new_file
     c.encode-word.result c.args.run.virt c.args.run.block c.args.run.count c.args.leftover c.q-count.result runs c.requires.slot c.requires.room c.encode-word.ensures.small_blocks.0 c.encode-word.ensures.small_blocks.1 c.requires.some c.requires.few c.requires.left
     c.encode-word.ensures.same c.requires.fitting entry c.q-count.ensures c.deref.ensures.value c.deref_mut.ensures.value c.mark_run.auto.taken c.mark_run.ensures c.take_in.ensures.map c.take_in.ensures.size (c.requires.least chain file runs))
+
+pub returns-clause-head : goal.returns-clause-head
+returns-clause-head c =
+    let e = c.args.self.now in
+    let b = in_bounds c.args.self.now in
+    commit_head (shape_by e.geometry) e.words.items e.tail_block e.tail_slot c.q-count.result c.encode-word.result (omega (arith, b.long)) c.q-count.ensures b.tail_area

@@ -37,6 +37,7 @@ returns-in_default c = λ chain file runs.
           (subst (λ (n : ℕ). (block : ℕ) → IsLeastRun c.deref.result.now e.first_clear n c.touched-count.result block → ⊥) c.first-end.ensures c.in_default.ensures))));
       geometry = refl;
       position = refl;
+      head = refl;
       longer = chain;
       runs = runs;
     }
@@ -61,6 +62,7 @@ returns-then-not-make_slot c = λ chain file runs.
       space = lacking_log e.words.items (shape_by e.geometry) chain (touched_blocks e.geometry.block_bytes c.args.offset (length c.args.bytes.now)) enough (log_lack e c.store.new.self chain c.store.ensures.same (c.store.ensures.names chain file runs) true none.lacking);
       geometry = c.make_slot.ensures.same.geometry ∙ c.store.ensures.same.geometry;
       position = c.make_slot.ensures.same.position ∙ c.store.ensures.same.position;
+      head = c.make_slot.ensures.same.head ∙ c.store.ensures.same.head;
       longer = chain;
       runs = none.runs;
     }
@@ -164,6 +166,7 @@ returns c = λ chain file runs.
       space = lacking_none e.words.items (shape_by e.geometry) chain (touched_blocks e.geometry.block_bytes c.args.offset (length c.args.bytes.now)) enough (log_lack e c.store.new.self chain c.store.ensures.same (c.store.ensures.names chain file runs) false slot.enough);
       geometry = c.commit.ensures.geometry ∙ c.make_slot.ensures.same.geometry ∙ c.store.ensures.same.geometry;
       position = c.commit.ensures.position ∙ ap (λ (n : ℕ). n + 1) (c.make_slot.ensures.same.position ∙ c.store.ensures.same.position);
+      head = c.commit.ensures.head ∙ c.make_slot.ensures.same.head ∙ c.store.ensures.same.head;
       longer = slot.longer;
       runs = c.commit.ensures.runs slot.longer file (write file c.args.offset c.args.bytes.now) slot.runs (way_entry e c.store.new.self c.make_slot.new.self (c.args.offset / c.from.result) c.in-Some.block c.touched-count.result ((c.args.offset / c.from.result + c.touched-count.result) * c.from-2.result - (c.args.offset + length c.args.bytes.now)) c.args.offset c.args.bytes.now way slot.longer file slot.runs);
     }
