@@ -26,7 +26,9 @@ use Rattle.image_steps.proofs.ChainSteps.{log_entry_words}
 use Rattle.image_steps.proofs.EntrySteps.{kept_in}
 use Rattle.image_steps.proofs.NameLemmas.{all_good}
 use Rattle.log_image.proofs.ClearedChains.{both}
-use Rattle.plain_engine.specs.Bytes.{present_byte}
+use Rattle.plain_engine.specs.Bytes.{byte_of, present_byte}
+use Rattle.plain_engine.proofs.WordLemmas.{byte_of_zero}
+use Rattle.plain_engine.proofs.StoreLemmas.{byte_in}
 use Rattle.plain_engine.specs.Running.{Fits, Runs}
 use Rattle.plain_engine.proofs.WriteLemmas.{present_is}
 use Rattle.std.proofs.lemmas.Bool.Decides.{nat_tests}
@@ -126,3 +128,59 @@ read_more file bytes start k byte long same is at inside = go (cases_lt at k)
         let place : at ≡ length bytes + 0 = omega (arith, long, inside, past) in
         let last : k ≡ at = omega (arith, inside, past) in
         ap (λ (n : ℕ). get_or (bytes ++ byte ∷ []) n 0) place ∙ get_or-append-add bytes (byte ∷ []) 0 0 ∙ is ∙ ap (λ (n : ℕ). get_or file (start + n) 0) last
+
+-- a word by its block
+pub word_present : (shape : Shape) (words taken : List ℕ) (table : FileMap) (position tail_block tail_slot first_clear : ℕ) (chain file : List ℕ) → Runs shape words taken table position tail_block tail_slot first_clear chain file → shape.block_bytes ≡ 8 * words_in shape → 0 < words_in shape →
+    (index count block k : ℕ) → count ≡ words_in shape → block_at table (index / count) ≡ Some block → block * words_in shape + words_in shape ≤ length words → k < 8 → byte_of (get_or words (block * count + index % count) 0) k ≡ get_or file (8 * index + k) 0
+word_present shape words taken table position tail_block tail_slot first_clear chain file runs eight some index count block k is_count is whole small =
+    subst (λ (n : ℕ). byte_of (get_or words (block * n + index % n) 0) k ≡ get_or file (8 * index + k) 0) (sym is_count) here
+  where
+    at : ℕ
+    at = 8 * (index % words_in shape) + k
+    inside : 8 * (index % words_in shape) + k < shape.block_bytes
+    inside = omega (arith, eight, mod-lt index some, small)
+    place : index / words_in shape * shape.block_bytes + (8 * (index % words_in shape) + k) ≡ 8 * index + k
+    place = omega (arith, ap (λ (n : ℕ). index / words_in shape * n) eight, div-add-mod' index (words_in shape))
+    here : byte_of (get_or words (block * words_in shape + index % words_in shape) 0) k ≡ get_or file (8 * index + k) 0
+    here =
+        let quotient : (8 * (index % words_in shape) + k) / 8 ≡ index % words_in shape = omega (arith, small) in
+        let rest : (8 * (index % words_in shape) + k) % 8 ≡ k = omega (arith, small) in
+        let found : present_byte words shape (block_at table (index / words_in shape)) (8 * (index % words_in shape) + k) ≡ get_or file (index / words_in shape * shape.block_bytes + (8 * (index % words_in shape) + k)) 0 =
+        present_is words shape chain file table (subst (λ (s : Shape). HoldsFile words s (entries_of words s chain) file) runs.fits.same_shape runs.stands.stands.holds) runs.fits.map.each (index / words_in shape) (8 * (index % words_in shape) + k) inside in
+        let held : present_byte words shape (Some block) (8 * (index % words_in shape) + k) ≡ get_or file (index / words_in shape * shape.block_bytes + (8 * (index % words_in shape) + k)) 0 =
+        subst (λ (o : Option ℕ). present_byte words shape o (8 * (index % words_in shape) + k) ≡ get_or file (index / words_in shape * shape.block_bytes + (8 * (index % words_in shape) + k)) 0) (subst (λ (n : ℕ). block_at table (index / n) ≡ Some block) is_count is) found in
+        sym (byte_in words shape block (8 * (index % words_in shape) + k) eight whole inside ∙ ap (λ (n : ℕ). byte_of (get_or words (block * words_in shape + n) 0) ((8 * (index % words_in shape) + k) % 8)) quotient
+        ∙ ap (λ (n : ℕ). byte_of (get_or words (block * words_in shape + index % words_in shape) 0) n) rest) ∙ held ∙ ap (λ (n : ℕ). get_or file n 0) place
+
+-- a word that no block holds
+pub word_absent : (shape : Shape) (words taken : List ℕ) (table : FileMap) (position tail_block tail_slot first_clear : ℕ) (chain file : List ℕ) → Runs shape words taken table position tail_block tail_slot first_clear chain file → shape.block_bytes ≡ 8 * words_in shape → 0 < words_in shape →
+    (index count k : ℕ) → count ≡ words_in shape → (65536 ≤ index / count) ⊎ (block_at table (index / count) ≡ None) → k < 8 → byte_of 0 k ≡ get_or file (8 * index + k) 0
+word_absent shape words taken table position tail_block tail_slot first_clear chain file runs eight some index count k is_count none small =
+    byte_of_zero k ∙ sym (ap (λ (n : ℕ). get_or file n 0) (sym place) ∙ go (subst (λ (n : ℕ). (65536 ≤ index / n) ⊎ (block_at table (index / n) ≡ None)) is_count none))
+  where
+    inside : 8 * (index % words_in shape) + k < shape.block_bytes
+    inside = omega (arith, eight, mod-lt index some, small)
+    place : index / words_in shape * shape.block_bytes + (8 * (index % words_in shape) + k) ≡ 8 * index + k
+    place = omega (arith, ap (λ (n : ℕ). index / words_in shape * n) eight, div-add-mod' index (words_in shape))
+    holds : HoldsFile words shape (entries_of words shape chain) file
+    holds = subst (λ (s : Shape). HoldsFile words s (entries_of words s chain) file) runs.fits.same_shape runs.stands.stands.holds
+    go : (65536 ≤ index / words_in shape) ⊎ (block_at table (index / words_in shape) ≡ None) → get_or file (index / words_in shape * shape.block_bytes + (8 * (index % words_in shape) + k)) 0 ≡ 0
+    go (inl past) = past_blocks words shape chain file (index / words_in shape) (8 * (index % words_in shape) + k) (subst (λ (s : Shape). HasFormat words s chain) runs.fits.same_shape runs.stands.stands.format) holds past inside
+    go (inr free) = holds.unmapped (index / words_in shape) (sym (runs.fits.map.each (index / words_in shape)) ∙ free) (8 * (index % words_in shape) + k) inside
+
+-- some bytes of a word more
+pub read_word : (file bytes buffer piece : List ℕ) (start place from upto word : ℕ) → length bytes ≡ place - start → start ≤ place → ((at : ℕ) → at < place - start → get_or bytes at 0 ≡ get_or file (start + at) 0) →
+    from ≡ place % 8 → from + upto ≤ 8 → piece ≡ take upto (drop from buffer) → length piece ≡ upto → ((k : ℕ) → k < 8 → get_or buffer k 0 ≡ get_or file (8 * (place / 8) + k) 0) → (at : ℕ) → at < place + upto - start → get_or (bytes ++ piece) at 0 ≡ get_or file (start + at) 0
+read_word file bytes buffer piece start place from upto word long low same is_from short is_piece piece_long held at inside = go (cases_lt at (place - start))
+  where
+    go : (at < place - start) ⊎ (place - start ≤ at) → get_or (bytes ++ piece) at 0 ≡ get_or file (start + at) 0
+    go (inl before) = get_or-append bytes piece 0 at (omega (arith, long, before)) ∙ same at before
+    go (inr past) =
+        let whole : at ≡ length bytes + (at - (place - start)) = omega (arith, long, past) in
+        let spot : 8 * (place / 8) + (from + (at - (place - start))) ≡ start + at = omega (arith, is_from, past, low, div-add-mod' place 8) in
+        ap (λ (n : ℕ). get_or (bytes ++ piece) n 0) whole ∙ get_or-append-add bytes piece (at - (place - start)) 0
+        ∙ ap (λ (l : List ℕ). get_or l (at - (place - start)) 0) is_piece
+        ∙ get_or-take upto (drop from buffer) (at - (place - start)) 0 (omega (arith, inside, past, low))
+        ∙ get_or-drop from buffer (at - (place - start)) 0
+        ∙ held (from + (at - (place - start))) (omega (arith, inside, past, low, short))
+        ∙ ap (λ (n : ℕ). get_or file n 0) spot

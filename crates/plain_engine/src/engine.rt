@@ -8,7 +8,7 @@ ghost use Rattle.log_entry.specs.Legal.{touched_blocks, write_refusal};
 ghost use Rattle.log_entry.specs.ByteFile.{read};
 ghost use Rattle.log_image.specs.Image.{words_in, total, block_content};
 ghost use Rattle.chain_reader.specs.Tables.{shape_by};
-ghost use Rattle.plain_engine.specs.Bytes.{laid_byte, present_byte};
+ghost use Rattle.plain_engine.specs.Bytes.{byte_of, laid_byte, present_byte};
 ghost use Rattle.plain_engine.specs.Clear.{AllClear};
 ghost use Rattle.plain_engine.specs.Running.{RunsOnSome, AllTakenBefore};
 
@@ -90,31 +90,19 @@ impl PlainEngine {
         self.table.size()
     }
 
-    /// The byte at a place of the file, or 0 past its end.
-    fn byte(&self, place: u64) -> u8
-        ensures { (chain file : List ℕ) → Running self.now chain file → result ≡ slice_index file place }
+    /// The word of the file's eight bytes from place `8 * index` on, with 0 past its end.
+    fn word(&self, index: u64) -> u64
+        ensures { (chain file : List ℕ) → Running self.now chain file → (k : ℕ) → k < 8 → byte_of result k ≡ slice_index file (8 * index + k) }
     {
-        let block_bytes = u64::from(self.geometry.block_bytes());
-        let virt = place / block_bytes;
+        let count = u64::from(self.geometry.q());
+        let virt = index / count;
         if virt >= 65536 {
             return 0;
         }
         match self.table.block(virt as u16) {
-            Some(block) => self.byte_in(block, (place % block_bytes) as usize),
+            Some(block) => self.words[block as usize * count as usize + (index % count) as usize],
             None => 0,
         }
-    }
-
-    /// A byte of a block.
-    fn byte_in(&self, block: u16, at: usize) -> u8
-        requires inside { block < total (shape_in self.now) }
-        requires small { at < self.now.geometry.block_bytes }
-        ensures { result ≡ slice_index (block_content self.now.words.items (shape_in self.now) block) at }
-    {
-        let first = block as usize * self.geometry.q() as usize;
-        let mut lowest_first = [0u8; 8];
-        LittleEndian::write_u64(&mut lowest_first, self.words[first + at / 8]);
-        lowest_first[at % 8]
     }
 
     /// The bytes of the file from an offset on, at most so many and none past the end.
@@ -125,8 +113,15 @@ impl PlainEngine {
         let start = offset.min(size);
         let count = count.min(size - start);
         let mut bytes = Vec::with_capacity(alloc, count as usize)?;
-        for k in 0..count {
-            bytes.push(self.byte(start + k))?;
+        let end = start + count;
+        let mut place = start;
+        while place < end {
+            let from = place % 8;
+            let upto = (8 - from).min(end - place);
+            let mut lowest_first = [0u8; 8];
+            LittleEndian::write_u64(&mut lowest_first, self.word(place / 8));
+            bytes.extend_from_slice(&lowest_first[from as usize..(from + upto) as usize])?;
+            place += upto;
         }
         Ok(bytes)
     }

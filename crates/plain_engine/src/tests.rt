@@ -64,11 +64,11 @@ fn calls_on_a_just_made_image(rt: HostRuntime) -> Result<(), Fail> {
     assert_eq!(rt; engine.position(), 2);
     assert_eq!(rt; engine.size(), 63);
     let words = engine.into_words();
-    assert_eq!(rt; words[15], 0xaa << 48);
-    assert_eq!(rt; words[16], 0xbb);
-    assert_eq!(rt; words[23], 0xaa << 48);
-    assert_eq!(rt; words[27], 4_398_046_773_249);
-    assert_eq!(rt; words[28], 277_076_930_723_841);
+    assert_eq!(rt; words.get(15).copied(), Some(0xaa << 48));
+    assert_eq!(rt; words.get(16).copied(), Some(0xbb));
+    assert_eq!(rt; words.get(23).copied(), Some(0xaa << 48));
+    assert_eq!(rt; words.get(27).copied(), Some(4_398_046_773_249));
+    assert_eq!(rt; words.get(28).copied(), Some(277_076_930_723_841));
     Ok(())
 }
 
