@@ -1,9 +1,9 @@
 -- A bit that is set in a bitmap.
-use Rattle.std.proofs.Common.{◌≡◌, ◌≢◌, ℕ, ◌+◌, ◌*◌, ◌/◌, ◌%◌, ◌^◌, ◌<◌, ◌==◌, Bool, true, false, List, length, get_or, set, max, if◌then◌else◌, refl, sym, ap, ◌∙◌, arith}
+use Rattle.std.proofs.Common.{◌≡◌, ◌≢◌, ℕ, ◌*◌, ◌/◌, ◌%◌, ◌^◌, ◌<◌, ◌==◌, Bool, true, false, List, length, get_or, set, if◌then◌else◌, refl, ap, arith}
 use Rattle.std.specs.Prelude.{bit_or}
 use Rattle.std.specs.Int.{bit_at}
 use Rattle.std.proofs.lemmas.Nat.Bits.{bit_at_or, bit_at-pow_same, bit_at-pow_other}
-use Rattle.std.proofs.lemmas.Bool.{eqb-true, eqb-false, eq-eqb, ne_eqb}
+use Rattle.std.proofs.lemmas.Bool.{eqb-true, eqb-false}
 use Rattle.std.proofs.lemmas.List.{get_or-set_same, get_or-set_other}
 use Rattle.std.proofs.Math.Nat.{mod-lt, div-add-mod}
 use Rattle.std.proofs.Math.Pow.{pow-lt}
@@ -18,6 +18,7 @@ bit_set taken block other inside = go (other == block) refl (other / 64 == block
   where
     word : ℕ
     word = get_or taken (block / 64) 0
+
     go : (same : Bool) → (other == block) ≡ same → (near : Bool) → (other / 64 == block / 64) ≡ near → bit_of (set taken (block / 64) (bit_or (get_or taken (block / 64) 0) (2 ^ (block % 64)))) other ≡ (if same then 1 else bit_of taken other)
     go true is near with_word =
         let one : other ≡ block = eqb-true other block is in

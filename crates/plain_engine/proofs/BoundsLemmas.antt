@@ -1,29 +1,27 @@
 -- What the numbers that an engine keeps are bounded by.
-use Rattle.std.proofs.Common.{◌≡◌, ◌≢◌, ◌<◌, ◌≤◌, ◌+◌, ◌*◌, ◌/◌, ◌==◌, ◌^◌, ◌⊎◌, inl, inr, ℕ, zero, suc, Bool, true, false, List, [], ◌∷◌, ◌++◌, length, Option, Some, None, not, if◌then◌else◌, refl, sym, ap, ◌∙◌, subst, arith, nat_le, length-drop}
+use Rattle.std.proofs.Common.{◌≡◌, ◌<◌, ◌≤◌, ◌+◌, ◌*◌, ◌/◌, ◌==◌, ◌^◌, ◌⊎◌, ℕ, zero, suc, Bool, true, false, List, [], ◌∷◌, ◌++◌, length, Some, if◌then◌else◌, refl, sym, ap, ◌∙◌, subst, arith, nat_le, length-drop}
 use Rattle.log_image.proofs.HoldingLemmas.{both_right}
 use Rattle.std.proofs.Math.Logic.{∥∥₁_elim}
 use Rattle.std.proofs.Math.Nat.{ℕ_set}
 use Rattle.std.proofs.Math.Bridge.{le_prop}
 use Rattle.std.proofs.Math.Bool.{Bool-set}
-use Rattle.std.proofs.lemmas.Bool.{eqb-true, eqb-false, eq-eqb, ne_eqb, ltb-true, leb-true}
+use Rattle.std.proofs.lemmas.Bool.{eqb-true, leb-true}
 use Rattle.block_table.specs.FileMap.{FileMap, block_at}
 use Rattle.log_image.specs.Image.{Shape, words_in, total, is_in_data, is_in_log, block_words}
 use Rattle.log_image.specs.Header.{shape_of}
 use Rattle.log_image.specs.Entries.{all_names}
-use Rattle.log_image.specs.Maps.{map_of}
 use Rattle.log_image.specs.Blocks.{slots_of, entry_words, is_closed}
 use Rattle.log_image.specs.Positions.{entries_of}
-use Rattle.log_image.specs.Stands.{StandsBy, StandsIn}
-use Rattle.log_image.specs.Holes.{Hole, AtSlot, AtLink, last_block, hole_in, hole_of}
-use Rattle.log_image.specs.Taken.{bit_of, is_taken}
+use Rattle.log_image.specs.Holes.{AtSlot, AtLink, last_block, hole_in}
+use Rattle.log_image.specs.Taken.{bit_of}
 use Rattle.log_image.proofs.ImageLemmas.{length_range, allowed_shape}
 use Rattle.log_image.proofs.MadeImages.{by_bytes}
 use Rattle.image_steps.proofs.HeaderSteps.{long_words}
 use Rattle.image_steps.proofs.NameLemmas.{is_in, test_in, names_in_data}
 use Rattle.image_steps.proofs.SlotLemmas.{hole_inside}
-use Rattle.image_steps.proofs.SetWordLemmas.{log_inside, tail_inside}
+use Rattle.image_steps.proofs.SetWordLemmas.{tail_inside}
 use Rattle.image_steps.proofs.TailLemmas.{split_chain, AtTail, at_tail, last_of, name_taken, map_in_names}
-use Rattle.plain_engine.specs.Running.{hole_at, Fits, Runs, RunsOnSome}
+use Rattle.plain_engine.specs.Running.{hole_at, Runs, RunsOnSome}
 
 -- the bounds
 pub record Bounds (shape : Shape) (words taken : List ℕ) (table : FileMap) (position tail_block tail_slot : ℕ) : Type 0 where

@@ -1,19 +1,18 @@
 -- The entry of a run of blocks.
-use Rattle.std.proofs.Common.{◌≡◌, ◌≢◌, ◌<◌, ◌≤◌, ◌+◌, ◌-◌, ◌*◌, ◌==◌, ◌&&◌, ◌||◌, ◌^◌, ◌⊎◌, inl, inr, max, ℕ, zero, suc, Bool, true, false, List, [], ◌∷◌, ◌++◌, length, get_or, set, not, nat_le, nat_lt, if◌then◌else◌, refl, sym, ap, ◌∙◌, subst, arith}
+use Rattle.std.proofs.Common.{◌≡◌, ◌≢◌, ◌<◌, ◌≤◌, ◌+◌, ◌*◌, ◌==◌, ◌&&◌, ◌||◌, ◌^◌, ◌⊎◌, inl, inr, max, ℕ, zero, suc, Bool, true, false, List, [], ◌∷◌, ◌++◌, length, get_or, set, nat_le, nat_lt, if◌then◌else◌, refl, sym, ap, ◌∙◌, subst, arith}
 use Rattle.std.specs.List.{range_with_len, list_all}
-use Rattle.std.proofs.lemmas.Bool.{cases_lt, le-leb, lt-ltb, eqb-true, eqb-false, eq-eqb}
+use Rattle.std.proofs.lemmas.Bool.{cases_lt, le-leb, lt-ltb}
 use Rattle.std.proofs.lemmas.Bool.Decides.{nat_tests}
 use Rattle.block_table.specs.FileMap.{FileMap}
-use Rattle.log_entry.specs.Fields.{field, placed}
-use Rattle.log_entry.specs.Shape.{longest_of}
-use Rattle.log_entry.specs.Words.{entry_word, entry_unnamed}
+use Rattle.log_entry.specs.Fields.{field}
+use Rattle.log_entry.specs.Words.{entry_word}
 use Rattle.log_entry.specs.declared.entries.Entry.TheVariants.{Direct}
 use Rattle.log_entry.specs.declared.layouts.TheConstants.{ENTRY_KIND, DIRECT_VIRT, DIRECT_BLOCK, DIRECT_COUNT, DIRECT_LEFTOVER, DIRECT_UNNAMED}
-use Rattle.log_image.specs.Image.{Shape, words_in, total, is_in_log}
+use Rattle.log_image.specs.Image.{Shape, words_in, is_in_log}
 use Rattle.log_image.specs.Entries.{Meaning, direct_meaning, meaning}
-use Rattle.log_image.specs.Maps.{end_of, size_after}
+use Rattle.log_image.specs.Maps.{end_of}
 use Rattle.log_image.specs.Positions.{entries_of}
-use Rattle.log_image.specs.Format.{is_direct, is_log_entry, fits}
+use Rattle.log_image.specs.Format.{is_log_entry}
 use Rattle.log_image.specs.Taken.{bit_of, is_taken}
 use Rattle.image_steps.specs.Steps.{IsEntryOf, fits_log}
 use Rattle.image_steps.proofs.NameLemmas.{is_in}
@@ -21,7 +20,7 @@ use Rattle.image_steps.proofs.SetWordLemmas.{past_header}
 use Rattle.std.proofs.lemmas.List.{get_or-set_other}
 use Rattle.image_steps.proofs.EntrySteps.{direct_entries}
 use Rattle.chain_reader.specs.Tables.{HasMap, HasSize}
-use Rattle.plain_engine.specs.Running.{Runs, RunsOnSome, AllTakenBefore}
+use Rattle.plain_engine.specs.Running.{Runs, AllTakenBefore}
 use Rattle.plain_engine.proofs.RunningSteps.{entry_put}
 
 -- the fields of the word of a direct entry

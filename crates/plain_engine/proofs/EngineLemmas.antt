@@ -1,19 +1,16 @@
 -- What the parts of a write do to an engine.
-use Rattle.std.proofs.Common.{◌≡◌, ◌≢◌, ◌<◌, ◌≤◌, ◌+◌, ◌-◌, ◌*◌, ◌==◌, ◌&&◌, ◌^◌, ◌⊎◌, inl, inr, ℕ, Bool, true, false, List, [], ◌∷◌, ◌++◌, length, get_or, take, drop, set, not, nat_le, nat_lt, Option, Some, None, if◌then◌else◌, refl, sym, ap, ◌∙◌, subst, arith}
+use Rattle.std.proofs.Common.{◌≡◌, ◌≢◌, ◌<◌, ◌≤◌, ◌+◌, ◌⊎◌, inl, inr, ℕ, Bool, true, false, List, ◌++◌, length, get_or, take, drop, Some, if◌then◌else◌, refl, sym, ap, ◌∙◌, arith}
 use Rattle.std.proofs.lemmas.Grind.{common_steps}
 use Rattle.std.proofs.lemmas.Bool.{cases_lt}
-use Rattle.std.proofs.Math.Logic.{∥∥₁_map}
 use Rattle.block_table.specs.FileMap.{FileMap, block_at}
-use Rattle.log_image.specs.Image.{Shape, words_in, total, is_in_data, is_in_log, block_words}
-use Rattle.log_image.specs.Holes.{hole_of}
+use Rattle.log_image.specs.Image.{Shape, words_in, total, block_words}
 use Rattle.log_image.specs.Taken.{bit_of, is_taken, HasTaken}
-use Rattle.log_image.proofs.HoldingLemmas.{both_left, both_right}
-use Rattle.image_steps.specs.Steps.{KeepsTaken, IsEntryOf}
+use Rattle.image_steps.specs.Steps.{KeepsTaken}
 use Rattle.image_steps.proofs.StoreStep.{first_words}
-use Rattle.plain_engine.specs.Clear.{AllClear, AllTaken}
-use Rattle.plain_engine.specs.Running.{Fits, Runs, RunsOnSome}
-use Rattle.plain_engine.proofs.BoundsLemmas.{Bounds, bounds, data_inside}
-use Rattle.plain_engine.proofs.RunningSteps.{store_at, store_names}
+use Rattle.plain_engine.specs.Clear.{AllClear}
+use Rattle.plain_engine.specs.Running.{RunsOnSome}
+use Rattle.plain_engine.proofs.BoundsLemmas.{Bounds, data_inside}
+use Rattle.plain_engine.proofs.RunningSteps.{store_at}
 
 -- what a slice of a vector leaves, where it has the vector's length
 pub lent_back : (new old : List ℕ) (n : ℕ) → length new ≡ length old → n ≡ length old → take n (new ++ drop (length new) old) ≡ new
@@ -44,6 +41,7 @@ keeps_by shape words seen new taken chain block count same has inside clear long
   where
     differ : (b : Bool) → b ≡ true → b ≡ false → ⊥
     differ b yes_b no_b = cc
+
     go : (other : ℕ) → is_taken words shape chain other ≡ true → (other < block) ⊎ (block ≤ other) → (other < block + count) ⊎ (block + count ≤ other) → block_words new shape other ≡ block_words words shape other
     go other is (inl before) last = others other (inl before) ∙ ap (λ (l : List ℕ). block_words l shape other) same
     go other is (inr after) (inr past) = others other (inr past) ∙ ap (λ (l : List ℕ). block_words l shape other) same

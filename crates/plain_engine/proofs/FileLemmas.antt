@@ -1,18 +1,16 @@
 -- A file after bytes are written, place by place, and the blocks that they touch.
-use Rattle.std.proofs.Common.{◌≡◌, ◌≢◌, ◌<◌, ◌≤◌, ◌+◌, ◌-◌, ◌*◌, ◌/◌, ◌%◌, ◌==◌, ◌&&◌, ◌⊎◌, inl, inr, max, min, ℕ, zero, suc, Bool, true, false, List, [], ◌∷◌, ◌++◌, length, get_or, take, drop, replicate, nat_le, nat_lt, Option, Some, None, if◌then◌else◌, refl, sym, ap, ◌∙◌, subst, arith, length-append, length-take, length-drop, append_assoc}
-use Rattle.std.specs.List.{slice_get, range_with_len}
+use Rattle.std.proofs.Common.{◌≡◌, ◌<◌, ◌≤◌, ◌+◌, ◌-◌, ◌*◌, ◌/◌, ◌%◌, ◌⊎◌, inl, inr, max, ℕ, List, [], ◌∷◌, ◌++◌, length, get_or, take, drop, replicate, nat_lt, if◌then◌else◌, refl, sym, ap, ◌∙◌, arith, length-append, length-take, length-drop}
 use Rattle.std.proofs.lemmas.Bool.{cases_lt, lt-ltb, le-ltb, le-leb}
 use Rattle.image_steps.proofs.StoreStep.{nothing_after}
-use Rattle.std.proofs.lemmas.List.{get_or-take, get_or-drop, get_or_past, get_or-append-add, length-replicate, drop_all}
-use Rattle.std.proofs.lemmas.List.FromFn.{length-range_with_len}
+use Rattle.std.proofs.lemmas.List.{get_or-take, get_or-drop, get_or-append-add, length-replicate, drop_all}
 use Rattle.std.proofs.Math.ListN.{get_or-append}
-use Rattle.std.proofs.Math.Nat.{mul-add-div, mod-lt, mul-le-mul_right}
+use Rattle.std.proofs.Math.Nat.{mod-lt, mul-le-mul_right}
 use Rattle.std.proofs.lemmas.Nat.{div-add-mod'}
-use Rattle.log_entry.specs.ByteFile.{write, lengthened, laid_over}
+use Rattle.log_entry.specs.ByteFile.{write, lengthened}
 use Rattle.log_entry.specs.Legal.{touched_blocks}
 use Rattle.log_image.proofs.HoldingLemmas.{zeros_after}
 use Rattle.plain_engine.specs.Bytes.{laid_byte}
-use Rattle.plain_engine.proofs.WordLemmas.{laid_inside, laid_outside}
+use Rattle.plain_engine.proofs.WordLemmas.{laid_outside}
 
 -- a place of three lists, one after another
 in_three : (front middle back : List ℕ) (place : ℕ) → get_or (front ++ middle ++ back) place 0 ≡ (if nat_lt place (length front) then get_or front place 0 else if nat_lt place (length front + length middle) then get_or middle (place - length front) 0 else get_or back (place - (length front + length middle)) 0)
@@ -20,6 +18,7 @@ in_three front middle back place = go (cases_lt place (length front)) (cases_lt 
   where
     after : (l m : List ℕ) (k : ℕ) → length l ≤ k → get_or (l ++ m) k 0 ≡ get_or m (k - length l) 0
     after l m k past = (let whole : length l + (k - length l) ≡ k = omega (arith, past) in ap (λ (n : ℕ). get_or (l ++ m) n 0) (sym whole) ∙ get_or-append-add l m (k - length l) 0)
+
     go : (place < length front) ⊎ (length front ≤ place) → (place < length front + length middle) ⊎ (length front + length middle ≤ place) → get_or (front ++ middle ++ back) place 0 ≡ (if nat_lt place (length front) then get_or front place 0 else if nat_lt place (length front + length middle) then get_or middle (place - length front) 0 else get_or back (place - (length front + length middle)) 0)
     go (inl before) second =
         rw (lt-ltb place (length front) before)
@@ -44,6 +43,7 @@ write_place file offset (byte ∷ bytes) place some =
   where
     front : length (take offset (lengthened file offset)) ≡ offset
     front = length-take offset (lengthened file offset) ∙ omega (arith, length_lengthened file offset)
+
     go : (place < offset) ⊎ (offset ≤ place) → (place < offset + length (byte ∷ bytes)) ⊎ (offset + length (byte ∷ bytes) ≤ place) →
         (if nat_lt place offset then get_or (take offset (lengthened file offset)) place 0 else if nat_lt place (offset + length (byte ∷ bytes)) then get_or (byte ∷ bytes) (place - offset) 0 else get_or (drop (offset + length (byte ∷ bytes)) (lengthened file offset)) (place - (offset + length (byte ∷ bytes))) 0)
         ≡ laid_byte offset (byte ∷ bytes) place (get_or file place 0)

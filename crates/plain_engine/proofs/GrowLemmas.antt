@@ -1,9 +1,8 @@
 -- A log block is linked to the tail.
-use Rattle.std.proofs.Common.{◌≡◌, ◌≢◌, ◌<◌, ◌≤◌, ◌+◌, ◌-◌, ◌*◌, ◌==◌, ◌&&◌, ◌^◌, ◌⊎◌, inl, inr, ℕ, zero, suc, Bool, true, false, List, [], ◌∷◌, ◌++◌, length, get_or, set, not, nat_le, nat_lt, if◌then◌else◌, refl, sym, ap, ◌∙◌, subst, arith}
+use Rattle.std.proofs.Common.{◌≡◌, ◌≢◌, ◌<◌, ◌≤◌, ◌+◌, ◌*◌, ◌==◌, ◌&&◌, ◌^◌, ◌⊎◌, inl, inr, ℕ, zero, suc, Bool, true, false, List, [], ◌∷◌, ◌++◌, length, get_or, set, not, if◌then◌else◌, refl, sym, ap, ◌∙◌, subst, arith}
 use Rattle.std.specs.Prelude.{filter}
 use Rattle.std.specs.List.{range_with_len}
-use Rattle.std.proofs.lemmas.Bool.{cases_lt, eq-eqb, ne_eqb, eqb-true, eqb-false, lt-ltb, ltb-true, leb-true}
-use Rattle.std.proofs.lemmas.Bool.Decides.{nat_tests}
+use Rattle.std.proofs.lemmas.Bool.{cases_lt, eq-eqb, ne_eqb, lt-ltb}
 use Rattle.std.proofs.lemmas.List.{get_or_past, get_or-set_other}
 use Rattle.image_steps.proofs.SetWordLemmas.{past_header}
 use Rattle.block_table.specs.FileMap.{FileMap}
@@ -12,21 +11,19 @@ use Rattle.log_entry.specs.Words.{block_word}
 use Rattle.log_entry.specs.declared.words.BlockKind.TheVariants.{Log}
 use Rattle.log_entry.specs.declared.layouts.TheConstants.{BLOCK_KIND, BLOCK_BASE, BLOCK_UNNAMED, LOG}
 use Rattle.log_image.specs.Image.{Shape, words_in, total, is_in_data, is_in_log, block_words}
-use Rattle.log_image.specs.Blocks.{link_of, kind_of, base_of}
-use Rattle.log_image.specs.Format.{is_kind_word}
 use Rattle.log_image.specs.Holes.{Hole, AtSlot, AtLink, hole_of}
 use Rattle.log_image.specs.Taken.{bit_of, is_taken, HasTaken}
 use Rattle.log_image.proofs.ImageLemmas.{in_block, length_range}
 use Rattle.image_steps.specs.Steps.{KeepsTaken, IsFreshLog}
 use Rattle.image_steps.proofs.BlockLemmas.{block_inside, same_block, set_elsewhere}
 use Rattle.image_steps.proofs.NameLemmas.{not_data}
-use Rattle.plain_engine.specs.Clear.{AllClear, AllTaken, IsFirstClear}
+use Rattle.plain_engine.specs.Clear.{AllTaken, IsFirstClear}
 use Rattle.plain_engine.specs.Fresh.{IsFreshWord}
-use Rattle.plain_engine.specs.Running.{hole_at, Fits, Runs, RunsOnSome}
+use Rattle.plain_engine.specs.Running.{Runs}
 use Rattle.plain_engine.specs.Space.{clear_blocks, is_link, lacks_log}
 use Rattle.plain_engine.proofs.BoundsLemmas.{Bounds}
 use Rattle.plain_engine.proofs.EngineLemmas.{keeps_by, clear_untaken, set_taken}
-use Rattle.plain_engine.proofs.RunningSteps.{store_at, store_names, link_put}
+use Rattle.plain_engine.proofs.RunningSteps.{store_at, link_put}
 
 -- no number of a range passes a test, or one does
 pub none_pass : (p : ℕ → Bool) (first count : ℕ) → ((b : ℕ) → first ≤ b → b < first + count → p b ≡ false) → filter p (range_with_len first count) ≡ []
@@ -91,10 +88,13 @@ fresh_block shape words next position long whole below fresh =
   where
     kind_number : position < 2 ^ 40 → field BLOCK_KIND (block_word (record { kind = Log; base = position })) ≡ LOG
     kind_number small = omega (arith, small)
+
     base_number : position < 2 ^ 40 → field BLOCK_BASE (block_word (record { kind = Log; base = position })) ≡ position
     base_number small = omega (arith, small)
+
     bits_number : position < 2 ^ 40 → field BLOCK_UNNAMED (block_word (record { kind = Log; base = position })) ≡ 0
     bits_number small = omega (arith, small)
+
     go : (index : ℕ) → 2 ≤ index → (index < words_in shape) ⊎ (words_in shape ≤ index) → get_or (block_words words shape next) index 0 ≡ 0
     go index some (inl inside) = in_block words shape next index inside ∙ fresh index inside ∙ rw (ne_eqb index 1 (λ e. omega (arith, e, some))) refl
     go index some (inr past) = get_or_past (block_words words shape next) index 0 (omega (arith, length_range words (next * words_in shape) (words_in shape) whole, past))

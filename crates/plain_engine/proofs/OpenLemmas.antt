@@ -12,9 +12,8 @@ use Rattle.log_image.specs.Header.{shape_of}
 use Rattle.log_image.specs.Maps.{map_of}
 use Rattle.log_image.specs.Positions.{entries_of}
 use Rattle.log_image.specs.Taken.{is_taken, HasTaken}
-use Rattle.chain_reader.specs.Tables.{HasMap}
 use Rattle.log_image.proofs.OneChain.{one_meaning}
-use Rattle.plain_engine.specs.Running.{hole_at, Fits, Runs, RunsOnSome}
+use Rattle.plain_engine.specs.Running.{hole_at, Fits, RunsOnSome}
 
 shape_set : IsSet Shape
 shape_set = hlevel ℕ_set
@@ -70,6 +69,7 @@ opened shape words taken table position tail_block tail_slot first_clear kept ch
         let same : (chain ≡ some.chain) × (file ≡ some.file) × (place ≡ position) = one_meaning words chain some.chain file some.file place position stands some.runs.stands in
         subst (λ (l : List ℕ). Fits shape words taken table tail_block tail_slot first_clear l file) (sym same.0)
         (subst (λ (l : List ℕ). Fits shape words taken table tail_block tail_slot first_clear some.chain l) (sym same.1) some.runs.fits)
+
     part : PartFits shape words taken table first_clear chain file
     part = ∥∥₁_elim kept (part_prop shape words taken table first_clear chain file) (λ (some : RunsOnSome shape words taken table position tail_block tail_slot first_clear).
         record { same_shape = (whole some).same_shape; clear = (whole some).clear; bitmap = (whole some).bitmap; size = (whole some).size; low = (whole some).low })

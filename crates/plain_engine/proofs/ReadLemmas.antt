@@ -1,7 +1,6 @@
 -- The bytes of the file by the table.
-use Rattle.std.proofs.Common.{◌≡◌, ◌≢◌, ◌<◌, ◌≤◌, ◌+◌, ◌-◌, ◌*◌, ◌/◌, ◌%◌, ◌==◌, ◌&&◌, ◌||◌, ◌⊎◌, inl, inr, min, ℕ, zero, suc, Bool, true, false, List, [], ◌∷◌, ◌++◌, length, get_or, take, drop, map, nat_le, nat_lt, Option, Some, None, IsTrue, if◌then◌else◌, refl, sym, ap, ◌∙◌, subst, arith, length-take, length-drop}
+use Rattle.std.proofs.Common.{◌≡◌, ◌<◌, ◌≤◌, ◌+◌, ◌-◌, ◌*◌, ◌/◌, ◌%◌, ◌==◌, ◌&&◌, ◌||◌, ◌⊎◌, inl, inr, min, ℕ, Bool, true, List, [], ◌∷◌, ◌++◌, length, get_or, take, drop, map, nat_le, nat_lt, Option, Some, None, IsTrue, refl, sym, ap, ◌∙◌, subst, arith, length-take, length-drop}
 use Rattle.std.specs.List.{list_all, flat_map}
-use Rattle.std.specs.Option.{option_or}
 use Rattle.std.proofs.lemmas.Bool.{leb-true, cases_lt}
 use Rattle.std.proofs.Math.ListN.{get_or-append}
 use Rattle.std.proofs.lemmas.List.{ext_get_or, get_or-take, get_or-drop, get_or-append-add}
@@ -14,22 +13,21 @@ use Rattle.log_entry.specs.declared.layouts.TheConstants.{DIRECT_LEFTOVER}
 use Rattle.block_table.specs.FileMap.{FileMap, block_at}
 use Rattle.log_image.specs.Image.{Shape, words_in, is_in_data, block_words}
 use Rattle.log_image.specs.Entries.{Meaning, direct_meaning, meaning}
-use Rattle.log_image.specs.Blocks.{entry_count, file_size, slots_of, entry_words}
-use Rattle.log_image.specs.Maps.{block_in, map_of}
+use Rattle.log_image.specs.Blocks.{entry_count, file_size, slots_of}
+use Rattle.log_image.specs.Maps.{map_of}
 use Rattle.log_image.specs.Chains.{snapshots_of, logs_of}
 use Rattle.log_image.specs.Positions.{snapshot_entries, log_words, log_entries, entries_of}
-use Rattle.log_image.specs.Format.{all_zero, fits, is_direct, is_indirect, has_runs, is_log_entry, is_log_block, is_snapshot_entry, is_snapshot_block, HasFormat}
+use Rattle.log_image.specs.Format.{all_zero, fits, is_direct, is_indirect, has_runs, is_log_entry, is_snapshot_entry, is_snapshot_block, HasFormat}
 use Rattle.log_image.specs.Stands.{HoldsFile}
 use Rattle.log_image.proofs.HoldingLemmas.{both_left, both_right, names_none}
 use Rattle.image_steps.proofs.ListLemmas.{all_join}
-use Rattle.image_steps.proofs.ChainSteps.{log_entry_words}
 use Rattle.image_steps.proofs.EntrySteps.{kept_in}
 use Rattle.image_steps.proofs.NameLemmas.{all_good}
 use Rattle.log_image.proofs.ClearedChains.{both}
 use Rattle.plain_engine.specs.Bytes.{byte_of, present_byte}
 use Rattle.plain_engine.proofs.WordLemmas.{byte_of_zero}
 use Rattle.plain_engine.proofs.StoreLemmas.{byte_in}
-use Rattle.plain_engine.specs.Running.{Fits, Runs}
+use Rattle.plain_engine.specs.Running.{Runs}
 use Rattle.plain_engine.proofs.WriteLemmas.{present_is}
 use Rattle.std.proofs.lemmas.Bool.Decides.{nat_tests}
 
@@ -137,10 +135,13 @@ word_present shape words taken table position tail_block tail_slot first_clear c
   where
     at : ℕ
     at = 8 * (index % words_in shape) + k
+
     inside : 8 * (index % words_in shape) + k < shape.block_bytes
     inside = omega (arith, eight, mod-lt index some, small)
+
     place : index / words_in shape * shape.block_bytes + (8 * (index % words_in shape) + k) ≡ 8 * index + k
     place = omega (arith, ap (λ (n : ℕ). index / words_in shape * n) eight, div-add-mod' index (words_in shape))
+
     here : byte_of (get_or words (block * words_in shape + index % words_in shape) 0) k ≡ get_or file (8 * index + k) 0
     here =
         let quotient : (8 * (index % words_in shape) + k) / 8 ≡ index % words_in shape = omega (arith, small) in
@@ -160,10 +161,13 @@ word_absent shape words taken table position tail_block tail_slot first_clear ch
   where
     inside : 8 * (index % words_in shape) + k < shape.block_bytes
     inside = omega (arith, eight, mod-lt index some, small)
+
     place : index / words_in shape * shape.block_bytes + (8 * (index % words_in shape) + k) ≡ 8 * index + k
     place = omega (arith, ap (λ (n : ℕ). index / words_in shape * n) eight, div-add-mod' index (words_in shape))
+
     holds : HoldsFile words shape (entries_of words shape chain) file
     holds = subst (λ (s : Shape). HoldsFile words s (entries_of words s chain) file) runs.fits.same_shape runs.stands.stands.holds
+
     go : (65536 ≤ index / words_in shape) ⊎ (block_at table (index / words_in shape) ≡ None) → get_or file (index / words_in shape * shape.block_bytes + (8 * (index % words_in shape) + k)) 0 ≡ 0
     go (inl past) = past_blocks words shape chain file (index / words_in shape) (8 * (index % words_in shape) + k) (subst (λ (s : Shape). HasFormat words s chain) runs.fits.same_shape runs.stands.stands.format) holds past inside
     go (inr free) = holds.unmapped (index / words_in shape) (sym (runs.fits.map.each (index / words_in shape)) ∙ free) (8 * (index % words_in shape) + k) inside

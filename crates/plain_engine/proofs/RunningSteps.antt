@@ -1,6 +1,5 @@
 -- What the steps on an image's words make of what an engine keeps.
-use Rattle.std.proofs.Common.{◌≡◌, ◌≢◌, ◌<◌, ◌≤◌, ◌+◌, ◌*◌, ◌==◌, ◌^◌, ◌||◌, ◌⊎◌, inl, inr, ℕ, Bool, true, false, List, [], ◌∷◌, ◌++◌, length, get_or, set, not, if◌then◌else◌, refl, sym, ap, ◌∙◌, subst, arith}
-use Rattle.std.specs.List.{list_any}
+use Rattle.std.proofs.Common.{◌≡◌, ◌≢◌, ◌<◌, ◌≤◌, ◌+◌, ◌*◌, ◌==◌, ◌^◌, ◌||◌, ◌⊎◌, inl, inr, ℕ, Bool, true, false, List, [], ◌∷◌, ◌++◌, length, set, if◌then◌else◌, refl, sym, ap, ◌∙◌, subst, arith}
 use Rattle.std.proofs.lemmas.List.Folds.{list_any-append}
 use Rattle.std.proofs.lemmas.Grind.{flat_map-append}
 use Rattle.std.proofs.lemmas.Bool.{eq-eqb, ne_eqb, eqb-true, eqb-false}
@@ -10,16 +9,15 @@ use Rattle.log_image.specs.Header.{shape_of}
 use Rattle.log_image.specs.Entries.{Meaning, direct_meaning, names, all_names}
 use Rattle.log_image.specs.Maps.{map_of}
 use Rattle.log_image.specs.Positions.{entries_of}
-use Rattle.log_image.specs.Stands.{StandsBy}
-use Rattle.log_image.specs.Holes.{Hole, AtSlot, AtLink, hole_of, IsClear}
-use Rattle.log_image.specs.Taken.{bit_of, named_blocks, is_taken, HasTaken}
-use Rattle.image_steps.specs.Steps.{StandsClear, KeepsTaken, StandsAsBefore, IsEntryOf, next_hole, TakesEntry, IsFreshLog, TakesBlock}
+use Rattle.log_image.specs.Holes.{AtSlot, AtLink, hole_of, IsClear}
+use Rattle.log_image.specs.Taken.{bit_of, is_taken}
+use Rattle.image_steps.specs.Steps.{StandsClear, KeepsTaken, StandsAsBefore, IsEntryOf, TakesEntry, IsFreshLog, TakesBlock}
 use Rattle.image_steps.proofs.StoreStep.{stores_mean_nothing, nothing_after}
 use Rattle.image_steps.proofs.EntryStep.{entries_are_writes}
 use Rattle.image_steps.proofs.LinkStep.{links_grow_the_log}
 use Rattle.image_steps.proofs.NameLemmas.{is_in, or_left, or_right}
 use Rattle.chain_reader.specs.Tables.{HasMap}
-use Rattle.plain_engine.specs.Running.{hole_at, Fits, Runs}
+use Rattle.plain_engine.specs.Running.{Runs}
 
 -- the image as the laws see it
 pub stands_clear : (words taken : List ℕ) (table : FileMap) (position tail_block tail_slot first_clear : ℕ) (chain file : List ℕ) → Runs (shape_of words) words taken table position tail_block tail_slot first_clear chain file → StandsClear words chain file position
@@ -99,6 +97,7 @@ entry_step words taken new_taken table new_table position tail_block tail_slot f
     both_bits true false = refl
     both_bits false true = refl
     both_bits false false = refl
+
     either : (a b : Bool) → (a ≡ true) ⊎ (b ≡ true) → (a || b) ≡ true
     either a b (inl is) = or_left a b is
     either a b (inr is) = or_right a b is
@@ -155,6 +154,7 @@ link_step words taken new_taken table position tail_block tail_slot first_clear 
         go : (same : Bool) → (block == next) ≡ same → (block == next) ≡ (next == block)
         go true same = same ∙ sym (eq-eqb next block (sym (eqb-true block next same)))
         go false same = same ∙ sym (ne_eqb next block (λ e. eqb-false block next same (sym e)))
+
     both_bits : (a b c : Bool) → b ≡ c → ◌≡◌ {A = ℕ} (if b then 1 else (if a then 1 else 0)) (if a || c then 1 else 0)
     both_bits true true c same = refl
     both_bits true false c same = refl

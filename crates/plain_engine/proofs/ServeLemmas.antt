@@ -1,5 +1,5 @@
 -- Calls on an engine.
-use Rattle.std.proofs.Common.{◌≡◌, ◌≢◌, ◌<◌, ◌≤◌, ◌+◌, ◌-◌, ◌*◌, ◌/◌, ◌%◌, ◌==◌, ◌⊎◌, inl, inr, ℕ, Bool, true, false, nat_lt, List, [], ◌∷◌, ◌++◌, length, Option, Some, None, if◌then◌else◌, refl, sym, ap, ◌∙◌, subst, arith}
+use Rattle.std.proofs.Common.{◌≡◌, ◌≢◌, ◌<◌, ◌≤◌, ◌+◌, ◌-◌, ◌*◌, ◌/◌, ◌%◌, ◌==◌, ◌⊎◌, inl, inr, ℕ, Bool, true, false, nat_lt, List, [], ◌∷◌, length, Option, Some, None, if◌then◌else◌, refl, sym, ap, ◌∙◌, subst, arith}
 use Rattle.std.proofs.lemmas.Bool.{ltb-false, eqb-false, cases_lt}
 use Rattle.std.proofs.Math.Nat.{mul-add-div, mod-lt, mul-le-mul_right}
 use Rattle.std.proofs.lemmas.Nat.{div-add-mod'}
@@ -16,7 +16,6 @@ use Rattle.log_entry.specs.declared.calls.WriteRefusal.TheVariants.{TooLong, Too
 use Rattle.log_entry.specs.declared.calls.Reply.{Reply}
 use Rattle.log_entry.specs.declared.calls.Reply.TheVariants.{Wrote, Appended, NotWritten}
 use Rattle.log_image.specs.Image.{Shape}
-use Rattle.plain_engine.specs.Running.{Runs}
 use Rattle.plain_engine.specs.Space.{lacks_data, lacks_log, lacking}
 use Rattle.plain_engine.specs.Engine.{shape_in, Running, Writes, file_written, position_written}
 use Rattle.plain_engine.specs.Serving.{unless_refused, lacking_for, refused_area, Serves}
@@ -64,8 +63,10 @@ answers_write words shape chain count result refusal accepted none is = subst (�
       where
         second : NotWritten (NoSpace area) ≡ NotWritten (NoSpace Data) → AnswersWrite None accepted (NotWritten (NoSpace area))
         second same_reply = inr (inl same_reply)
+
         last : NotWritten (NoSpace area) ≡ NotWritten (NoSpace Log) → AnswersWrite None accepted (NotWritten (NoSpace area))
         last same_reply = inr (inr same_reply)
+
         third : (area ≡ Data) ⊎ (area ≡ Log) → AnswersWrite None accepted (NotWritten (NoSpace area))
         third (inl one) = second (ap (λ (a : Area). NotWritten (NoSpace a)) one)
         third (inr two) = last (ap (λ (a : Area). NotWritten (NoSpace a)) two)
@@ -87,9 +88,11 @@ serve_pwrite old new chain file offset (byte ∷ bytes) result some none is = re
     area_same : (found : Option Area) → refused_area (reply_by found (Wrote (length (byte ∷ bytes)))) ≡ found
     area_same None = refl
     area_same (Some area) = refl
+
     place : (found : Option Area) → position_written old.position found ≡ position_after old.position (Pwrite offset (byte ∷ bytes)) (reply_by found (Wrote (length (byte ∷ bytes))))
     place None = refl
     place (Some area) = refl
+
     after : (found : Option Area) → file_written file offset (byte ∷ bytes) found ≡ file_after file (Pwrite offset (byte ∷ bytes)) (reply_by found (Wrote (length (byte ∷ bytes))))
     after None = refl
     after (Some area) = refl
@@ -113,9 +116,11 @@ serve_append old new chain file at (byte ∷ bytes) result is_end some none is =
     area_same : (found : Option Area) → refused_area (reply_by found (Appended at (length (byte ∷ bytes)))) ≡ found
     area_same None = refl
     area_same (Some area) = refl
+
     place : (found : Option Area) → position_written old.position found ≡ position_after old.position (Append (byte ∷ bytes)) (reply_by found (Appended at (length (byte ∷ bytes))))
     place None = refl
     place (Some area) = refl
+
     after : (found : Option Area) → file_written file at (byte ∷ bytes) found ≡ file_after file (Append (byte ∷ bytes)) (reply_by found (Appended at (length (byte ∷ bytes))))
     after None = ap (λ (n : ℕ). write file n (byte ∷ bytes)) is_end ∙ append_is_write file (byte ∷ bytes) some
     after (Some area) = refl

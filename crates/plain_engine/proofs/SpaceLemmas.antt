@@ -1,18 +1,17 @@
 -- When a run of clear data blocks is found.
-use Rattle.std.proofs.Common.{◌≡◌, ◌≢◌, ◌<◌, ◌≤◌, ◌+◌, ◌-◌, ◌*◌, ◌/◌, ◌%◌, ◌==◌, ◌&&◌, ◌⊎◌, inl, inr, ℕ, zero, suc, Bool, true, false, List, [], ◌∷◌, ◌++◌, length, get_or, not, Option, Some, None, if◌then◌else◌, refl, sym, ap, ◌∙◌, subst, arith}
+use Rattle.std.proofs.Common.{◌≡◌, ◌<◌, ◌≤◌, ◌+◌, ◌-◌, ◌*◌, ◌/◌, ◌%◌, ◌==◌, ◌&&◌, ◌⊎◌, inl, inr, ℕ, zero, suc, Bool, true, false, List, [], ◌∷◌, length, get_or, not, Some, None, if◌then◌else◌, refl, sym, ap, ◌∙◌, subst, arith}
 use Rattle.std.specs.Prelude.{filter}
 use Rattle.std.specs.List.{range_with_len}
-use Rattle.std.proofs.lemmas.Bool.{cases_lt, eq-eqb, ne_eqb, eqb-true}
+use Rattle.std.proofs.lemmas.Bool.{cases_lt, eq-eqb, ne_eqb}
 use Rattle.std.proofs.Math.Nat.{mul-add-div}
 use Rattle.std.proofs.lemmas.Nat.{div-add-mod'}
 use Rattle.log_entry.specs.Legal.{touched_blocks}
-use Rattle.log_entry.specs.declared.shapes.Area.{Area}
 use Rattle.log_entry.specs.declared.shapes.Area.TheVariants.{Data, Log}
-use Rattle.log_image.specs.Image.{Shape, total}
+use Rattle.log_image.specs.Image.{Shape}
 use Rattle.log_image.specs.Holes.{Hole, hole_of}
-use Rattle.log_image.specs.Taken.{bit_of, is_taken, HasTaken}
-use Rattle.log_image.proofs.HoldingLemmas.{both_left, both_right}
-use Rattle.plain_engine.specs.Clear.{AllClear, AllTaken, IsFirstClear, IsLeastRun}
+use Rattle.log_image.specs.Taken.{is_taken, HasTaken}
+use Rattle.log_image.proofs.HoldingLemmas.{both_right}
+use Rattle.plain_engine.specs.Clear.{IsFirstClear, IsLeastRun}
 use Rattle.plain_engine.specs.Space.{clear_blocks, begins_run, lacks_data, is_link, lacks_log, lacking}
 use Rattle.plain_engine.proofs.EngineLemmas.{clear_untaken, set_taken}
 
@@ -138,15 +137,19 @@ no_run_lacks words shape chain taken first_clear count some is none = go (begins
   where
     p : ℕ → Bool
     p b = not (is_taken words shape chain b)
+
     flip : (b : Bool) → not b ≡ false → b ≡ true
     flip true is = refl
     flip false is = cc
+
     flop : (b : Bool) → not b ≡ true → b ≡ false
     flop true is = cc
     flop false is = refl
+
     starts : (n : ℕ) → 1 ≤ n → begins_run 0 n [] ≡ false
     starts zero low = absurd (omega (arith, low))
     starts (suc n) low = refl
+
     go : (found : Bool) → begins_run (get_or (clear_blocks words shape chain 1 shape.data_blocks) 0 0) count (clear_blocks words shape chain 1 shape.data_blocks) ≡ found →
         ((b : ℕ) → 1 ≤ b → b < 1 + shape.data_blocks → not (is_taken words shape chain b) ≡ false) ⊎ ((b : ℕ) × (1 ≤ b) × (b < 1 + shape.data_blocks) × (not (is_taken words shape chain b) ≡ true) × ((k : ℕ) → 1 ≤ k → k < b → not (is_taken words shape chain k) ≡ false)) → lacks_data words shape chain count ≡ true
     go false begun where_first = ap (λ (b : Bool). not b) begun
@@ -174,9 +177,11 @@ no_run_lacks words shape chain taken first_clear count some is none = go (begins
       where
         zero_not : {n : ℕ} → n ≡ 1 → n ≡ 0 → ⊥
         zero_not one zero_is = omega (arith, one, zero_is)
+
         taken_before : (k : ℕ) → k < first.0 → (0 < k) ⊎ (k ≤ 0) → is_taken words shape chain k ≡ true
         taken_before k below (inl low) = flip (is_taken words shape chain k) (first.4 k low below)
         taken_before k below (inr low) = (let nought : 0 ≡ k = omega (arith, low) in subst (λ (n : ℕ). is_taken words shape chain n ≡ true) nought refl)
+
         low_enough : (b : ℕ) → 1 ≤ b → not (is_taken words shape chain b) ≡ true → (b < first_clear) ⊎ (first_clear ≤ b) → first_clear ≤ b
         low_enough b low passes (inr fine) = fine
         low_enough b low passes (inl wrong) = absurd (differ (is_taken words shape chain b) (is.low b low wrong) (flop (is_taken words shape chain b) passes))

@@ -1,5 +1,5 @@
 -- What an engine keeps of a start.
-use Rattle.std.proofs.Common.{◌≡◌, ◌≢◌, ◌<◌, ◌≤◌, ◌+◌, ◌-◌, ◌*◌, ◌==◌, ℕ, Bool, true, false, List, [], ◌∷◌, ◌++◌, length, if◌then◌else◌, refl, sym, ap, ◌∙◌, subst, arith, length-drop}
+use Rattle.std.proofs.Common.{◌≡◌, ◌≤◌, ◌+◌, ◌*◌, ℕ, Bool, true, false, List, [], ◌∷◌, ◌++◌, length, if◌then◌else◌, refl, sym, ap, ◌∙◌, subst, arith, length-drop}
 use Rattle.std.proofs.Math.Logic.{∥∥₁_elim, ∥∥₁_map}
 use Rattle.std.proofs.Math.Nat.{ℕ_set}
 use Rattle.std.proofs.lemmas.Bool.{eq-eqb, ne_eqb}
@@ -10,9 +10,8 @@ use Rattle.log_image.specs.Header.{shape_of}
 use Rattle.log_image.specs.Blocks.{slots_of, entry_words, is_closed}
 use Rattle.log_image.specs.Chains.{IsChain}
 use Rattle.log_image.specs.Stands.{StandsBy}
-use Rattle.log_image.specs.Holes.{Hole, AtSlot, AtLink, last_block, hole_in, hole_of, IsClear}
+use Rattle.log_image.specs.Holes.{AtSlot, AtLink, last_block, hole_in, hole_of}
 use Rattle.log_image.specs.Keeps.{Keeps}
-use Rattle.log_image.specs.Taken.{HasTaken}
 use Rattle.log_image.proofs.ImageLemmas.{length_range}
 use Rattle.image_steps.proofs.HeaderSteps.{long_words}
 use Rattle.image_steps.proofs.SlotLemmas.{hole_inside}
@@ -22,7 +21,7 @@ use Rattle.chain_reader.specs.Tables.{shape_by}
 use Rattle.chain_reader.specs.Ends.{end_slot}
 use Rattle.chain_reader.specs.Reads.{StandForSome, IsReadOf}
 use Rattle.chain_reader.specs.declared.reading.ChainRead.{ChainRead}
-use Rattle.plain_engine.specs.Running.{hole_at, Fits, Runs, RunsOnSome}
+use Rattle.plain_engine.specs.Running.{hole_at, Fits, RunsOnSome}
 
 shape_with : ℕ → ℕ → ℕ → Shape
 shape_with data_blocks log_blocks bytes = record { data_blocks = data_blocks; log_blocks = log_blocks; block_bytes = bytes }

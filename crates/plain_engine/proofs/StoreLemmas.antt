@@ -1,12 +1,10 @@
 -- Words stored one after another, and blocks.
-use Rattle.std.proofs.Common.{◌≡◌, ◌≢◌, ℕ, ◌+◌, ◌-◌, ◌*◌, ◌/◌, ◌%◌, ◌<◌, ◌≤◌, ◌⊎◌, inl, inr, List, length, get_or, set, Option, Some, None, option_map, IsTrue, refl, sym, ap, ◌∙◌, subst, arith}
-use Rattle.std.specs.Option.{ForSome}
+use Rattle.std.proofs.Common.{◌≡◌, ◌≢◌, ℕ, ◌+◌, ◌*◌, ◌/◌, ◌%◌, ◌<◌, ◌≤◌, ◌⊎◌, inl, inr, List, length, get_or, set, Option, Some, None, option_map, IsTrue, refl, sym, ap, ◌∙◌, subst, arith}
 use Rattle.std.proofs.lemmas.Bool.{cases_lt}
 use Rattle.std.proofs.lemmas.Bool.Decides.{nat_tests}
 use Rattle.log_entry.specs.WordBytes.{word_bytes}
-use Rattle.std.proofs.lemmas.List.{get_or-set_same, get_or-set_other, length-set}
-use Rattle.std.proofs.Math.Nat.{mod-lt}
-use Rattle.log_entry.specs.Shape.{is_block_bytes, words_of_block}
+use Rattle.std.proofs.lemmas.List.{get_or-set_same, get_or-set_other}
+use Rattle.log_entry.specs.Shape.{is_block_bytes}
 use Rattle.log_image.specs.Image.{Shape, words_in, total, block_words, block_content}
 use Rattle.log_image.proofs.ImageLemmas.{in_block, length_range}
 use Rattle.image_steps.proofs.BlockLemmas.{block_inside, same_block}
@@ -40,13 +38,16 @@ stored_more old words source first index count place offset bytes word long room
     away : (at : ℕ) → (at < first) ⊎ (first + (index + 1) ≤ at) → at ≢ first + index
     away at (inl before) e = omega (arith, before, e)
     away at (inr past) e = omega (arith, past, e)
+
     wider : (at : ℕ) → (at < first) ⊎ (first + (index + 1) ≤ at) → (at < first) ⊎ (first + index ≤ at)
     wider at (inl before) = inl before
     wider at (inr past) = inr (omega (arith, past))
+
     here : IsLaid offset bytes (place + 8 * index) (source_word old source index) (get_or (set words (first + index) word) (first + index) 0)
     here =
         subst (λ (w : ℕ). IsLaid offset bytes (place + 8 * index) (source_word old source index) w) (sym (get_or-set_same words (first + index) word 0 (omega (arith, long, room, inside))))
         (subst (λ (w : ℕ). IsLaid offset bytes (place + 8 * index) w word) (source_same old words source first index count place offset bytes so_far inside is) laid)
+
     go : (at : ℕ) → at < index + 1 → (at < index) ⊎ (index ≤ at) → IsLaid offset bytes (place + 8 * at) (source_word old source at) (get_or (set words (first + index) word) (first + at) 0)
     go at before (inl below) = subst (λ (w : ℕ). IsLaid offset bytes (place + 8 * at) (source_word old source at) w) (sym (get_or-set_other words (first + index) (first + at) word 0 (λ e. omega (arith, e, below)))) (so_far.stored at below)
     go at before (inr past) = (let same : at ≡ index = omega (arith, before, past) in subst (λ (n : ℕ). IsLaid offset bytes (place + 8 * n) (source_word old source n) (get_or (set words (first + index) word) (first + n) 0)) (sym same) here)
@@ -119,17 +120,21 @@ run_more shape old words new held virt block k count offset bytes eight whole sa
     not_here : (other : ℕ) → (other < block) ⊎ (block + (k + 1) ≤ other) → other ≢ block + k
     not_here other (inl before) e = omega (arith, before, e)
     not_here other (inr past) e = omega (arith, past, e)
+
     wider : (other : ℕ) → (other < block) ⊎ (block + (k + 1) ≤ other) → (other < block) ⊎ (block + k ≤ other)
     wider other (inl before) = inl before
     wider other (inr past) = inr (omega (arith, past))
+
     same_other : (other : ℕ) → other ≢ block + k → block_words new shape other ≡ block_words words shape other
     same_other other differ = same_block shape other words new same_new (λ index small. kept (other * words_in shape + index) (place index small (cases_lt other (block + k))))
       where
         place : (index : ℕ) → index < words_in shape → (other < block + k) ⊎ (block + k ≤ other) → (other * words_in shape + index < (block + k) * words_in shape) ⊎ ((block + k) * words_in shape + words_in shape ≤ other * words_in shape + index)
         place index small (inl before) = inl (omega (arith, small, block_inside (words_in shape) other (block + k) before))
         place index small (inr past) = inr (omega (arith, small, block_inside (words_in shape) (block + k) other (omega (arith, past, differ))))
+
     inside_image : (block + k) * words_in shape + words_in shape ≤ length new
     inside_image = omega (arith, same_new, same_words, whole, block_inside (words_in shape) (block + k) (total shape) (omega (arith, room, inside)))
+
     source_kept : (at : ℕ) → (found : Option ℕ) → held (virt + k) ≡ found → present_byte words shape found at ≡ present_byte old shape found at
     source_kept at None is = refl
     source_kept at (Some from) is = ap (λ (l : List ℕ). get_or (word_bytes l) at 0) (so_far.others from (outside ((apart.each (virt + k) from is).1)))
@@ -137,11 +142,13 @@ run_more shape old words new held virt block k count offset bytes eight whole sa
         outside : (from < block) ⊎ (block + count ≤ from) → (from < block) ⊎ (block + k ≤ from)
         outside (inl before) = inl before
         outside (inr past) = inr (omega (arith, past, inside))
+
     here : (at : ℕ) → at < shape.block_bytes → get_or (block_content new shape (block + k)) at 0 ≡ laid_byte offset bytes ((virt + k) * shape.block_bytes + at) (present_byte old shape (held (virt + k)) at)
     here at small =
         content_laid words new shape (block + k) (held (virt + k)) ((virt + k) * shape.block_bytes) offset bytes eight inside_image
         (λ from is. omega (arith, same_words, whole, block_inside (words_in shape) from (total shape) (apart.each (virt + k) from is).0)) laid at small
         ∙ ap (λ (n : ℕ). laid_byte offset bytes ((virt + k) * shape.block_bytes + at) n) (source_kept at (held (virt + k)) refl)
+
     go : (j at : ℕ) → j < k + 1 → at < shape.block_bytes → (j < k) ⊎ (k ≤ j) → get_or (block_content new shape (block + j)) at 0 ≡ laid_byte offset bytes ((virt + j) * shape.block_bytes + at) (present_byte old shape (held (virt + j)) at)
     go j at before small (inl below) = ap (λ (l : List ℕ). get_or (word_bytes l) at 0) (same_other (block + j) (λ e. omega (arith, e, below))) ∙ so_far.stored j at below small
     go j at before small (inr past) =

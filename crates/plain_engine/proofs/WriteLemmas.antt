@@ -1,33 +1,28 @@
 -- A write: its entry, and when it finds no space.
-use Rattle.std.proofs.Common.{◌≡◌, ◌≢◌, ◌<◌, ◌≤◌, ◌+◌, ◌-◌, ◌*◌, ◌/◌, ◌==◌, ◌&&◌, ◌⊎◌, inl, inr, max, ℕ, zero, suc, Bool, true, false, List, [], ◌∷◌, ◌++◌, length, get_or, not, nat_le, nat_lt, Option, Some, None, IsTrue, if◌then◌else◌, refl, sym, ap, ◌∙◌, subst, arith}
-use Rattle.std.specs.Prelude.{filter}
+use Rattle.std.proofs.Common.{◌≡◌, ◌<◌, ◌≤◌, ◌+◌, ◌-◌, ◌*◌, ◌/◌, ◌&&◌, ◌⊎◌, inl, inr, max, ℕ, zero, suc, Bool, true, false, List, [], length, get_or, not, nat_le, nat_lt, Option, Some, None, IsTrue, if◌then◌else◌, refl, sym, ap, ◌∙◌, subst, arith}
 use Rattle.std.specs.List.{list_all, slice_get, range_with_len}
-use Rattle.std.proofs.lemmas.Bool.{cases_lt, le-leb, lt-leb, lt-ltb, leb-true, leb-false, eq-eqb, ne_eqb, eqb-true}
+use Rattle.std.proofs.lemmas.Bool.{cases_lt, le-leb, lt-ltb, leb-true, leb-false}
 use Rattle.std.proofs.lemmas.List.FromFn.{length-range_with_len}
 use Rattle.log_entry.specs.ByteFile.{write}
 use Rattle.log_entry.specs.Fields.{field}
 use Rattle.log_entry.specs.Shape.{longest_of, limit_of, is_block_bytes}
 use Rattle.log_entry.specs.Legal.{touched_blocks}
 use Rattle.std.proofs.lemmas.Bool.Decides.{nat_tests}
-use Rattle.log_entry.specs.WordBytes.{word_bytes}
-use Rattle.log_entry.specs.Words.{entry_word, entry_unnamed}
+use Rattle.log_entry.specs.Words.{entry_word}
 use Rattle.log_entry.specs.declared.entries.Entry.TheVariants.{Direct}
-use Rattle.log_entry.specs.declared.layouts.TheConstants.{ENTRY_KIND, DIRECT, DIRECT_VIRT, DIRECT_BLOCK, DIRECT_COUNT, DIRECT_LEFTOVER, DIRECT_UNNAMED}
+use Rattle.log_entry.specs.declared.layouts.TheConstants.{ENTRY_KIND, DIRECT_UNNAMED}
 use Rattle.block_table.specs.FileMap.{FileMap, block_at}
-use Rattle.log_image.specs.Image.{Shape, words_in, total, is_in_data, block_words, block_content}
+use Rattle.log_image.specs.Image.{Shape, total, is_in_data, block_content}
 use Rattle.log_image.specs.Entries.{Meaning, direct_meaning}
 use Rattle.log_image.specs.Maps.{block_in, map_of, end_of}
 use Rattle.log_image.specs.Positions.{entries_of}
 use Rattle.log_image.specs.Format.{is_direct, fits}
 use Rattle.log_image.specs.Stands.{HoldsFile}
-use Rattle.log_image.specs.Taken.{bit_of, is_taken, HasTaken}
+use Rattle.log_image.specs.Taken.{is_taken}
 use Rattle.log_image.proofs.ClearedChains.{both}
 use Rattle.image_steps.specs.Steps.{IsEntryOf, fits_log}
 use Rattle.plain_engine.specs.Bytes.{laid_byte, present_byte}
-use Rattle.plain_engine.specs.Clear.{AllClear, AllTaken, IsFirstClear, IsLeastRun}
-use Rattle.plain_engine.specs.Running.{Fits, Runs, AllTakenBefore}
 use Rattle.plain_engine.proofs.CommitLemmas.{HasFields, word_fields}
-use Rattle.plain_engine.proofs.EngineLemmas.{clear_untaken, set_taken}
 use Rattle.plain_engine.proofs.FileLemmas.{write_place, length_write, Touches, touches}
 use Rattle.plain_engine.proofs.WordLemmas.{laid_outside}
 use Rattle.image_steps.proofs.BlockLemmas.{block_inside}
@@ -76,6 +71,7 @@ run_fits shape virt block count leftover offset long is =
   where
     direct : (word : ℕ) → field ENTRY_KIND word ≡ 1 → field DIRECT_UNNAMED word ≡ 0 → is_direct word ≡ true
     direct word kind unnamed = rw (kind, unnamed) refl
+
     fit : (n : ℕ) → n ≡ count → (nat_le 1 n && nat_le n (longest_of shape.block_bytes) && nat_le (virt + n) 65536 && list_all (is_in_data shape) (range_with_len block count) && nat_lt leftover shape.block_bytes) ≡ true
     fit n same = rw (same, le-leb 1 count is.touches.some, le-leb count (longest_of shape.block_bytes) is.few, le-leb (virt + count) 65536 is.in_file, all_data shape block count is.first is.last, lt-ltb leftover shape.block_bytes is.below) refl
 
@@ -135,14 +131,17 @@ run_entry words shape chain file bytes virt block count leftover offset is free 
   where
     means : direct_meaning (entry_word (Direct virt block count leftover)) ≡ run_meaning virt block count leftover
     means = run_means shape virt block count leftover offset (length bytes) is
+
     all_free : (first many : ℕ) → ((k : ℕ) → k < many → is_taken words shape chain (first + k) ≡ false) → list_all (λ (b : ℕ). not (is_taken words shape chain b)) (range_with_len first many) ≡ true
     all_free first zero each = refl
     all_free first (suc many) each =
         both (not (is_taken words shape chain first)) (list_all (λ (b : ℕ). not (is_taken words shape chain b)) (range_with_len (first + 1) many))
         (ap (λ (b : Bool). not b) (ap (λ (n : ℕ). is_taken words shape chain n) (omega arith) ∙ each 0 (omega arith)))
         (all_free (first + 1) many (λ k inside. ap (λ (n : ℕ). is_taken words shape chain n) (omega arith) ∙ each (k + 1) (omega (arith, inside))))
+
     ends : (n : ℕ) → n ≡ count → (virt + n) * shape.block_bytes - leftover ≡ offset + length bytes
     ends n same = rw same (omega (arith, is.left, is.touches.ends))
+
     away : (at place : ℕ) → place < shape.block_bytes → (at < virt) ⊎ (virt + count ≤ at) → (at * shape.block_bytes + place < offset) ⊎ (offset + length bytes ≤ at * shape.block_bytes + place)
     away at place inside (inl before) = inl (omega (arith, inside, is.touches.starts, block_inside shape.block_bytes at virt before))
     away at place inside (inr past) = inr (omega (arith, inside, is.touches.ends, mul-le-mul_right shape.block_bytes past))

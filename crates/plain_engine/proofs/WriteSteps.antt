@@ -1,5 +1,5 @@
 -- The way of a write through an engine: its blocks are stored, a slot is made, the entry is put there.
-use Rattle.std.proofs.Common.{◌≡◌, ◌≢◌, ◌<◌, ◌≤◌, ◌+◌, ◌-◌, ◌*◌, ◌==◌, ◌⊎◌, inl, inr, ℕ, Bool, true, false, List, [], ◌∷◌, ◌++◌, length, get_or, Option, Some, None, nat_le, refl, sym, ap, ◌∙◌, subst, arith}
+use Rattle.std.proofs.Common.{◌≡◌, ◌<◌, ◌≤◌, ◌+◌, ◌*◌, ◌⊎◌, inl, inr, ℕ, Bool, true, false, List, length, get_or, nat_le, sym, ap, ◌∙◌, subst, arith}
 use Rattle.std.proofs.Math.Logic.{∥∥₁_elim}
 use Rattle.std.proofs.Math.Nat.{ℕ_set}
 use Rattle.std.proofs.lemmas.Bool.{cases_lt, le-leb}
@@ -19,7 +19,7 @@ use Rattle.image_steps.specs.Steps.{IsEntryOf}
 use Rattle.chain_reader.specs.Tables.{shape_by}
 use Rattle.plain_engine.specs.Bytes.{laid_byte, present_byte}
 use Rattle.plain_engine.specs.Clear.{IsLeastRun}
-use Rattle.plain_engine.specs.Running.{Fits, Runs, RunsOnSome, AllTakenBefore}
+use Rattle.plain_engine.specs.Running.{Runs, RunsOnSome, AllTakenBefore}
 use Rattle.plain_engine.specs.Engine.{shape_in, Running, SameBesideWords, SameNames, HasSlot, SameBesideTail}
 use Rattle.plain_engine.specs.declared.engine.PlainEngine.{PlainEngine}
 use Rattle.plain_engine.proofs.BoundsLemmas.{set_bits, data_inside}
@@ -85,13 +85,17 @@ way_entry before stored slotted virt block count leftover offset bytes is chain 
   where
     shape : shape_in slotted ≡ shape_in before
     shape = shape_slotted before stored slotted is.same is.same_tail
+
     at_shape : Runs (shape_in before) slotted.words.items slotted.taken.items slotted.table slotted.position slotted.tail_block slotted.tail_slot slotted.first_clear chain file
     at_shape = subst (λ (s : Shape). Runs s slotted.words.items slotted.taken.items slotted.table slotted.position slotted.tail_block slotted.tail_slot slotted.first_clear chain file) shape running
+
     here : (k : ℕ) → k < count → is_in_data (shape_in before) (block + k) ≡ true
     here k inside = data_by (shape_in before) (block + k) (omega (arith, is.run.first)) (omega (arith, inside, is.run.last))
+
     free : (k : ℕ) → k < count → is_taken slotted.words.items (shape_in before) chain (block + k) ≡ false
     free k inside = clear_untaken slotted.words.items (shape_in before) chain slotted.taken.items (block + k) at_shape.fits.bitmap (data_inside (shape_in before) (block + k) (here k inside))
         (bits_same before stored slotted is.same is.same_tail (block + k) (here k inside) ∙ is.least.run (block + k) (omega arith) (omega (arith, inside)))
+
     present : (virt at : ℕ) → at < before.geometry.block_bytes → present_byte before.words.items (shape_in before) (block_at before.table virt) at ≡ get_or file (virt * before.geometry.block_bytes + at) 0
     present v at small = ∥∥₁_elim before.kept (ℕ_set _ _) (λ (some : RunsOnSome (shape_in before) before.words.items before.taken.items before.table before.position before.tail_block before.tail_slot before.first_clear).
         present_by some v at small ∙ ap (λ (l : List ℕ). get_or l (v * before.geometry.block_bytes + at) 0) (sym (same_file before stored slotted virt block count leftover offset bytes is some chain file running)))
@@ -101,6 +105,7 @@ way_entry before stored slotted virt block count leftover offset bytes is chain 
         present_by some v at small =
             present_is before.words.items (shape_in before) some.chain some.file before.table
             (subst (λ (s : Shape). HoldsFile before.words.items s (entries_of before.words.items s some.chain) some.file) some.runs.fits.same_shape some.runs.stands.stands.holds) some.runs.fits.map.each v at small
+
     content : (k at : ℕ) → k < count → at < before.geometry.block_bytes → get_or (block_content slotted.words.items (shape_in before) (block + k)) at 0 ≡ laid_byte offset bytes ((virt + k) * before.geometry.block_bytes + at) (get_or file ((virt + k) * before.geometry.block_bytes + at) 0)
     content k at inside small =
         ap (λ (l : List ℕ). get_or (word_bytes l) at 0)

@@ -1,5 +1,5 @@
 -- Bytes by their places: in words, in the blocks of a map, and after others are laid over them.
-use Rattle.std.specs.Prelude.{ℕ, ◌+◌, ◌-◌, ◌*◌, ◌≡◌, ◌<◌, nat_le, nat_lt, ◌&&◌, if◌then◌else◌, List, length, slice_index, Option, Some, None}
+use Rattle.std.specs.Prelude.{ℕ, ◌+◌, ◌-◌, ◌≡◌, ◌<◌, nat_le, nat_lt, ◌&&◌, if◌then◌else◌, List, length, slice_index, Option, Some, None}
 use Rattle.byteorder.specs.Endian.{little_bytes}
 use Rattle.log_image.specs.Image.{Shape, block_content}
 

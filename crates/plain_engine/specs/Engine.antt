@@ -1,17 +1,14 @@
 -- What the parts of a write make of an engine.
-use Rattle.std.specs.Prelude.{ℕ, ◌+◌, ◌-◌, ◌*◌, ◌^◌, ◌≡◌, ◌≢◌, ◌<◌, ◌≤◌, ◌==◌, not, ◌||◌, Bool, true, false, max, List, [], ◌∷◌, ◌++◌, length, slice_index, Option, Some, None}
-use Rattle.std.specs.List.{list_all}
-use Rattle.block_table.specs.FileMap.{block_at}
+use Rattle.std.specs.Prelude.{ℕ, ◌+◌, ◌≡◌, true, false, List, length, slice_index, Option, Some, None}
 use Rattle.block_table.specs.declared.map_run.MapRun.{MapRun}
 use Rattle.log_entry.specs.Words.{entry_word}
 use Rattle.log_entry.specs.ByteFile.{write}
 use Rattle.log_entry.specs.Legal.{touched_blocks}
 use Rattle.log_entry.specs.declared.shapes.Area.{Area}
 use Rattle.log_entry.specs.declared.entries.Entry.TheVariants.{Direct}
-use Rattle.log_image.specs.Image.{Shape, words_in, is_in_data, block_words}
+use Rattle.log_image.specs.Image.{Shape, is_in_data, block_words}
 use Rattle.log_image.specs.Holes.{hole_of}
 use Rattle.log_image.specs.Taken.{bit_of, is_taken}
-use Rattle.image_steps.specs.Steps.{IsEntryOf}
 use Rattle.chain_reader.specs.Tables.{shape_by}
 use Rattle.plain_engine.specs.Running.{Runs}
 use Rattle.plain_engine.specs.Space.{lacks_log, lacking}

@@ -1,5 +1,5 @@
 -- One call on an engine: its reply, and what the engine runs on after it.
-use Rattle.std.specs.Prelude.{ℕ, ◌≡◌, ◌+◌, List, [], ◌∷◌, length, Option, Some, None}
+use Rattle.std.specs.Prelude.{ℕ, ◌≡◌, ◌+◌, List, ◌∷◌, length, Option, Some, None}
 use Rattle.log_entry.specs.Legal.{Answers, file_after, position_after, write_refusal, touched_blocks, appended_blocks}
 use Rattle.log_entry.specs.declared.shapes.Area.{Area}
 use Rattle.log_entry.specs.declared.calls.Op.{Op}

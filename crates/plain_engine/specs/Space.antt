@@ -1,14 +1,8 @@
 -- Which writes find no space: too few data blocks are clear or the least of them are no run, or the log cannot grow.
 use Rattle.std.specs.Prelude.{ℕ, zero, suc, ◌+◌, ◌==◌, ◌&&◌, not, Bool, true, false, if◌then◌else◌, List, [], ◌∷◌, length, filter, slice_index, Option, Some, None}
 use Rattle.std.specs.List.{range_with_len}
-use Rattle.log_entry.specs.Legal.{write_refusal, touched_blocks, appended_blocks}
 use Rattle.log_entry.specs.declared.shapes.Area.{Area}
 use Rattle.log_entry.specs.declared.shapes.Area.TheVariants.{Data, Log}
-use Rattle.log_entry.specs.declared.calls.Op.{Op}
-use Rattle.log_entry.specs.declared.calls.Op.TheVariants.{Pwrite, Append, Pread, Size, Sync, Collect}
-use Rattle.log_entry.specs.declared.calls.WriteRefusal.TheVariants.{NoSpace}
-use Rattle.log_entry.specs.declared.calls.Reply.{Reply}
-use Rattle.log_entry.specs.declared.calls.Reply.TheVariants.{NotWritten}
 use Rattle.log_image.specs.Image.{Shape}
 use Rattle.log_image.specs.Holes.{Hole, AtSlot, AtLink, hole_of}
 use Rattle.log_image.specs.Taken.{is_taken}

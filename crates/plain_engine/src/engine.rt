@@ -220,7 +220,8 @@ impl PlainEngine {
         let count = touched(block_bytes, offset, bytes.len());
         let virt = offset / u64::from(block_bytes);
         let end = self.geometry.first(Area::Log) as usize;
-        let Some(block) = least_run(&self.taken, self.first_clear as usize, end, count as usize) else {
+        let Some(block) = least_run(&self.taken, self.first_clear as usize, end, count as usize)
+        else {
             return Some(Area::Data);
         };
         let run = MapRun {

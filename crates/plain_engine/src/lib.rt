@@ -6,7 +6,6 @@ pub mod engine;
 mod fresh;
 pub mod replays;
 pub mod stores;
-
 #[cfg(test)]
 mod tests;
 

@@ -11,7 +11,11 @@ use std::alloc::{AllocError, Global};
 
 /// The records of the calls that these jobs of one caller ask, answered in turn. Only want of memory refuses it, and leaves the
 /// engine as some of the calls did.
-pub fn replay_all(alloc: Global, engine: &mut PlainEngine, jobs: Vec<Job>) -> Result<Vec<Call>, AllocError>
+pub fn replay_all(
+    alloc: Global,
+    engine: &mut PlainEngine,
+    jobs: Vec<Job>,
+) -> Result<Vec<Call>, AllocError>
     requires { AreOneSeat jobs.items }
     ensures { IfOk result (λ calls. (chain file : List ℕ) → Running engine.old chain file → Replays engine.old engine.new file jobs.items calls.items) }
 {

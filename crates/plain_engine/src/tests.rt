@@ -44,7 +44,11 @@ fn byte_at(alloc: Global, offset: u64, byte: u8) -> Result<Op, AllocError> {
 #[test]
 fn calls_on_a_just_made_image(rt: HostRuntime) -> Result<(), Fail> {
     let geometry = Geometry::new(2, 1, 64)?;
-    let start = made(geometry, made_words(rt.alloc())?, vec![in rt.alloc(); 9u64]?);
+    let start = made(
+        geometry,
+        made_words(rt.alloc())?,
+        vec![in rt.alloc(); 9u64]?,
+    );
     let mut engine = PlainEngine::new(rt.alloc(), start)?;
     let first = byte_at(rt.alloc(), 62, 0xaa)?;
     let reply = engine.answer(rt.alloc(), &first)?;
@@ -54,7 +58,13 @@ fn calls_on_a_just_made_image(rt: HostRuntime) -> Result<(), Fail> {
     assert_eq!(rt; matches!(&reply, Reply::Wrote { length: 1 }), true);
     let reply = engine.answer(rt.alloc(), &second)?;
     assert_eq!(rt; matches!(&reply, Reply::NotWritten(_)), true);
-    let reply = engine.answer(rt.alloc(), &Op::Pread { offset: 61, length: 9 })?;
+    let reply = engine.answer(
+        rt.alloc(),
+        &Op::Pread {
+            offset: 61,
+            length: 9,
+        },
+    )?;
     if let Reply::Bytes(bytes) = &reply {
         assert_eq!(rt; bytes.bytes().len(), 2);
         assert_eq!(rt; bytes.bytes()[1], 0xaa);
@@ -75,9 +85,20 @@ fn calls_on_a_just_made_image(rt: HostRuntime) -> Result<(), Fail> {
 #[test]
 fn a_replay_of_one_call(rt: HostRuntime) -> Result<(), Fail> {
     let geometry = Geometry::new(2, 1, 64)?;
-    let start = made(geometry, made_words(rt.alloc())?, vec![in rt.alloc(); 9u64]?);
+    let start = made(
+        geometry,
+        made_words(rt.alloc())?,
+        vec![in rt.alloc(); 9u64]?,
+    );
     let mut engine = PlainEngine::new(rt.alloc(), start)?;
-    let jobs = vec![in rt.alloc(); Job { line: 1, seat: 0, number: 1, op: Op::Size }]?;
+    let jobs = vec![in rt.alloc();
+        Job {
+            line: 1,
+            seat: 0,
+            number: 1,
+            op: Op::Size
+        },
+    ]?;
     let calls = replay_all(rt.alloc(), &mut engine, jobs)?;
     assert_eq!(rt; calls.len(), 1);
     assert_eq!(rt; matches!(&calls[0].reply, Reply::Size(0)), true);

@@ -1,4 +1,4 @@
-use Rattle.std.proofs.Common.{◌≡◌, ◌*◌, ◌%◌, ◌/◌, ◌^◌, ◌<◌, length, arith}
+use Rattle.std.proofs.Common.{◌%◌, arith}
 use Rattle.std.proofs.Math.Nat.{mod-lt}
 use Rattle.plain_engine.proofs.BitLemmas.{bit_set, one_shifted}
 use Rattle.plain_engine.proofs.bitmap.mark.Goals as goal

@@ -1,6 +1,6 @@
-use Rattle.std.proofs.Common.{◌≡◌, ◌≤◌, ◌+◌, ◌-◌, ◌<◌, ℕ, ◌∙◌, get_or, ap, sym, length, arith, inl, inr}
-use Rattle.plain_engine.specs.Bytes.{laid_byte, byte_of}
-use Rattle.plain_engine.proofs.WordLemmas.{laid_inside, laid_outside}
+use Rattle.std.proofs.Common.{◌≡◌, ◌+◌, ◌-◌, ℕ, ◌∙◌, get_or, ap, sym, arith}
+use Rattle.plain_engine.specs.Bytes.{byte_of}
+use Rattle.plain_engine.proofs.WordLemmas.{laid_inside}
 use Rattle.plain_engine.proofs.stores.laid_word.Goals as goal
 
 pub returns-then-place-end : goal.returns-then-place-end

@@ -1,4 +1,4 @@
-use Rattle.std.proofs.Common.{◌≡◌, ℕ, ◌+◌, ◌<◌, nat_lt, if◌then◌else◌, get_or, length}
+use Rattle.std.proofs.Common.{◌≡◌, ℕ, ◌+◌, nat_lt, if◌then◌else◌, get_or}
 use Rattle.plain_engine.specs.Bytes.{laid_byte}
 use Rattle.plain_engine.proofs.stores.lay_part.Given as goal
 

@@ -1,7 +1,6 @@
-use Rattle.std.proofs.Common.{◌≡◌, ◌≤◌, ◌+◌, ◌<◌, ℕ, List, ◌∙◌, get_or, ap, length, sym, arith}
-use Rattle.std.proofs.lemmas.Grind.{common_steps}
+use Rattle.std.proofs.Common.{◌≡◌, ◌+◌, ℕ, List, ◌∙◌, get_or, ap, length, arith}
 use Rattle.byteorder.specs.Endian.{little_bytes}
-use Rattle.plain_engine.specs.Bytes.{laid_byte, byte_of}
+use Rattle.plain_engine.specs.Bytes.{laid_byte}
 use Rattle.plain_engine.proofs.WordLemmas.{laid_back}
 use Rattle.plain_engine.proofs.stores.part_word.Goals as goal
 

@@ -1,4 +1,4 @@
-use Rattle.std.proofs.Common.{arith, ap, ◌≡◌, ◌∙◌, ◌*◌, ◌+◌, sym, subst, ℕ}
+use Rattle.std.proofs.Common.{arith, ap, ◌∙◌, ◌*◌, ◌+◌, ℕ}
 use Rattle.block_table.specs.FileMap.{block_at}
 use Rattle.chain_reader.specs.Tables.{shape_by}
 use Rattle.plain_engine.proofs.StoreLemmas.{RunTo, source_by, run_by, eight_words}
@@ -12,9 +12,9 @@ store_block-requires-clause-source c =
 pub loop-k-preserved : goal.loop-k-preserved
 loop-k-preserved c =
     let done : RunTo (shape_by c.args.geometry) c.args.words.now c.store_block.new.words (block_at c.args.table.now) c.args.run.virt c.args.run.block (c.loop-k.k + 1) c.args.offset c.args.bytes.now =
-        run_by (shape_by c.args.geometry) c.args.words.now c.loop-k.words c.store_block.new.words (block_at c.args.table.now) c.args.run.virt c.args.run.block c.loop-k.k c.args.run.count c.args.offset c.args.bytes.now
-        c.q-count.result (c.from.result * c.from-in-loop-k.result) c.first_word-source.result (eight_words c.args.geometry.block_bytes c.args.geometry.block_allowed) c.requires.whole c.loop-k.auto.words c.store_block.auto.words
-        c.requires.in_image (omega arith) (record { each = c.requires.apart }) (record { others = c.loop-k.invariant.others; stored = c.loop-k.invariant.stored })
-        c.q-count.ensures c.first_word-source.ensures (ap (λ (n : ℕ). n * c.from-in-loop-k.result) c.from.ensures ∙ ap (λ (n : ℕ). (c.args.run.virt + c.loop-k.k) * n) (c.from-in-loop-k.ensures ∙ c.block_bytes.ensures.value))
-        c.store_block.ensures.stored c.store_block.ensures.others in
+    run_by (shape_by c.args.geometry) c.args.words.now c.loop-k.words c.store_block.new.words (block_at c.args.table.now) c.args.run.virt c.args.run.block c.loop-k.k c.args.run.count c.args.offset c.args.bytes.now
+    c.q-count.result (c.from.result * c.from-in-loop-k.result) c.first_word-source.result (eight_words c.args.geometry.block_bytes c.args.geometry.block_allowed) c.requires.whole c.loop-k.auto.words c.store_block.auto.words
+    c.requires.in_image (omega arith) (record { each = c.requires.apart }) (record { others = c.loop-k.invariant.others; stored = c.loop-k.invariant.stored })
+    c.q-count.ensures c.first_word-source.ensures (ap (λ (n : ℕ). n * c.from-in-loop-k.result) c.from.ensures ∙ ap (λ (n : ℕ). (c.args.run.virt + c.loop-k.k) * n) (c.from-in-loop-k.ensures ∙ c.block_bytes.ensures.value))
+    c.store_block.ensures.stored c.store_block.ensures.others in
     record { others = done.others; stored = done.stored }

@@ -1,17 +1,15 @@
-use Rattle.std.proofs.Common.{◌≡◌, ◌∙◌, ◌<◌, ◌≤◌, ◌+◌, ◌-◌, ◌*◌, ◌/◌, ℕ, List, [], ◌∷◌, Option, Some, None, length, ap, sym, subst, refl, arith}
+use Rattle.std.proofs.Common.{◌≡◌, ◌∙◌, ◌<◌, ◌+◌, ◌-◌, ◌*◌, ◌/◌, ℕ, List, [], ◌∷◌, Option, Some, None, length, ap, sym, subst, refl, arith}
 use Rattle.std.proofs.lemmas.Grind.{common_steps}
-use Rattle.log_entry.specs.Legal.{write_refusal, touched_blocks, appended_blocks}
+use Rattle.log_entry.specs.Legal.{write_refusal, appended_blocks}
 use Rattle.log_entry.specs.declared.shapes.Area.{Area}
-use Rattle.log_entry.specs.declared.calls.Op.TheVariants.{Pwrite, Append}
-use Rattle.log_entry.specs.declared.calls.WriteRefusal.{WriteRefusal}
+use Rattle.log_entry.specs.declared.calls.Op.TheVariants.{Append}
 use Rattle.log_entry.specs.declared.calls.WriteRefusal.TheVariants.{NoSpace}
-use Rattle.log_entry.specs.declared.calls.Reply.TheVariants.{Wrote, Appended, NotWritten}
+use Rattle.log_entry.specs.declared.calls.Reply.TheVariants.{Appended, NotWritten}
 use Rattle.chain_reader.specs.Tables.{shape_by}
 use Rattle.plain_engine.specs.Engine.{Writes}
 use Rattle.plain_engine.specs.Serving.{Serves}
 use Rattle.plain_engine.proofs.BoundsLemmas.{bounds}
-use Rattle.plain_engine.proofs.ReadLemmas.{some_bytes}
-use Rattle.plain_engine.proofs.ServeLemmas.{IsAllowed, allowed_by, serve_pwrite, serve_append, refuse_pwrite, refuse_append, append_nothing, touched_appended, refusal_by}
+use Rattle.plain_engine.proofs.ServeLemmas.{IsAllowed, allowed_by, serve_append, refuse_append, append_nothing, refusal_by}
 use Rattle.plain_engine.proofs.engine.PlainEngine.append.Goals as goal
 
 pub returns-in-Some : goal.returns-in-Some
@@ -21,7 +19,7 @@ returns-in-Some c = λ chain file runs.
     let at_end : c.size-at.result ≡ length file = c.size-at.ensures ∙ runs.fits.size in
     let same : (length c.bytes-bytes.result.now + 2 * c.from-block.result - 2) / c.from-block.result ≡ appended_blocks e.geometry.block_bytes (length c.bytes-bytes.result.now) = ap (λ (n : ℕ). (length c.bytes-bytes.result.now + 2 * n - 2) / n) (c.from-block.ensures ∙ c.block_bytes.ensures.value) in
     let refusal : write_refusal e.geometry.block_bytes e.position (appended_blocks e.geometry.block_bytes (length c.bytes-bytes.result.now)) (length file + length c.bytes-bytes.result.now) ≡ Some c.in-Some.why =
-        refusal_by e.geometry.block_bytes e.position ((length c.bytes-bytes.result.now + 2 * c.from-block.result - 2) / c.from-block.result) _ (c.from.result + c.from-2.result) (length file + length c.bytes-bytes.result.now) c.refusal.result (Some c.in-Some.why) same (omega (arith, c.from.ensures, c.from-2.ensures, at_end)) c.refusal.ensures c.in-Some.is in
+    refusal_by e.geometry.block_bytes e.position ((length c.bytes-bytes.result.now + 2 * c.from-block.result - 2) / c.from-block.result) _ (c.from.result + c.from-2.result) (length file + length c.bytes-bytes.result.now) c.refusal.result (Some c.in-Some.why) same (omega (arith, c.from.ensures, c.from-2.ensures, at_end)) c.refusal.ensures c.in-Some.is in
     subst (λ (b : List ℕ). Serves e e chain file (Append b) (NotWritten c.in-Some.why)) c.bytes-bytes.ensures
     (refuse_append e chain file c.bytes-bytes.result.now c.in-Some.why some refusal runs)
 
@@ -32,7 +30,7 @@ returns-in-None c = λ chain file runs.
     let at_end : c.size-at.result ≡ length file = c.size-at.ensures ∙ runs.fits.size in
     let same : (length c.bytes-bytes.result.now + 2 * c.from-block.result - 2) / c.from-block.result ≡ appended_blocks e.geometry.block_bytes (length c.bytes-bytes.result.now) = ap (λ (n : ℕ). (length c.bytes-bytes.result.now + 2 * n - 2) / n) (c.from-block.ensures ∙ c.block_bytes.ensures.value) in
     let refusal : write_refusal e.geometry.block_bytes e.position (appended_blocks e.geometry.block_bytes (length c.bytes-bytes.result.now)) (length file + length c.bytes-bytes.result.now) ≡ None =
-        refusal_by e.geometry.block_bytes e.position ((length c.bytes-bytes.result.now + 2 * c.from-block.result - 2) / c.from-block.result) _ (c.from.result + c.from-2.result) (length file + length c.bytes-bytes.result.now) c.refusal.result (None) same (omega (arith, c.from.ensures, c.from-2.ensures, at_end)) c.refusal.ensures c.in_default.is in
+    refusal_by e.geometry.block_bytes e.position ((length c.bytes-bytes.result.now + 2 * c.from-block.result - 2) / c.from-block.result) _ (c.from.result + c.from-2.result) (length file + length c.bytes-bytes.result.now) c.refusal.result (None) same (omega (arith, c.from.ensures, c.from-2.ensures, at_end)) c.refusal.ensures c.in_default.is in
     let writes : Writes e c.write.new.self chain file c.size-at.result c.bytes-bytes.result.now (None) = subst (λ (o : Option Area). Writes e c.write.new.self chain file c.size-at.result c.bytes-bytes.result.now o) c.in-None.is (c.write.ensures chain file runs) in
     subst (λ (b : List ℕ). Serves e c.write.new.self chain file (Append b) (Appended c.size-at.result (length c.bytes-bytes.result.now))) c.bytes-bytes.ensures
     (serve_append e c.write.new.self chain file c.size-at.result c.bytes-bytes.result.now (None) at_end some refusal writes)
@@ -44,7 +42,7 @@ returns-in-Some-write c = λ chain file runs.
     let at_end : c.size-at.result ≡ length file = c.size-at.ensures ∙ runs.fits.size in
     let same : (length c.bytes-bytes.result.now + 2 * c.from-block.result - 2) / c.from-block.result ≡ appended_blocks e.geometry.block_bytes (length c.bytes-bytes.result.now) = ap (λ (n : ℕ). (length c.bytes-bytes.result.now + 2 * n - 2) / n) (c.from-block.ensures ∙ c.block_bytes.ensures.value) in
     let refusal : write_refusal e.geometry.block_bytes e.position (appended_blocks e.geometry.block_bytes (length c.bytes-bytes.result.now)) (length file + length c.bytes-bytes.result.now) ≡ None =
-        refusal_by e.geometry.block_bytes e.position ((length c.bytes-bytes.result.now + 2 * c.from-block.result - 2) / c.from-block.result) _ (c.from.result + c.from-2.result) (length file + length c.bytes-bytes.result.now) c.refusal.result (None) same (omega (arith, c.from.ensures, c.from-2.ensures, at_end)) c.refusal.ensures c.in_default.is in
+    refusal_by e.geometry.block_bytes e.position ((length c.bytes-bytes.result.now + 2 * c.from-block.result - 2) / c.from-block.result) _ (c.from.result + c.from-2.result) (length file + length c.bytes-bytes.result.now) c.refusal.result (None) same (omega (arith, c.from.ensures, c.from-2.ensures, at_end)) c.refusal.ensures c.in_default.is in
     let writes : Writes e c.write.new.self chain file c.size-at.result c.bytes-bytes.result.now (Some c.in-Some-write.area) = subst (λ (o : Option Area). Writes e c.write.new.self chain file c.size-at.result c.bytes-bytes.result.now o) c.in-Some-write.is (c.write.ensures chain file runs) in
     subst (λ (b : List ℕ). Serves e c.write.new.self chain file (Append b) (NotWritten (NoSpace c.in-Some-write.area))) c.bytes-bytes.ensures
     (serve_append e c.write.new.self chain file c.size-at.result c.bytes-bytes.result.now (Some c.in-Some-write.area) at_end some refusal writes)

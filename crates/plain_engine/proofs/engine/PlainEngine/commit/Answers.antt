@@ -1,12 +1,11 @@
-use Rattle.std.proofs.Common.{◌≡◌, ◌≢◌, ◌∙◌, ◌≤◌, ◌<◌, ◌+◌, ◌*◌, ℕ, List, take, drop, set, ◌++◌, length, ap, sym, subst, arith, IsTrue}
+use Rattle.std.proofs.Common.{◌≡◌, ◌∙◌, ◌<◌, ◌+◌, ◌*◌, ℕ, List, take, drop, set, ◌++◌, length, ap, sym, subst, arith}
 use Rattle.std.proofs.Math.Logic.{∥∥₁_map}
-use Rattle.log_image.specs.Image.{Shape}
 use Rattle.chain_reader.specs.Tables.{shape_by}
 use Rattle.plain_engine.specs.Running.{Runs, RunsOnSome}
 use Rattle.plain_engine.specs.declared.engine.PlainEngine.{PlainEngine}
 use Rattle.plain_engine.proofs.BoundsLemmas.{Bounds, bounds}
 use Rattle.plain_engine.proofs.EngineLemmas.{lent_back}
-use Rattle.plain_engine.proofs.CommitLemmas.{entry_is, commit_by, commit_head, slot_place}
+use Rattle.plain_engine.proofs.CommitLemmas.{commit_by, commit_head, slot_place}
 use Rattle.plain_engine.proofs.engine.PlainEngine.commit.Goals as goal
 
 -- the bounds of an engine
@@ -30,21 +29,23 @@ pub invariant_of-self : goal.invariant_of-self
 invariant_of-self c =
     let e = c.args.self.now in
     let back : take e.taken.len (c.mark_run.new.taken ++ drop (length c.mark_run.new.taken) e.taken.items) ≡ c.mark_run.new.taken =
-        lent_back c.mark_run.new.taken e.taken.items e.taken.len (c.mark_run.auto.taken ∙ ap length c.deref_mut.ensures.value) e.taken.ok.0 in
-    record { kept = subst (λ (l : List ℕ). ∥ RunsOnSome (shape_by e.geometry) (set e.words.items (e.tail_block * c.q-count.result + e.tail_slot) c.encode-word.result) l c.take_in.new.table (e.position + 1) e.tail_block (e.tail_slot + 1) (c.args.run.block + c.args.run.count) ∥₁) (sym back)
-        (∥∥₁_map e.kept (λ (some : RunsOnSome (shape_by e.geometry) e.words.items e.taken.items e.table e.position e.tail_block e.tail_slot e.first_clear). record {
-          chain = some.chain;
-          file = (c.requires.entry some.chain some.file some.runs).0;
-          runs = commit_by (shape_by e.geometry) e.words.items c.deref.result.now e.taken.items c.deref_mut.result.now c.mark_run.new.taken e.table c.take_in.new.table e.position e.tail_block e.tail_slot e.first_clear some.chain some.file (c.requires.entry some.chain some.file some.runs).0
-              c.encode-word.result c.args.run.virt c.args.run.block c.args.run.count c.args.leftover c.q-count.result some.runs c.requires.slot c.requires.room c.encode-word.ensures.small_blocks.0 c.encode-word.ensures.small_blocks.1 c.requires.some c.requires.few c.requires.left
-              c.encode-word.ensures.same c.requires.fitting (c.requires.entry some.chain some.file some.runs).1 c.q-count.ensures c.deref.ensures.value c.deref_mut.ensures.value c.mark_run.auto.taken c.mark_run.ensures c.take_in.ensures.map c.take_in.ensures.size (c.requires.least some.chain some.file some.runs);
-        })) }
+    lent_back c.mark_run.new.taken e.taken.items e.taken.len (c.mark_run.auto.taken ∙ ap length c.deref_mut.ensures.value) e.taken.ok.0 in
+    record {
+      kept = subst (λ (l : List ℕ). ∥ RunsOnSome (shape_by e.geometry) (set e.words.items (e.tail_block * c.q-count.result + e.tail_slot) c.encode-word.result) l c.take_in.new.table (e.position + 1) e.tail_block (e.tail_slot + 1) (c.args.run.block + c.args.run.count) ∥₁) (sym back)
+          (∥∥₁_map e.kept (λ (some : RunsOnSome (shape_by e.geometry) e.words.items e.taken.items e.table e.position e.tail_block e.tail_slot e.first_clear). record {
+            chain = some.chain;
+            file = (c.requires.entry some.chain some.file some.runs).0;
+            runs = commit_by (shape_by e.geometry) e.words.items c.deref.result.now e.taken.items c.deref_mut.result.now c.mark_run.new.taken e.table c.take_in.new.table e.position e.tail_block e.tail_slot e.first_clear some.chain some.file (c.requires.entry some.chain some.file some.runs).0
+                c.encode-word.result c.args.run.virt c.args.run.block c.args.run.count c.args.leftover c.q-count.result some.runs c.requires.slot c.requires.room c.encode-word.ensures.small_blocks.0 c.encode-word.ensures.small_blocks.1 c.requires.some c.requires.few c.requires.left
+                c.encode-word.ensures.same c.requires.fitting (c.requires.entry some.chain some.file some.runs).1 c.q-count.ensures c.deref.ensures.value c.deref_mut.ensures.value c.mark_run.auto.taken c.mark_run.ensures c.take_in.ensures.map c.take_in.ensures.size (c.requires.least some.chain some.file some.runs);
+          }));
+    }
 
 pub returns-clause-runs : goal.returns-clause-runs
 returns-clause-runs c = λ chain file new_file runs entry.
     let e = c.args.self.now in
     let back : take e.taken.len (c.mark_run.new.taken ++ drop (length c.mark_run.new.taken) e.taken.items) ≡ c.mark_run.new.taken =
-        lent_back c.mark_run.new.taken e.taken.items e.taken.len (c.mark_run.auto.taken ∙ ap length c.deref_mut.ensures.value) e.taken.ok.0 in
+    lent_back c.mark_run.new.taken e.taken.items e.taken.len (c.mark_run.auto.taken ∙ ap length c.deref_mut.ensures.value) e.taken.ok.0 in
     subst (λ (l : List ℕ). Runs (shape_by e.geometry) (set e.words.items (e.tail_block * c.q-count.result + e.tail_slot) c.encode-word.result) l c.take_in.new.table (e.position + 1) e.tail_block (e.tail_slot + 1) (c.args.run.block + c.args.run.count) chain new_file) (sym back)
     (commit_by (shape_by e.geometry) e.words.items c.deref.result.now e.taken.items c.deref_mut.result.now c.mark_run.new.taken e.table c.take_in.new.table e.position e.tail_block e.tail_slot e.first_clear chain file new_file
     c.encode-word.result c.args.run.virt c.args.run.block c.args.run.count c.args.leftover c.q-count.result runs c.requires.slot c.requires.room c.encode-word.ensures.small_blocks.0 c.encode-word.ensures.small_blocks.1 c.requires.some c.requires.few c.requires.left

@@ -1,9 +1,9 @@
-use Rattle.std.proofs.Common.{◌≡◌, ◌≢◌, ◌∙◌, ◌≤◌, ◌<◌, ◌+◌, ◌*◌, ℕ, List, [], ◌∷◌, take, drop, set, ◌++◌, length, ap, sym, subst, refl, arith, ◌==◌, if◌then◌else◌}
+use Rattle.std.proofs.Common.{◌≡◌, ◌∙◌, ◌<◌, ◌+◌, ◌*◌, ℕ, List, [], ◌∷◌, take, drop, set, ◌++◌, length, ap, sym, subst, refl, arith, ◌==◌, if◌then◌else◌}
 use Rattle.std.proofs.Math.Logic.{∥∥₁_map}
-use Rattle.log_image.specs.Image.{Shape, total}
+use Rattle.log_image.specs.Image.{total}
 use Rattle.log_image.specs.Taken.{bit_of}
 use Rattle.chain_reader.specs.Tables.{shape_by}
-use Rattle.plain_engine.specs.Clear.{AllTaken, IsFirstClear}
+use Rattle.plain_engine.specs.Clear.{AllTaken}
 use Rattle.plain_engine.specs.Running.{Runs, RunsOnSome}
 use Rattle.plain_engine.specs.declared.engine.PlainEngine.{PlainEngine}
 use Rattle.plain_engine.proofs.BoundsLemmas.{Bounds, bounds, data_inside}
@@ -54,36 +54,38 @@ pub invariant_of-self : goal.invariant_of-self
 invariant_of-self c =
     let e = c.args.self.now in
     let stored : Stored (shape_by e.geometry) e.words.items c.store_fresh.new.words e.taken.items e.position c.in-Some.next =
-        stored_by (shape_by e.geometry) e.words.items c.deref_mut.result.now c.store_fresh.new.words e.taken.items c.deref.result.now e.table e.position e.tail_block e.tail_slot c.in-Some.next c.q-count.result c.first-first.result c.first-end.result
-        (in_bounds e) c.deref_mut.ensures.value c.deref.ensures.value c.q-count.ensures c.first-first.ensures c.first-end.ensures c.in-Some.ensures c.store_fresh.auto.words c.store_fresh.ensures.stored c.store_fresh.ensures.others in
+    stored_by (shape_by e.geometry) e.words.items c.deref_mut.result.now c.store_fresh.new.words e.taken.items c.deref.result.now e.table e.position e.tail_block e.tail_slot c.in-Some.next c.q-count.result c.first-first.result c.first-end.result
+    (in_bounds e) c.deref_mut.ensures.value c.deref.ensures.value c.q-count.ensures c.first-first.ensures c.first-end.ensures c.in-Some.ensures c.store_fresh.auto.words c.store_fresh.ensures.stored c.store_fresh.ensures.others in
     let back : take e.words.len (c.store_fresh.new.words ++ drop (length c.store_fresh.new.words) e.words.items) ≡ c.store_fresh.new.words =
-        lent_back c.store_fresh.new.words e.words.items e.words.len (c.store_fresh.auto.words ∙ ap length c.deref_mut.ensures.value) e.words.ok.0 in
+    lent_back c.store_fresh.new.words e.words.items e.words.len (c.store_fresh.auto.words ∙ ap length c.deref_mut.ensures.value) e.words.ok.0 in
     let marked : length c.mark.new.taken ≡ length e.taken.items = c.mark.auto.taken ∙ ap length c.deref_mut-2.ensures.value in
     let back_taken : take e.taken.len (c.mark.new.taken ++ drop (length c.mark.new.taken) e.taken.items) ≡ c.mark.new.taken =
-        lent_back c.mark.new.taken e.taken.items e.taken.len marked e.taken.ok.0 in
+    lent_back c.mark.new.taken e.taken.items e.taken.len marked e.taken.ok.0 in
     let marks = subst (λ (l : List ℕ). (other : ℕ) → bit_of c.mark.new.taken other ≡ (if other == c.in-Some.next then 1 else bit_of l other)) c.deref_mut-2.ensures.value c.mark.ensures in
     let closes : e.tail_slot ≡ c.q-count.result = omega (arith, c.if-self-count.false) in
-    record { kept = ∥∥₁_map e.kept (λ (some : RunsOnSome (shape_by e.geometry) e.words.items e.taken.items e.table e.position e.tail_block e.tail_slot e.first_clear). record {
-      chain = some.chain ++ c.in-Some.next ∷ [];
-      file = some.file;
-      runs = grow_by (shape_by e.geometry) e.words.items c.store_fresh.new.words (take e.words.len (c.store_fresh.new.words ++ drop (length c.store_fresh.new.words) e.words.items)) e.taken.items c.mark.new.taken (take e.taken.len (c.mark.new.taken ++ drop (length c.mark.new.taken) e.taken.items)) e.table e.position e.tail_block e.tail_slot e.first_clear c.in-Some.next c.q-count.result some.chain some.file some.runs closes c.q-count.ensures stored back back_taken marked marks;
-    }) }
+    record {
+      kept = ∥∥₁_map e.kept (λ (some : RunsOnSome (shape_by e.geometry) e.words.items e.taken.items e.table e.position e.tail_block e.tail_slot e.first_clear). record {
+        chain = some.chain ++ c.in-Some.next ∷ [];
+        file = some.file;
+        runs = grow_by (shape_by e.geometry) e.words.items c.store_fresh.new.words (take e.words.len (c.store_fresh.new.words ++ drop (length c.store_fresh.new.words) e.words.items)) e.taken.items c.mark.new.taken (take e.taken.len (c.mark.new.taken ++ drop (length c.mark.new.taken) e.taken.items)) e.table e.position e.tail_block e.tail_slot e.first_clear c.in-Some.next c.q-count.result some.chain some.file some.runs closes c.q-count.ensures stored back back_taken marked marks;
+      });
+    }
 
 pub returns-clause-slot : goal.returns-clause-slot
 returns-clause-slot c = λ is_true chain file runs.
     let e = c.args.self.now in
     let stored : Stored (shape_by e.geometry) e.words.items c.store_fresh.new.words e.taken.items e.position c.in-Some.next =
-        stored_by (shape_by e.geometry) e.words.items c.deref_mut.result.now c.store_fresh.new.words e.taken.items c.deref.result.now e.table e.position e.tail_block e.tail_slot c.in-Some.next c.q-count.result c.first-first.result c.first-end.result
-        (in_bounds e) c.deref_mut.ensures.value c.deref.ensures.value c.q-count.ensures c.first-first.ensures c.first-end.ensures c.in-Some.ensures c.store_fresh.auto.words c.store_fresh.ensures.stored c.store_fresh.ensures.others in
+    stored_by (shape_by e.geometry) e.words.items c.deref_mut.result.now c.store_fresh.new.words e.taken.items c.deref.result.now e.table e.position e.tail_block e.tail_slot c.in-Some.next c.q-count.result c.first-first.result c.first-end.result
+    (in_bounds e) c.deref_mut.ensures.value c.deref.ensures.value c.q-count.ensures c.first-first.ensures c.first-end.ensures c.in-Some.ensures c.store_fresh.auto.words c.store_fresh.ensures.stored c.store_fresh.ensures.others in
     let back : take e.words.len (c.store_fresh.new.words ++ drop (length c.store_fresh.new.words) e.words.items) ≡ c.store_fresh.new.words =
-        lent_back c.store_fresh.new.words e.words.items e.words.len (c.store_fresh.auto.words ∙ ap length c.deref_mut.ensures.value) e.words.ok.0 in
+    lent_back c.store_fresh.new.words e.words.items e.words.len (c.store_fresh.auto.words ∙ ap length c.deref_mut.ensures.value) e.words.ok.0 in
     let marked : length c.mark.new.taken ≡ length e.taken.items = c.mark.auto.taken ∙ ap length c.deref_mut-2.ensures.value in
     let back_taken : take e.taken.len (c.mark.new.taken ++ drop (length c.mark.new.taken) e.taken.items) ≡ c.mark.new.taken =
-        lent_back c.mark.new.taken e.taken.items e.taken.len marked e.taken.ok.0 in
+    lent_back c.mark.new.taken e.taken.items e.taken.len marked e.taken.ok.0 in
     let marks = subst (λ (l : List ℕ). (other : ℕ) → bit_of c.mark.new.taken other ≡ (if other == c.in-Some.next then 1 else bit_of l other)) c.deref_mut-2.ensures.value c.mark.ensures in
     let closes : e.tail_slot ≡ c.q-count.result = omega (arith, c.if-self-count.false) in
     let new_runs : Runs (shape_by e.geometry) (set (take e.words.len (c.store_fresh.new.words ++ drop (length c.store_fresh.new.words) e.words.items)) (e.tail_block * c.q-count.result) c.in-Some.next) (take e.taken.len (c.mark.new.taken ++ drop (length c.mark.new.taken) e.taken.items)) e.table e.position c.in-Some.next 3 e.first_clear (chain ++ c.in-Some.next ∷ []) file =
-        grow_by (shape_by e.geometry) e.words.items c.store_fresh.new.words (take e.words.len (c.store_fresh.new.words ++ drop (length c.store_fresh.new.words) e.words.items)) e.taken.items c.mark.new.taken (take e.taken.len (c.mark.new.taken ++ drop (length c.mark.new.taken) e.taken.items)) e.table e.position e.tail_block e.tail_slot e.first_clear c.in-Some.next c.q-count.result chain file runs closes c.q-count.ensures stored back back_taken marked marks in
+    grow_by (shape_by e.geometry) e.words.items c.store_fresh.new.words (take e.words.len (c.store_fresh.new.words ++ drop (length c.store_fresh.new.words) e.words.items)) e.taken.items c.mark.new.taken (take e.taken.len (c.mark.new.taken ++ drop (length c.mark.new.taken) e.taken.items)) e.table e.position e.tail_block e.tail_slot e.first_clear c.in-Some.next c.q-count.result chain file runs closes c.q-count.ensures stored back back_taken marked marks in
     record {
       longer = chain ++ c.in-Some.next ∷ [];
       runs = new_runs;
@@ -96,13 +98,13 @@ pub returns-clause-same : goal.returns-clause-same
 returns-clause-same c =
     let e = c.args.self.now in
     let stored : Stored (shape_by e.geometry) e.words.items c.store_fresh.new.words e.taken.items e.position c.in-Some.next =
-        stored_by (shape_by e.geometry) e.words.items c.deref_mut.result.now c.store_fresh.new.words e.taken.items c.deref.result.now e.table e.position e.tail_block e.tail_slot c.in-Some.next c.q-count.result c.first-first.result c.first-end.result
-        (in_bounds e) c.deref_mut.ensures.value c.deref.ensures.value c.q-count.ensures c.first-first.ensures c.first-end.ensures c.in-Some.ensures c.store_fresh.auto.words c.store_fresh.ensures.stored c.store_fresh.ensures.others in
+    stored_by (shape_by e.geometry) e.words.items c.deref_mut.result.now c.store_fresh.new.words e.taken.items c.deref.result.now e.table e.position e.tail_block e.tail_slot c.in-Some.next c.q-count.result c.first-first.result c.first-end.result
+    (in_bounds e) c.deref_mut.ensures.value c.deref.ensures.value c.q-count.ensures c.first-first.ensures c.first-end.ensures c.in-Some.ensures c.store_fresh.auto.words c.store_fresh.ensures.stored c.store_fresh.ensures.others in
     let back : take e.words.len (c.store_fresh.new.words ++ drop (length c.store_fresh.new.words) e.words.items) ≡ c.store_fresh.new.words =
-        lent_back c.store_fresh.new.words e.words.items e.words.len (c.store_fresh.auto.words ∙ ap length c.deref_mut.ensures.value) e.words.ok.0 in
+    lent_back c.store_fresh.new.words e.words.items e.words.len (c.store_fresh.auto.words ∙ ap length c.deref_mut.ensures.value) e.words.ok.0 in
     let marked : length c.mark.new.taken ≡ length e.taken.items = c.mark.auto.taken ∙ ap length c.deref_mut-2.ensures.value in
     let back_taken : take e.taken.len (c.mark.new.taken ++ drop (length c.mark.new.taken) e.taken.items) ≡ c.mark.new.taken =
-        lent_back c.mark.new.taken e.taken.items e.taken.len marked e.taken.ok.0 in
+    lent_back c.mark.new.taken e.taken.items e.taken.len marked e.taken.ok.0 in
     let marks = subst (λ (l : List ℕ). (other : ℕ) → bit_of c.mark.new.taken other ≡ (if other == c.in-Some.next then 1 else bit_of l other)) c.deref_mut-2.ensures.value c.mark.ensures in
     let closes : e.tail_slot ≡ c.q-count.result = omega (arith, c.if-self-count.false) in
     record {

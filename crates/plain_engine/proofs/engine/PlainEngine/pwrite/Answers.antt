@@ -1,17 +1,15 @@
-use Rattle.std.proofs.Common.{◌≡◌, ◌∙◌, ◌<◌, ◌≤◌, ◌+◌, ◌-◌, ◌*◌, ◌/◌, ℕ, List, [], Option, Some, None, length, ap, sym, subst, refl, arith}
+use Rattle.std.proofs.Common.{◌≡◌, ◌∙◌, ◌<◌, ◌+◌, ℕ, List, Option, Some, None, length, ap, sym, subst, arith}
 use Rattle.std.proofs.lemmas.Grind.{common_steps}
-use Rattle.log_entry.specs.Legal.{write_refusal, touched_blocks, appended_blocks}
+use Rattle.log_entry.specs.Legal.{write_refusal, touched_blocks}
 use Rattle.log_entry.specs.declared.shapes.Area.{Area}
-use Rattle.log_entry.specs.declared.calls.Op.TheVariants.{Pwrite, Append}
-use Rattle.log_entry.specs.declared.calls.WriteRefusal.{WriteRefusal}
+use Rattle.log_entry.specs.declared.calls.Op.TheVariants.{Pwrite}
 use Rattle.log_entry.specs.declared.calls.WriteRefusal.TheVariants.{NoSpace}
-use Rattle.log_entry.specs.declared.calls.Reply.TheVariants.{Wrote, Appended, NotWritten}
+use Rattle.log_entry.specs.declared.calls.Reply.TheVariants.{Wrote, NotWritten}
 use Rattle.chain_reader.specs.Tables.{shape_by}
 use Rattle.plain_engine.specs.Engine.{Writes}
 use Rattle.plain_engine.specs.Serving.{Serves}
 use Rattle.plain_engine.proofs.BoundsLemmas.{bounds}
-use Rattle.plain_engine.proofs.ReadLemmas.{some_bytes}
-use Rattle.plain_engine.proofs.ServeLemmas.{IsAllowed, allowed_by, serve_pwrite, serve_append, refuse_pwrite, refuse_append, append_nothing, touched_appended, refusal_by}
+use Rattle.plain_engine.proofs.ServeLemmas.{IsAllowed, allowed_by, serve_pwrite, refuse_pwrite, refusal_by}
 use Rattle.plain_engine.proofs.engine.PlainEngine.pwrite.Goals as goal
 
 pub returns-in-Some : goal.returns-in-Some
@@ -21,7 +19,7 @@ returns-in-Some c = λ chain file runs.
     let some : 0 < length c.bytes-bytes.result.now = grind (arith, common_steps) in
     let same : c.touched-blocks.result ≡ touched_blocks e.geometry.block_bytes c.args.offset (length c.bytes-bytes.result.now) = c.touched-blocks.ensures ∙ ap (λ (n : ℕ). touched_blocks n c.args.offset (length c.bytes-bytes.result.now)) c.block_bytes.ensures.value in
     let refusal : write_refusal e.geometry.block_bytes e.position (touched_blocks e.geometry.block_bytes c.args.offset (length c.bytes-bytes.result.now)) (c.args.offset + length c.bytes-bytes.result.now) ≡ Some c.in-Some.why =
-        refusal_by e.geometry.block_bytes e.position c.touched-blocks.result _ (c.from.result + c.from-2.result) (c.args.offset + length c.bytes-bytes.result.now) c.refusal.result (Some c.in-Some.why) same (omega (arith, c.from.ensures, c.from-2.ensures)) c.refusal.ensures c.in-Some.is in
+    refusal_by e.geometry.block_bytes e.position c.touched-blocks.result _ (c.from.result + c.from-2.result) (c.args.offset + length c.bytes-bytes.result.now) c.refusal.result (Some c.in-Some.why) same (omega (arith, c.from.ensures, c.from-2.ensures)) c.refusal.ensures c.in-Some.is in
     subst (λ (b : List ℕ). Serves e e chain file (Pwrite c.args.offset b) (NotWritten c.in-Some.why)) c.bytes-bytes.ensures
     (refuse_pwrite e chain file c.args.offset c.bytes-bytes.result.now c.in-Some.why some refusal runs)
 
@@ -32,7 +30,7 @@ returns-in-None c = λ chain file runs.
     let some : 0 < length c.bytes-bytes.result.now = grind (arith, common_steps) in
     let same : c.touched-blocks.result ≡ touched_blocks e.geometry.block_bytes c.args.offset (length c.bytes-bytes.result.now) = c.touched-blocks.ensures ∙ ap (λ (n : ℕ). touched_blocks n c.args.offset (length c.bytes-bytes.result.now)) c.block_bytes.ensures.value in
     let refusal : write_refusal e.geometry.block_bytes e.position (touched_blocks e.geometry.block_bytes c.args.offset (length c.bytes-bytes.result.now)) (c.args.offset + length c.bytes-bytes.result.now) ≡ None =
-        refusal_by e.geometry.block_bytes e.position c.touched-blocks.result _ (c.from.result + c.from-2.result) (c.args.offset + length c.bytes-bytes.result.now) c.refusal.result (None) same (omega (arith, c.from.ensures, c.from-2.ensures)) c.refusal.ensures c.in_default.is in
+    refusal_by e.geometry.block_bytes e.position c.touched-blocks.result _ (c.from.result + c.from-2.result) (c.args.offset + length c.bytes-bytes.result.now) c.refusal.result (None) same (omega (arith, c.from.ensures, c.from-2.ensures)) c.refusal.ensures c.in_default.is in
     let writes : Writes e c.write.new.self chain file c.args.offset c.bytes-bytes.result.now (None) = subst (λ (o : Option Area). Writes e c.write.new.self chain file c.args.offset c.bytes-bytes.result.now o) c.in-None.is (c.write.ensures chain file runs) in
     subst (λ (b : List ℕ). Serves e c.write.new.self chain file (Pwrite c.args.offset b) (Wrote (length c.bytes-bytes.result.now))) c.bytes-bytes.ensures
     (serve_pwrite e c.write.new.self chain file c.args.offset c.bytes-bytes.result.now (None) some refusal writes)
@@ -44,7 +42,7 @@ returns-in-Some-write c = λ chain file runs.
     let some : 0 < length c.bytes-bytes.result.now = grind (arith, common_steps) in
     let same : c.touched-blocks.result ≡ touched_blocks e.geometry.block_bytes c.args.offset (length c.bytes-bytes.result.now) = c.touched-blocks.ensures ∙ ap (λ (n : ℕ). touched_blocks n c.args.offset (length c.bytes-bytes.result.now)) c.block_bytes.ensures.value in
     let refusal : write_refusal e.geometry.block_bytes e.position (touched_blocks e.geometry.block_bytes c.args.offset (length c.bytes-bytes.result.now)) (c.args.offset + length c.bytes-bytes.result.now) ≡ None =
-        refusal_by e.geometry.block_bytes e.position c.touched-blocks.result _ (c.from.result + c.from-2.result) (c.args.offset + length c.bytes-bytes.result.now) c.refusal.result (None) same (omega (arith, c.from.ensures, c.from-2.ensures)) c.refusal.ensures c.in_default.is in
+    refusal_by e.geometry.block_bytes e.position c.touched-blocks.result _ (c.from.result + c.from-2.result) (c.args.offset + length c.bytes-bytes.result.now) c.refusal.result (None) same (omega (arith, c.from.ensures, c.from-2.ensures)) c.refusal.ensures c.in_default.is in
     let writes : Writes e c.write.new.self chain file c.args.offset c.bytes-bytes.result.now (Some c.in-Some-write.area) = subst (λ (o : Option Area). Writes e c.write.new.self chain file c.args.offset c.bytes-bytes.result.now o) c.in-Some-write.is (c.write.ensures chain file runs) in
     subst (λ (b : List ℕ). Serves e c.write.new.self chain file (Pwrite c.args.offset b) (NotWritten (NoSpace c.in-Some-write.area))) c.bytes-bytes.ensures
     (serve_pwrite e c.write.new.self chain file c.args.offset c.bytes-bytes.result.now (Some c.in-Some-write.area) some refusal writes)

@@ -1,5 +1,4 @@
-use Rattle.std.proofs.Common.{◌≡◌, ◌∙◌, ◌+◌, ◌-◌, ◌*◌, ◌/◌, ◌%◌, ◌<◌, ◌≤◌, ℕ, List, ◌++◌, take, drop, min, length, length-append, length-take, length-drop, get_or, ap, refl, arith}
-use Rattle.byteorder.specs.Endian.{little_bytes}
+use Rattle.std.proofs.Common.{◌≡◌, ◌∙◌, ◌+◌, ◌-◌, ◌%◌, ◌≤◌, ℕ, List, ◌++◌, take, drop, length, length-append, length-take, length-drop, get_or, ap, refl, arith}
 use Rattle.plain_engine.proofs.ReadLemmas.{read_is, read_word}
 use Rattle.plain_engine.proofs.engine.PlainEngine.read.Goals as goal
 
@@ -10,7 +9,7 @@ loop-place-preserved c =
     let small : c.loop-place.place % 8 + c.min-upto.result ≤ 8 = omega (arith, c.min-upto.ensures) in
     let upto : c.loop-place.place % 8 + c.min-upto.result - c.loop-place.place % 8 ≡ c.min-upto.result = omega arith in
     let piece : length (take (c.loop-place.place % 8 + c.min-upto.result - c.loop-place.place % 8) (drop (c.loop-place.place % 8) c.write_u64.new.buf)) ≡ c.min-upto.result =
-        length-take (c.loop-place.place % 8 + c.min-upto.result - c.loop-place.place % 8) (drop (c.loop-place.place % 8) c.write_u64.new.buf) ∙ omega (arith, length-drop (c.loop-place.place % 8) c.write_u64.new.buf, eight, small, upto) in
+    length-take (c.loop-place.place % 8 + c.min-upto.result - c.loop-place.place % 8) (drop (c.loop-place.place % 8) c.write_u64.new.buf) ∙ omega (arith, length-drop (c.loop-place.place % 8) c.write_u64.new.buf, eight, small, upto) in
     record {
       low = omega (arith, c.loop-place.invariant.low);
       high = omega (arith, c.min-upto.ensures, c.loop-place-test.true);

@@ -1,4 +1,4 @@
-use Rattle.std.proofs.Common.{◌≡◌, ◌∙◌, ◌<◌, ◌≤◌, ◌+◌, ◌*◌, ◌/◌, ◌%◌, ℕ, List, Some, inl, inr, length, get_or, ap, sym, arith}
+use Rattle.std.proofs.Common.{◌≡◌, ◌∙◌, ◌<◌, ◌≤◌, ◌+◌, ◌*◌, ◌/◌, ◌%◌, ℕ, Some, inl, inr, length, get_or, ap, sym, arith}
 use Rattle.std.proofs.lemmas.Grind.{common_steps}
 use Rattle.log_image.specs.Image.{words_in, total}
 use Rattle.image_steps.proofs.BlockLemmas.{block_inside}
@@ -28,7 +28,7 @@ returns-in-Some c = λ chain file runs k small.
     let b = in_bounds e in
     let found : block_at e.table (c.args.index / c.from-count.result) ≡ Some c.in-Some.block = sym c.block.ensures ∙ c.in-Some.is in
     let whole : c.in-Some.block * words_in (shape_by e.geometry) + words_in (shape_by e.geometry) ≤ length e.words.items =
-        omega (arith, b.whole, block_inside (words_in (shape_by e.geometry)) c.in-Some.block (total (shape_by e.geometry)) (data_inside (shape_by e.geometry) c.in-Some.block (b.held (c.args.index / c.from-count.result) c.in-Some.block found).0)) in
+    omega (arith, b.whole, block_inside (words_in (shape_by e.geometry)) c.in-Some.block (total (shape_by e.geometry)) (data_inside (shape_by e.geometry) c.in-Some.block (b.held (c.args.index / c.from-count.result) c.in-Some.block found).0)) in
     let here : c.index.result.now ≡ get_or e.words.items (c.in-Some.block * c.from-count.result + c.args.index % c.from-count.result) 0 = grind (arith, common_steps, c.index.ensures) in
     ap (λ (w : ℕ). byte_of w k) here
     ∙ word_present (shape_by e.geometry) e.words.items e.taken.items e.table e.position e.tail_block e.tail_slot e.first_clear chain file runs (eight_words e.geometry.block_bytes e.geometry.block_allowed) (omega (arith, b.long))
@@ -42,7 +42,6 @@ index-requires c =
     let count : c.from-count.result ≡ words_in (shape_by e.geometry) = c.from-count.ensures ∙ c.q.ensures in
     let rest : c.args.index % c.from-count.result < c.from-count.result = mod-lt c.args.index (omega (arith, count, b.long)) in
     omega (arith, rest, count, ap (λ (n : ℕ). c.in-Some.block * n) count, b.whole, e.words.ok.0, block_inside (words_in (shape_by e.geometry)) c.in-Some.block (total (shape_by e.geometry)) (data_inside (shape_by e.geometry) c.in-Some.block (b.held (c.args.index / c.from-count.result) c.in-Some.block found).0))
-
 
 pub returns-in-None : goal.returns-in-None
 returns-in-None c = λ chain file runs k small.

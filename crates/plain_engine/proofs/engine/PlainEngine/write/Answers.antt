@@ -1,4 +1,4 @@
-use Rattle.std.proofs.Common.{◌≡◌, ◌∙◌, ◌≤◌, ◌<◌, ◌+◌, ◌-◌, ◌*◌, ◌/◌, ℕ, zero, suc, Bool, true, false, List, length, ap, sym, subst, refl, arith}
+use Rattle.std.proofs.Common.{◌≡◌, ◌∙◌, ◌≤◌, ◌+◌, ◌-◌, ◌*◌, ◌/◌, ℕ, zero, suc, true, false, List, length, ap, sym, subst, refl, arith}
 use Rattle.log_entry.specs.ByteFile.{write}
 use Rattle.log_entry.specs.Legal.{touched_blocks}
 use Rattle.log_image.specs.Image.{Shape}
@@ -6,13 +6,12 @@ use Rattle.log_image.specs.Taken.{bit_of}
 use Rattle.image_steps.specs.Steps.{fits_log}
 use Rattle.chain_reader.specs.Tables.{shape_by}
 use Rattle.plain_engine.specs.Clear.{IsLeastRun}
-use Rattle.plain_engine.specs.Running.{Fits, Runs}
 use Rattle.plain_engine.specs.Space.{lacks_data}
 use Rattle.plain_engine.specs.Engine.{Running, HasSlot, LacksSlot, run_word}
 use Rattle.plain_engine.specs.declared.engine.PlainEngine.{PlainEngine}
 use Rattle.plain_engine.proofs.BoundsLemmas.{header_bit}
 use Rattle.plain_engine.proofs.WriteLemmas.{IsRunFor, run_for, run_fits}
-use Rattle.plain_engine.proofs.SpaceLemmas.{Cursor, run_enough, no_run_lacks, lacks_log_same, lacking_data, lacking_log, lacking_none}
+use Rattle.plain_engine.proofs.SpaceLemmas.{Cursor, run_enough, no_run_lacks, lacking_data, lacking_log, lacking_none}
 use Rattle.plain_engine.proofs.WriteSteps.{IsWay, way_entry, way_least, shape_slotted, log_lack}
 use Rattle.plain_engine.proofs.engine.PlainEngine.write.Goals as goal
 
@@ -52,11 +51,11 @@ returns-then-not-make_slot c = λ chain file runs.
     let e = c.args.self.now in
     let touch : c.touched-count.result ≡ touched_blocks e.geometry.block_bytes c.args.offset (length c.args.bytes.now) = c.touched-count.ensures ∙ ap (λ (n : ℕ). touched_blocks n c.args.offset (length c.args.bytes.now)) c.block_bytes-block_bytes.ensures.value in
     let least : IsLeastRun e.taken.items e.first_clear (1 + e.geometry.data_blocks) c.touched-count.result c.in-Some.block =
-        subst (λ (l : List ℕ). IsLeastRun l e.first_clear (1 + e.geometry.data_blocks) c.touched-count.result c.in-Some.block) c.deref.ensures.value
-        (subst (λ (n : ℕ). IsLeastRun c.deref.result.now e.first_clear n c.touched-count.result c.in-Some.block) c.first-end.ensures c.in-Some.ensures) in
+    subst (λ (l : List ℕ). IsLeastRun l e.first_clear (1 + e.geometry.data_blocks) c.touched-count.result c.in-Some.block) c.deref.ensures.value
+    (subst (λ (n : ℕ). IsLeastRun c.deref.result.now e.first_clear n c.touched-count.result c.in-Some.block) c.first-end.ensures c.in-Some.ensures) in
     let first : 1 ≤ c.in-Some.block = not_header e c.in-Some.block least.first.clear in
     let enough : lacks_data e.words.items (shape_by e.geometry) chain (touched_blocks e.geometry.block_bytes c.args.offset (length c.args.bytes.now)) ≡ false =
-        subst (λ (n : ℕ). lacks_data e.words.items (shape_by e.geometry) chain n ≡ false) touch (run_enough e.words.items (shape_by e.geometry) chain e.taken.items e.first_clear c.touched-count.result c.in-Some.block first (cursor e chain file runs) least) in
+    subst (λ (n : ℕ). lacks_data e.words.items (shape_by e.geometry) chain n ≡ false) touch (run_enough e.words.items (shape_by e.geometry) chain e.taken.items e.first_clear c.touched-count.result c.in-Some.block first (cursor e chain file runs) least) in
     let none : LacksSlot c.store.new.self c.make_slot.new.self chain file = c.if-not-make_slot.ensures.none refl chain file (c.store.ensures.runs chain file runs) in
     record {
       space = lacking_log e.words.items (shape_by e.geometry) chain (touched_blocks e.geometry.block_bytes c.args.offset (length c.args.bytes.now)) enough (log_lack e c.store.new.self chain c.store.ensures.same (c.store.ensures.names chain file runs) true none.lacking);
@@ -79,12 +78,12 @@ commit-requires-clause-fitting c =
     let again : c.from-2.result ≡ e.geometry.block_bytes = c.from-2.ensures ∙ c.block_bytes-block_bytes.ensures.value in
     let touch : c.touched-count.result ≡ touched_blocks e.geometry.block_bytes c.args.offset (length c.args.bytes.now) = c.touched-count.ensures ∙ ap (λ (n : ℕ). touched_blocks n c.args.offset (length c.args.bytes.now)) c.block_bytes-block_bytes.ensures.value in
     let least : IsLeastRun e.taken.items e.first_clear (1 + e.geometry.data_blocks) c.touched-count.result c.in-Some.block =
-        subst (λ (l : List ℕ). IsLeastRun l e.first_clear (1 + e.geometry.data_blocks) c.touched-count.result c.in-Some.block) c.deref.ensures.value
-        (subst (λ (n : ℕ). IsLeastRun c.deref.result.now e.first_clear n c.touched-count.result c.in-Some.block) c.first-end.ensures c.in-Some.ensures) in
+    subst (λ (l : List ℕ). IsLeastRun l e.first_clear (1 + e.geometry.data_blocks) c.touched-count.result c.in-Some.block) c.deref.ensures.value
+    (subst (λ (n : ℕ). IsLeastRun c.deref.result.now e.first_clear n c.touched-count.result c.in-Some.block) c.first-end.ensures c.in-Some.ensures) in
     let first : 1 ≤ c.in-Some.block = not_header e c.in-Some.block least.first.clear in
     let run : IsRunFor (shape_by e.geometry) (c.args.offset / c.from.result) c.in-Some.block c.touched-count.result ((c.args.offset / c.from.result + c.touched-count.result) * c.from-2.result - (c.args.offset + length c.args.bytes.now)) c.args.offset (length c.args.bytes.now) =
-        run_for (shape_by e.geometry) c.args.offset (length c.args.bytes.now) c.from.result c.from-2.result c.touched-count.result c.in-Some.block (c.args.offset / c.from.result) ((c.args.offset / c.from.result + c.touched-count.result) * c.from-2.result - (c.args.offset + length c.args.bytes.now))
-        e.geometry.block_allowed e.geometry.few_blocks size again touch refl c.requires.some c.requires.few c.requires.fits first least.room refl in
+    run_for (shape_by e.geometry) c.args.offset (length c.args.bytes.now) c.from.result c.from-2.result c.touched-count.result c.in-Some.block (c.args.offset / c.from.result) ((c.args.offset / c.from.result + c.touched-count.result) * c.from-2.result - (c.args.offset + length c.args.bytes.now))
+    e.geometry.block_allowed e.geometry.few_blocks size again touch refl c.requires.some c.requires.few c.requires.fits first least.room refl in
     subst (λ (s : Shape). fits_log s (run_word (record { virt = c.args.offset / c.from.result; block = c.in-Some.block; count = c.touched-count.result }) ((c.args.offset / c.from.result + c.touched-count.result) * c.from-2.result - (c.args.offset + length c.args.bytes.now))) ≡ true)
     (sym (shape_slotted e c.store.new.self c.make_slot.new.self c.store.ensures.same c.make_slot.ensures.same))
     (run_fits (shape_by e.geometry) (c.args.offset / c.from.result) c.in-Some.block c.touched-count.result ((c.args.offset / c.from.result + c.touched-count.result) * c.from-2.result - (c.args.offset + length c.args.bytes.now)) c.args.offset (length c.args.bytes.now) run)
@@ -96,12 +95,12 @@ commit-requires-clause-least c = λ chain file runs.
     let again : c.from-2.result ≡ e.geometry.block_bytes = c.from-2.ensures ∙ c.block_bytes-block_bytes.ensures.value in
     let touch : c.touched-count.result ≡ touched_blocks e.geometry.block_bytes c.args.offset (length c.args.bytes.now) = c.touched-count.ensures ∙ ap (λ (n : ℕ). touched_blocks n c.args.offset (length c.args.bytes.now)) c.block_bytes-block_bytes.ensures.value in
     let least : IsLeastRun e.taken.items e.first_clear (1 + e.geometry.data_blocks) c.touched-count.result c.in-Some.block =
-        subst (λ (l : List ℕ). IsLeastRun l e.first_clear (1 + e.geometry.data_blocks) c.touched-count.result c.in-Some.block) c.deref.ensures.value
-        (subst (λ (n : ℕ). IsLeastRun c.deref.result.now e.first_clear n c.touched-count.result c.in-Some.block) c.first-end.ensures c.in-Some.ensures) in
+    subst (λ (l : List ℕ). IsLeastRun l e.first_clear (1 + e.geometry.data_blocks) c.touched-count.result c.in-Some.block) c.deref.ensures.value
+    (subst (λ (n : ℕ). IsLeastRun c.deref.result.now e.first_clear n c.touched-count.result c.in-Some.block) c.first-end.ensures c.in-Some.ensures) in
     let first : 1 ≤ c.in-Some.block = not_header e c.in-Some.block least.first.clear in
     let run : IsRunFor (shape_by e.geometry) (c.args.offset / c.from.result) c.in-Some.block c.touched-count.result ((c.args.offset / c.from.result + c.touched-count.result) * c.from-2.result - (c.args.offset + length c.args.bytes.now)) c.args.offset (length c.args.bytes.now) =
-        run_for (shape_by e.geometry) c.args.offset (length c.args.bytes.now) c.from.result c.from-2.result c.touched-count.result c.in-Some.block (c.args.offset / c.from.result) ((c.args.offset / c.from.result + c.touched-count.result) * c.from-2.result - (c.args.offset + length c.args.bytes.now))
-        e.geometry.block_allowed e.geometry.few_blocks size again touch refl c.requires.some c.requires.few c.requires.fits first least.room refl in
+    run_for (shape_by e.geometry) c.args.offset (length c.args.bytes.now) c.from.result c.from-2.result c.touched-count.result c.in-Some.block (c.args.offset / c.from.result) ((c.args.offset / c.from.result + c.touched-count.result) * c.from-2.result - (c.args.offset + length c.args.bytes.now))
+    e.geometry.block_allowed e.geometry.few_blocks size again touch refl c.requires.some c.requires.few c.requires.fits first least.room refl in
     let way : IsWay e c.store.new.self c.make_slot.new.self (c.args.offset / c.from.result) c.in-Some.block c.touched-count.result ((c.args.offset / c.from.result + c.touched-count.result) * c.from-2.result - (c.args.offset + length c.args.bytes.now)) c.args.offset c.args.bytes.now = record {
       run = run;
       least = least;
@@ -120,12 +119,12 @@ commit-requires-clause-entry c = λ chain file runs.
     let again : c.from-2.result ≡ e.geometry.block_bytes = c.from-2.ensures ∙ c.block_bytes-block_bytes.ensures.value in
     let touch : c.touched-count.result ≡ touched_blocks e.geometry.block_bytes c.args.offset (length c.args.bytes.now) = c.touched-count.ensures ∙ ap (λ (n : ℕ). touched_blocks n c.args.offset (length c.args.bytes.now)) c.block_bytes-block_bytes.ensures.value in
     let least : IsLeastRun e.taken.items e.first_clear (1 + e.geometry.data_blocks) c.touched-count.result c.in-Some.block =
-        subst (λ (l : List ℕ). IsLeastRun l e.first_clear (1 + e.geometry.data_blocks) c.touched-count.result c.in-Some.block) c.deref.ensures.value
-        (subst (λ (n : ℕ). IsLeastRun c.deref.result.now e.first_clear n c.touched-count.result c.in-Some.block) c.first-end.ensures c.in-Some.ensures) in
+    subst (λ (l : List ℕ). IsLeastRun l e.first_clear (1 + e.geometry.data_blocks) c.touched-count.result c.in-Some.block) c.deref.ensures.value
+    (subst (λ (n : ℕ). IsLeastRun c.deref.result.now e.first_clear n c.touched-count.result c.in-Some.block) c.first-end.ensures c.in-Some.ensures) in
     let first : 1 ≤ c.in-Some.block = not_header e c.in-Some.block least.first.clear in
     let run : IsRunFor (shape_by e.geometry) (c.args.offset / c.from.result) c.in-Some.block c.touched-count.result ((c.args.offset / c.from.result + c.touched-count.result) * c.from-2.result - (c.args.offset + length c.args.bytes.now)) c.args.offset (length c.args.bytes.now) =
-        run_for (shape_by e.geometry) c.args.offset (length c.args.bytes.now) c.from.result c.from-2.result c.touched-count.result c.in-Some.block (c.args.offset / c.from.result) ((c.args.offset / c.from.result + c.touched-count.result) * c.from-2.result - (c.args.offset + length c.args.bytes.now))
-        e.geometry.block_allowed e.geometry.few_blocks size again touch refl c.requires.some c.requires.few c.requires.fits first least.room refl in
+    run_for (shape_by e.geometry) c.args.offset (length c.args.bytes.now) c.from.result c.from-2.result c.touched-count.result c.in-Some.block (c.args.offset / c.from.result) ((c.args.offset / c.from.result + c.touched-count.result) * c.from-2.result - (c.args.offset + length c.args.bytes.now))
+    e.geometry.block_allowed e.geometry.few_blocks size again touch refl c.requires.some c.requires.few c.requires.fits first least.room refl in
     let way : IsWay e c.store.new.self c.make_slot.new.self (c.args.offset / c.from.result) c.in-Some.block c.touched-count.result ((c.args.offset / c.from.result + c.touched-count.result) * c.from-2.result - (c.args.offset + length c.args.bytes.now)) c.args.offset c.args.bytes.now = record {
       run = run;
       least = least;
@@ -144,12 +143,12 @@ returns c = λ chain file runs.
     let again : c.from-2.result ≡ e.geometry.block_bytes = c.from-2.ensures ∙ c.block_bytes-block_bytes.ensures.value in
     let touch : c.touched-count.result ≡ touched_blocks e.geometry.block_bytes c.args.offset (length c.args.bytes.now) = c.touched-count.ensures ∙ ap (λ (n : ℕ). touched_blocks n c.args.offset (length c.args.bytes.now)) c.block_bytes-block_bytes.ensures.value in
     let least : IsLeastRun e.taken.items e.first_clear (1 + e.geometry.data_blocks) c.touched-count.result c.in-Some.block =
-        subst (λ (l : List ℕ). IsLeastRun l e.first_clear (1 + e.geometry.data_blocks) c.touched-count.result c.in-Some.block) c.deref.ensures.value
-        (subst (λ (n : ℕ). IsLeastRun c.deref.result.now e.first_clear n c.touched-count.result c.in-Some.block) c.first-end.ensures c.in-Some.ensures) in
+    subst (λ (l : List ℕ). IsLeastRun l e.first_clear (1 + e.geometry.data_blocks) c.touched-count.result c.in-Some.block) c.deref.ensures.value
+    (subst (λ (n : ℕ). IsLeastRun c.deref.result.now e.first_clear n c.touched-count.result c.in-Some.block) c.first-end.ensures c.in-Some.ensures) in
     let first : 1 ≤ c.in-Some.block = not_header e c.in-Some.block least.first.clear in
     let run : IsRunFor (shape_by e.geometry) (c.args.offset / c.from.result) c.in-Some.block c.touched-count.result ((c.args.offset / c.from.result + c.touched-count.result) * c.from-2.result - (c.args.offset + length c.args.bytes.now)) c.args.offset (length c.args.bytes.now) =
-        run_for (shape_by e.geometry) c.args.offset (length c.args.bytes.now) c.from.result c.from-2.result c.touched-count.result c.in-Some.block (c.args.offset / c.from.result) ((c.args.offset / c.from.result + c.touched-count.result) * c.from-2.result - (c.args.offset + length c.args.bytes.now))
-        e.geometry.block_allowed e.geometry.few_blocks size again touch refl c.requires.some c.requires.few c.requires.fits first least.room refl in
+    run_for (shape_by e.geometry) c.args.offset (length c.args.bytes.now) c.from.result c.from-2.result c.touched-count.result c.in-Some.block (c.args.offset / c.from.result) ((c.args.offset / c.from.result + c.touched-count.result) * c.from-2.result - (c.args.offset + length c.args.bytes.now))
+    e.geometry.block_allowed e.geometry.few_blocks size again touch refl c.requires.some c.requires.few c.requires.fits first least.room refl in
     let way : IsWay e c.store.new.self c.make_slot.new.self (c.args.offset / c.from.result) c.in-Some.block c.touched-count.result ((c.args.offset / c.from.result + c.touched-count.result) * c.from-2.result - (c.args.offset + length c.args.bytes.now)) c.args.offset c.args.bytes.now = record {
       run = run;
       least = least;
@@ -161,7 +160,7 @@ returns c = λ chain file runs.
     } in
     let slot : HasSlot c.store.new.self c.make_slot.new.self chain file = way.slot chain file (way.runs chain file runs) in
     let enough : lacks_data e.words.items (shape_by e.geometry) chain (touched_blocks e.geometry.block_bytes c.args.offset (length c.args.bytes.now)) ≡ false =
-        subst (λ (n : ℕ). lacks_data e.words.items (shape_by e.geometry) chain n ≡ false) touch (run_enough e.words.items (shape_by e.geometry) chain e.taken.items e.first_clear c.touched-count.result c.in-Some.block first (cursor e chain file runs) least) in
+    subst (λ (n : ℕ). lacks_data e.words.items (shape_by e.geometry) chain n ≡ false) touch (run_enough e.words.items (shape_by e.geometry) chain e.taken.items e.first_clear c.touched-count.result c.in-Some.block first (cursor e chain file runs) least) in
     record {
       space = lacking_none e.words.items (shape_by e.geometry) chain (touched_blocks e.geometry.block_bytes c.args.offset (length c.args.bytes.now)) enough (log_lack e c.store.new.self chain c.store.ensures.same (c.store.ensures.names chain file runs) false slot.enough);
       geometry = c.commit.ensures.geometry ∙ c.make_slot.ensures.same.geometry ∙ c.store.ensures.same.geometry;
