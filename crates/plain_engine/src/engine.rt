@@ -1,6 +1,6 @@
 //! An engine: an image, and what one caller keeps of it between calls.
 
-ghost use Rattle.std.specs.Prelude.{◌≡◌, ◌≢◌, ℕ, ◌+◌, ◌-◌, ◌*◌, ◌^◌, ◌<◌, ◌≤◌, List, length, slice_index, IsTrue, Bool, true, false, IfOk};
+ghost use Rattle.std.specs.Prelude.{◌≡◌, ◌≢◌, ℕ, ◌+◌, ◌-◌, ◌*◌, ◌^◌, ◌<◌, ◌≤◌, List, length, slice_index, IsTrue, Bool, true, false, IfOk, OnErr};
 ghost use Rattle.block_table.specs.FileMap.{block_at};
 ghost use Rattle.block_table.specs.declared.TheConstants.{VIRTUAL_BLOCKS};
 ghost use Rattle.log_entry.specs.Shape.{longest_of, limit_of};
@@ -294,7 +294,8 @@ impl PlainEngine {
     /// The reply to a call. Only want of memory refuses it, and leaves the engine as it was. There is no collector yet: a collection
     /// finds nothing to give back.
     pub fn answer(&mut self, alloc: Global, op: &Op) -> Result<Reply, AllocError>
-        ensures { IfOk result (λ reply. (chain file : List ℕ) → Running self.old chain file → Serves self.old self.new chain file op.now reply) }
+        ensures serves { IfOk result (λ reply. (chain file : List ℕ) → Running self.old chain file → Serves self.old self.new chain file op.now reply) }
+        ensures err { OnErr result (self.new ≡ self.old) }
     {
         match op {
             Op::Pwrite { offset, bytes } => Ok(self.pwrite(*offset, bytes)),

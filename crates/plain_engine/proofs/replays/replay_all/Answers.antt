@@ -19,7 +19,7 @@ loop-job-preserved c = record {
   mirrors = subst (λ (l : List Call). Mirrors l (c.loop-job.yielded ++ c.in-Some.job ∷ [])) (sym c.in_ok-push.ensures.items)
       (Mirrors-push c.loop-job.calls.items c.loop-job.yielded (record_of c.in-Some.job c.position.result c.in_ok-reply.reply) c.in-Some.job c.loop-job.invariant.mirrors refl refl refl);
   so_far = λ chain file runs. subst (λ (l : List Call). SoFar c.args.engine.now c.answer.new.self file l) (sym c.in_ok-push.ensures.items)
-      (SoFar-push c.args.engine.now c.loop-job.engine c.answer.new.self file c.loop-job.calls.items c.in-Some.job c.in_ok-reply.reply c.position.result c.position.ensures (c.loop-job.invariant.so_far chain file runs) c.in_ok-reply.ensures);
+      (SoFar-push c.args.engine.now c.loop-job.engine c.answer.new.self file c.loop-job.calls.items c.in-Some.job c.in_ok-reply.reply c.position.result c.position.ensures (c.loop-job.invariant.so_far chain file runs) c.in_ok-reply.ensures.serves);
 }
 
 pub returns : goal.returns
