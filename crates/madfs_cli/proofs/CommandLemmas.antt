@@ -4,7 +4,7 @@ use Rattle.std.specs.Prelude.{slice_get}
 use Rattle.log_entry.specs.Text.{number_of}
 use Rattle.log_image.specs.Image.{Shape}
 use Rattle.chain_reader.specs.Tables.{shape_by}
-use Rattle.madfs_cli.specs.Commands.{IsMkfs, IsTry, SaysShapeAt}
+use Rattle.madfs_cli.specs.Commands.{IsMkfs, IsTry, IsReplay, SaysShapeAt}
 use Rattle.log_entry.specs.declared.shapes.Geometry.{Geometry}
 
 -- five words that were read at their places are the list
@@ -90,3 +90,10 @@ pub try_read : (words : List (List ℕ)) (name seats : List ℕ) (result : Optio
     MatchOption result ((shape : Shape) → SaysShapeAt words shape → ⊥) (λ shape. SaysShapeAt words (shape_by shape)) → MatchOption result ((shape : Shape) → IsTry words shape → ⊥) (λ shape. IsTry words (shape_by shape))
 try_read words name seats None five first is last one says = λ shape try. says shape (try_says words shape try)
 try_read words name seats (Some shape) five first is last one says = says_try words name seats (shape_by shape) five first is last one says
+
+-- the words of `replay` are its name and one seat
+pub says_replay : (words : List (List ℕ)) (name seats : List ℕ) → length words ≡ 2 → slice_get words 0 ≡ Some name → name ≡ codes "replay" → slice_get words 1 ≡ Some seats → number_of seats ≡ Some 1 → IsReplay words
+says_replay [] name seats two first is last one = absurd (omega (arith, two))
+says_replay (v ∷ []) name seats two first is last one = absurd (omega (arith, two))
+says_replay (v ∷ w ∷ []) name seats two first is last one = record { seats_word = seats; words_are = cc (first, is, last); one_seat = one }
+says_replay (v ∷ w ∷ x ∷ rest) name seats two first is last one = absurd (omega (arith, two))

@@ -19,6 +19,7 @@ use Rattle.recovery.specs.OpenAnswers.{OpensBytes}
 use Rattle.recovery.specs.declared.refusals.OpenRefusal.{OpenRefusal}
 use Rattle.recovery.specs.declared.refusals.OpenRefusal.TheVariants.{Bad, NoMemory}
 use Rattle.image_tools.specs.DumpText.{dump_text}
+use Rattle.madfs_cli.specs.Replays.{StandForAFile}
 use Rattle.madfs_cli.specs.Images.{image_limit, RefusesImage, Clears, OpensTo, IsFileOf, IsDumpOf}
 
 -- what clearing leaves of an image that opens
@@ -39,11 +40,17 @@ opens_to bytes words rest start accepts recovers =
     }
 
 -- the words that clearing leaves stand for the same file
-clears_stand : (bytes chain cleared : List ℕ) → (clears : Clears bytes chain cleared) → StaysCleared clears.words cleared (chain_of clears.words clears.rest) (file_of clears.words clears.rest) (position_of clears.words (shape_of clears.words) (chain_of clears.words clears.rest))
+pub clears_stand : (bytes chain cleared : List ℕ) → (clears : Clears bytes chain cleared) → StaysCleared clears.words cleared (chain_of clears.words clears.rest) (file_of clears.words clears.rest) (position_of clears.words (shape_of clears.words) (chain_of clears.words clears.rest))
 clears_stand bytes chain cleared clears =
     clearing_keeps clears.words cleared (chain_of clears.words clears.rest) (file_of clears.words clears.rest) (position_of clears.words (shape_of clears.words) (chain_of clears.words clears.rest))
     (stands_by clears.words clears.rest clears.accepts.accepts)
     (subst (λ (l : List ℕ). IsCleared (shape_of clears.words) (hole_of clears.words (shape_of clears.words) l) clears.words cleared) clears.chain_is clears.cleared_is)
+
+-- so they stand for a file
+pub opened_stands : (bytes cleared : List ℕ) → OpensTo bytes cleared → StandForAFile cleared
+opened_stands bytes cleared opens =
+    let clears = opens.clears in
+    (chain_of clears.words clears.rest, file_of clears.words clears.rest, position_of clears.words (shape_of clears.words) (chain_of clears.words clears.rest), (clears_stand bytes opens.chain cleared clears).stands)
 
 -- the file of what clearing leaves is the image's
 pub file_shown : (bytes cleared text : List ℕ) → OpensTo bytes cleared → ((chain file : List ℕ) (position : ℕ) → StandsBy cleared chain file position → text ≡ file) → IsFileOf bytes text

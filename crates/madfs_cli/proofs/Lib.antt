@@ -1,6 +1,6 @@
 pub mod CommandLemmas
 pub mod ImageLemmas
-pub mod FileLemmas
-pub mod AnsweringLemmas
+pub mod TraceLemmas
 pub mod OutcomeLemmas
 pub mod RequestLemmas
+pub mod RunLemmas

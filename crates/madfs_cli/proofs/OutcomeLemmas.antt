@@ -1,14 +1,17 @@
 -- What the making of an output and the writing of it say of how a command ends.
-use Rattle.std.proofs.Common.{◌≡◌, ◌<◌, ℕ, Bool, true, false, List, [], length, Some, Result, Ok, Err, IfOk, OnOk, refl, ap, inl, inr, ◌⊎◌, arith}
+use Rattle.std.proofs.Common.{◌≡◌, ◌<◌, ℕ, Bool, true, false, List, [], length, Option, Some, Result, Ok, Err, IfOk, OnOk, refl, ap, inl, inr, ◌⊎◌, arith}
 use Rattle.io_ends.specs.Faults.{Rose}
 use Rattle.log_entry.specs.declared.calls.Job.{Job}
 use Rattle.trace_reader.specs.Reading.{Reads}
 use Rattle.trace_reader.specs.Laws.{OneReading}
 use Rattle.trace_reader.specs.declared.refusals.BadTrace.{BadTrace as TraceRefusal}
 use Rattle.opening_rules.specs.declared.refusals.BadImage.{BadImage as ImageRefusal}
-use Rattle.madfs_cli.specs.Commands.{Request, writes_image}
+use Rattle.madfs_cli.specs.Inputs.{IsNotRead}
+use Rattle.madfs_cli.specs.Commands.{Request, ReplayTrace, writes_image}
+use Rattle.log_image.specs.Image.{Shape}
 use Rattle.madfs_cli.specs.Images.{RefusesImage}
-use Rattle.madfs_cli.specs.Outcomes.{IsReport, TakenFrom, Seen, IsOutputOf, WriteFailed, WritesNone, Ends, ImageRefused, TraceRefused, IsOutcome, IsNotMade, OutputEnds}
+use Rattle.madfs_cli.specs.Replays.{IsTryOf, IsReplayOf}
+use Rattle.madfs_cli.specs.Outcomes.{TakenFrom, Seen, IsOutputOf, WriteFailed, WritesNone, Ends, ImageRefused, TraceRefused, IsOutcome, IsNotMade, OutputEnds}
 use Rattle.madfs_cli.specs.declared.outputs.Output.{Output}
 use Rattle.madfs_cli.specs.declared.statuses.Status.{Status}
 use Rattle.madfs_cli.specs.declared.statuses.Status.TheVariants.{Done, Usage, BadImage, BadTrace, ReadFault, WriteFault, NoMemory}
@@ -97,12 +100,28 @@ trace_read one request trace why read refused =
     trace_not_both one refused.bytes known.0 why known.1 refused.refused
 
 -- the same of an output that was made
-pub trace_good : OneReading → (request : Request) (trace : TakenFrom) (block_bytes : ℕ) (result : Result Output Status) → IfOk result (λ output. (bytes : List ℕ) → trace.left ≡ Some bytes → IsReport block_bytes bytes output.text.items) →
+pub trace_good : OneReading → (request : Request) (trace : TakenFrom) (result : Result Output Status) → OnOk result ((bytes : List ℕ) → trace.left ≡ Some bytes → (jobs : List Job) × Reads 1 bytes (Ok jobs)) →
     OnOk result ((why : TraceRefusal) → TraceRefused request trace why → ⊥)
-trace_good one request trace block_bytes (Ok output) report = λ why refused. trace_read one request trace why (λ bytes known. ((report bytes known).trace, (report bytes known).read)) refused
-trace_good one request trace block_bytes (Err status) report = tt
+trace_good one request trace (Ok output) read = λ why refused. trace_read one request trace why read refused
+trace_good one request trace (Err status) read = tt
+
+-- what a run on a just-made image, and on an image, says of the reading of its trace
+pub try_reads : (shape : Shape) (left : Option (List ℕ)) (result : Result Output Status) → IfOk result (λ output. (bytes : List ℕ) → left ≡ Some bytes → IsTryOf shape bytes output.text.items) →
+    OnOk result ((bytes : List ℕ) → left ≡ Some bytes → (jobs : List Job) × Reads 1 bytes (Ok jobs))
+try_reads shape left (Ok output) report = λ bytes known. ((report bytes known).jobs, (report bytes known).read)
+try_reads shape left (Err status) report = tt
 
 pub image_good : (request : Request) (image : TakenFrom) (result : Result Output Status) → OnOk result ((bytes : List ℕ) (why : ImageRefusal) → image.left ≡ Some bytes → RefusesImage bytes why → ⊥) →
     OnOk result ((why : ImageRefusal) → ImageRefused request image why → ⊥)
 image_good request image (Ok output) accepted = λ why refused. accepted refused.bytes why refused.left refused.refused
 image_good request image (Err status) accepted = tt
+
+-- no trace was read, after an image that opened
+pub jobs_not_made : (image trace : TakenFrom) (status : Status) → IsNotRead trace.left trace.faults_before trace.faults_after status → ((why : ImageRefusal) → ImageRefused ReplayTrace image why → ⊥) → IsNotMade ReplayTrace image trace status
+jobs_not_made image trace (BadTrace why) not_read good = (refl, not_read, good)
+jobs_not_made image trace ReadFault not_read good = inr (refl, not_read)
+jobs_not_made image trace NoMemory not_read good = tt
+jobs_not_made image trace Done not_read good = absurd not_read
+jobs_not_made image trace Usage not_read good = absurd not_read
+jobs_not_made image trace (BadImage why) not_read good = absurd not_read
+jobs_not_made image trace WriteFault not_read good = absurd not_read

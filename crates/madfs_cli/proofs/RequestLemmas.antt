@@ -4,7 +4,7 @@ use Rattle.log_entry.specs.Text.{number_of}
 use Rattle.log_image.specs.Image.{Shape}
 use Rattle.madfs_cli.specs.Outcomes.{Seen, IsOutcome}
 use Rattle.madfs_cli.specs.declared.statuses.Status.{Status}
-use Rattle.madfs_cli.specs.Commands.{Request, MakeImage, TryTrace, ShowFile, ShowImage, SayShape, IsMkfs, IsTry, Asks}
+use Rattle.madfs_cli.specs.Commands.{Request, MakeImage, TryTrace, ReplayTrace, ShowFile, ShowImage, SayShape, IsMkfs, IsTry, Asks}
 
 same_number : (a b : Option ℕ) (m n : ℕ) → a ≡ b → a ≡ Some m → b ≡ Some n → m ≡ n
 same_number a b m n same here there = cc
@@ -39,6 +39,15 @@ one_try words shape other is also =
 pub one_request : (words : List (List ℕ)) (request other : Request) → Asks words request → Asks words other → request ≡ other
 one_request words (MakeImage shape) (MakeImage other) is also = ap MakeImage (one_mkfs words shape other is also)
 one_request words (TryTrace shape) (TryTrace other) is also = ap TryTrace (one_try words shape other is also)
+one_request words ReplayTrace ReplayTrace is also = refl
+one_request words ReplayTrace (MakeImage other) is also = let same = sym is.words_are ∙ also.words_are in cc
+one_request words ReplayTrace (TryTrace other) is also = let same = sym is.words_are ∙ also.words_are in cc
+one_request words ReplayTrace ShowFile is also = let same = sym is.words_are ∙ also in cc
+one_request words ReplayTrace ShowImage is also = let same = sym is.words_are ∙ also in cc
+one_request words (MakeImage shape) ReplayTrace is also = let same = sym is.words_are ∙ also.words_are in cc
+one_request words (TryTrace shape) ReplayTrace is also = let same = sym is.words_are ∙ also.words_are in cc
+one_request words ShowFile ReplayTrace is also = let same = sym is ∙ also.words_are in cc
+one_request words ShowImage ReplayTrace is also = let same = sym is ∙ also.words_are in cc
 one_request words ShowFile ShowFile is also = refl
 one_request words ShowImage ShowImage is also = refl
 one_request words (MakeImage shape) (TryTrace other) is also = let same = sym is.words_are ∙ also.words_are in cc

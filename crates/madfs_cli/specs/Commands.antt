@@ -6,13 +6,14 @@ use Rattle.log_entry.specs.Geometry.{shape_refusal}
 use Rattle.log_image.specs.Image.{Shape}
 use Rattle.chain_reader.specs.Tables.{shape_by}
 use Rattle.madfs_cli.specs.declared.commands.Command.{Command}
-use Rattle.madfs_cli.specs.declared.commands.Command.TheVariants.{Mkfs, Try, Cat, Dump}
+use Rattle.madfs_cli.specs.declared.commands.Command.TheVariants.{Mkfs, Try, Replay, Cat, Dump}
 
--- what a command asks: a new image of a shape; the run of a trace on a just-made image of a shape; the file of an image; the
--- text of an image
+-- what a command asks: a new image of a shape; the run of a trace on a just-made image of a shape, or on an image; the file of
+-- an image; the text of an image
 pub data Request : Type 0 where
   MakeImage : (shape : Shape) → Request
   TryTrace : (shape : Shape) → Request
+  ReplayTrace : Request
   ShowFile : Request
   ShowImage : Request
 
@@ -51,10 +52,17 @@ pub record IsTry (words : List (List ℕ)) (shape : Shape) : Type 0 where
   pub shape_is : SayShape data_word log_word bytes_word shape
   pub one_seat : number_of seats_word ≡ Some 1
 
+-- the words are `replay` and one seat
+pub record IsReplay (words : List (List ℕ)) : Type 0 where
+  pub seats_word : List ℕ
+  pub words_are : words ≡ codes "replay" ∷ seats_word ∷ []
+  pub one_seat : number_of seats_word ≡ Some 1
+
 -- the words ask this
 abbrev pub Asks : List (List ℕ) → Request → Type 0
 Asks words (MakeImage shape) = IsMkfs words shape
 Asks words (TryTrace shape) = IsTry words shape
+Asks words ReplayTrace = IsReplay words
 Asks words ShowFile = words ≡ codes "cat" ∷ []
 Asks words ShowImage = words ≡ codes "dump" ∷ []
 
@@ -66,6 +74,7 @@ IsCommand words = (request : Request) × Asks words request
 abbrev pub request_of : Command → Request
 request_of (Mkfs shape) = MakeImage (shape_by shape)
 request_of (Try shape) = TryTrace (shape_by shape)
+request_of Replay = ReplayTrace
 request_of Cat = ShowFile
 request_of Dump = ShowImage
 
@@ -77,6 +86,7 @@ Says words command = Asks words (request_of command)
 abbrev pub reads_image : Request → Bool
 reads_image (MakeImage shape) = false
 reads_image (TryTrace shape) = false
+reads_image ReplayTrace = true
 reads_image ShowFile = true
 reads_image ShowImage = true
 
@@ -84,6 +94,7 @@ reads_image ShowImage = true
 abbrev pub reads_trace : Request → Bool
 reads_trace (MakeImage shape) = false
 reads_trace (TryTrace shape) = true
+reads_trace ReplayTrace = true
 reads_trace ShowFile = false
 reads_trace ShowImage = false
 
@@ -91,5 +102,6 @@ reads_trace ShowImage = false
 abbrev pub writes_image : Request → Bool
 writes_image (MakeImage shape) = true
 writes_image (TryTrace shape) = false
+writes_image ReplayTrace = true
 writes_image ShowFile = false
 writes_image ShowImage = false

@@ -1,7 +1,6 @@
 pub mod Commands
 pub mod Images
 pub mod Inputs
-pub mod Serving
-pub mod Histories
+pub mod Replays
 pub mod Outcomes
 pub mod Endings

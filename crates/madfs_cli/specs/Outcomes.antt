@@ -2,35 +2,20 @@
 use Rattle.std.specs.Prelude.{ℕ, ◌≡◌, ◌<◌, ◌⊎◌, Bool, true, false, List, [], length, Option, Some, Ok, Err}
 use Rattle.io_ends.specs.Faults.{Rose}
 use Rattle.io_ends.specs.Giving.{Gives, GivesPrefix}
-use Rattle.log_entry.specs.Legal.{last_file, last_position_of}
-use Rattle.log_entry.specs.declared.calls.Call.{Call}
-use Rattle.log_entry.specs.declared.calls.Job.{Job}
 use Rattle.trace_reader.specs.Reading.{Reads}
-use Rattle.history_report.specs.Report.{report_text}
 use Rattle.trace_reader.specs.declared.refusals.BadTrace.{BadTrace as TraceRefusal}
 use Rattle.opening_rules.specs.declared.refusals.BadImage.{BadImage as ImageRefusal}
-use Rattle.madfs_cli.specs.Commands.{Request, MakeImage, TryTrace, ShowFile, ShowImage, reads_image, reads_trace, writes_image}
-use Rattle.madfs_cli.specs.Histories.{IsHistory}
+use Rattle.madfs_cli.specs.Commands.{Request, MakeImage, TryTrace, ReplayTrace, ShowFile, ShowImage, reads_image, reads_trace, writes_image}
+use Rattle.madfs_cli.specs.Replays.{IsTryOf, IsReplayOf}
 use Rattle.madfs_cli.specs.Images.{RefusesImage, IsFileOf, IsDumpOf, made_text, IsNewImage}
 use Rattle.madfs_cli.specs.declared.statuses.Status.{Status}
 use Rattle.madfs_cli.specs.declared.statuses.Status.TheVariants.{Done, Usage, BadImage, BadTrace, ReadFault, WriteFault, NoMemory}
 
--- the text is the report of a history of these jobs, with the position and the size at its end
-pub record IsReportOfJobs (block_bytes : ℕ) (trace : List Job) (text : List ℕ) : Type 0 where
-  pub calls : List Call
-  pub history : IsHistory block_bytes trace calls
-  pub text_is : text ≡ report_text calls (last_position_of 0 calls) (length (last_file [] calls))
-
--- the text is the report of a history of the trace that these bytes are
-pub record IsReport (block_bytes : ℕ) (bytes text : List ℕ) : Type 0 where
-  pub trace : List Job
-  pub read : Reads 1 bytes (Ok trace)
-  pub report : IsReportOfJobs block_bytes trace text
-
 -- what a command makes of the bytes of an image and of a trace: a text, and the bytes of an image
 abbrev pub IsOutput : Request → List ℕ → List ℕ → List ℕ → List ℕ → Type 0
 IsOutput (MakeImage shape) image trace text fresh = (text ≡ made_text shape) × IsNewImage shape fresh
-IsOutput (TryTrace shape) image trace text fresh = IsReport shape.block_bytes trace text × (fresh ≡ [])
+IsOutput (TryTrace shape) image trace text fresh = IsTryOf shape trace text × (fresh ≡ [])
+IsOutput ReplayTrace image trace text fresh = IsReplayOf image trace text fresh
 IsOutput ShowFile image trace text fresh = IsFileOf image text × (fresh ≡ [])
 IsOutput ShowImage image trace text fresh = IsDumpOf image text × (fresh ≡ [])
 

@@ -2,26 +2,23 @@
 
 ghost use Rattle.std.specs.Prelude.{◌≡◌, ℕ, List, [], Some, Ok, IfOk, IfErr, OnOk, true, false};
 ghost use Rattle.io_ends.specs.Taking.{IsAtEnd};
-ghost use Rattle.trace_reader.specs.Trace.{IsTrace};
 ghost use Rattle.chain_reader.specs.Tables.{shape_by};
 ghost use Rattle.madfs_cli.specs.Commands.{request_of, reads_image, reads_trace, writes_image};
-ghost use Rattle.madfs_cli.specs.Inputs.{IsNotRead, IsNotOpened};
+ghost use Rattle.madfs_cli.specs.Inputs.{IsNotOpened};
 ghost use Rattle.madfs_cli.specs.Images.{RefusesImage, IsFileOf, IsDumpOf, made_text, IsNewImage};
-ghost use Rattle.madfs_cli.specs.Outcomes.{IsReportOfJobs, IsReport, IsOutputOf, ImageRefused, TraceRefused, IsNotMade};
+ghost use Rattle.madfs_cli.specs.Outcomes.{IsOutputOf, ImageRefused, TraceRefused, IsNotMade};
 ghost use Rattle.opening_rules.specs.declared.refusals.BadImage.{BadImage};
 ghost use Rattle.trace_reader.specs.declared.refusals.BadTrace.{BadTrace};
 
 use crate::commands::Command;
-use crate::histories::answer_all;
 use crate::images::open_image;
 use crate::outputs::Output;
+use crate::replays::{replay_trace, try_trace};
 use crate::statuses::Status;
-use crate::traces::read_jobs;
-use history_report::print_report;
 use image_tools::{dump, file_of, mkfs};
 use io_ends::Source;
 use log_entry::text::push_number;
-use log_entry::{Geometry, Job, to_bytes};
+use log_entry::{Geometry, to_bytes};
 use std::alloc::{AllocError, Global};
 use trace_reader::laws::law_readings;
 
@@ -48,37 +45,6 @@ fn make_image(alloc: Global, shape: Geometry) -> Result<Output, AllocError>
     let image = to_bytes(alloc, start.words())?;
     let text = size_line(alloc, shape)?;
     Ok(Output { text, image })
-}
-
-/// The report of a trace's calls on an empty file.
-fn report_of(alloc: Global, shape: Geometry, jobs: Vec<Job>) -> Result<Vec<u8>, AllocError>
-    requires { IsTrace 1 jobs.items }
-    ensures { IfOk result (λ text. IsReportOfJobs shape.block_bytes jobs.items text.items) }
-{
-    let history = answer_all(alloc, shape, jobs)?;
-    print_report(
-        alloc,
-        history.calls.as_slice(),
-        history.position,
-        history.size,
-    )
-}
-
-/// The report of the trace that a source has left, read to its end.
-fn run_trace<T: Source>(alloc: Global, shape: Geometry, trace: &mut T) -> Result<Output, Status>
-    ensures report { IfOk result (λ output. (bytes : List ℕ) → T.left trace.old ≡ Some bytes → IsReport shape.block_bytes bytes output.text.items) }
-    ensures image { IfOk result (λ output. output.image.items ≡ []) }
-    ensures end { OnOk result (IsAtEnd (T.left trace.new)) }
-    ensures refused { IfErr result (IsNotRead (T.left trace.old) (T.faults trace.old) (T.faults trace.new)) }
-{
-    let jobs = read_jobs(alloc, trace)?;
-    let Ok(text) = report_of(alloc, shape, jobs) else {
-        return Err(Status::NoMemory);
-    };
-    Ok(Output {
-        text,
-        image: Vec::new(alloc),
-    })
 }
 
 /// The file of the image that a source has left, read to its end.
@@ -145,7 +111,8 @@ pub fn output_of<I: Source, T: Source>(
             Ok(output) => Ok(output),
             Err(_) => Err(Status::NoMemory),
         },
-        Command::Try { shape } => run_trace(alloc, shape, trace),
+        Command::Try { shape } => try_trace(alloc, shape, trace),
+        Command::Replay => replay_trace(alloc, image, trace),
         Command::Cat => show_file(alloc, image),
         Command::Dump => show_image(alloc, image),
     }

@@ -1,10 +1,10 @@
 //! The words of a command.
 
-ghost use Rattle.std.specs.Prelude.{◌≡◌, ◌≢◌, ◌≤◌, MatchOption, None, length, ℕ};
+ghost use Rattle.std.specs.Prelude.{◌≡◌, ◌≢◌, ◌≤◌, MatchOption, None, length, ℕ, IsTrue, false};
 ghost use Rattle.log_entry.specs.Geometry.{shape_refusal, HasShape};
 ghost use Rattle.log_image.specs.Image.{Shape};
 ghost use Rattle.chain_reader.specs.Tables.{shape_by};
-ghost use Rattle.madfs_cli.specs.Commands.{IsCommand, IsMkfs, IsTry, Says, SaysShapeAt};
+ghost use Rattle.madfs_cli.specs.Commands.{IsCommand, IsMkfs, IsTry, IsReplay, Says, SaysShapeAt};
 
 use io_ends::Words;
 use log_entry::Geometry;
@@ -17,6 +17,8 @@ pub enum Command {
     Mkfs { shape: Geometry },
     /// Run a trace of one seat on an empty file, in the limits of an image of this shape.
     Try { shape: Geometry },
+    /// Run a trace of one seat on an image.
+    Replay,
     /// Show the file of an image.
     Cat,
     /// Show the text of an image.
@@ -69,6 +71,20 @@ fn read_try(words: &Words) -> Option<Geometry>
     read_shape(words)
 }
 
+/// Whether the words are those of `replay`, of one seat.
+fn is_replay(words: &Words) -> bool
+    ensures yes { IsTrue result → IsReplay words.now }
+    ensures no { (result ≡ false) → IsReplay words.now → ⊥ }
+{
+    if words.count() != 2 || words.word(0) != "replay" {
+        return false;
+    }
+    let Some(seats) = read_number(words.word(1).as_bytes()) else {
+        return false;
+    };
+    seats == 1
+}
+
 /// The command that the words are. None exactly where they are none.
 pub fn read_command(words: &Words) -> Option<Command>
     ensures { MatchOption result (IsCommand words.now → ⊥) (Says words.now) }
@@ -78,6 +94,9 @@ pub fn read_command(words: &Words) -> Option<Command>
     }
     if words.count() == 1 && words.word(0) == "dump" {
         return Some(Command::Dump);
+    }
+    if is_replay(words) {
+        return Some(Command::Replay);
     }
     if let Some(shape) = read_mkfs(words) {
         return Some(Command::Mkfs { shape });

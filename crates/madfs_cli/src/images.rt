@@ -4,6 +4,7 @@ ghost use Rattle.std.specs.Prelude.{◌≡◌, ℕ, List, Some, IfOk, IfErr, OnO
 ghost use Rattle.io_ends.specs.Taking.{IsAtEnd};
 ghost use Rattle.opening_rules.specs.declared.refusals.BadImage.{BadImage};
 ghost use Rattle.madfs_cli.specs.Images.{RefusesImage, OpensTo};
+ghost use Rattle.madfs_cli.specs.Replays.{StandForAFile};
 ghost use Rattle.madfs_cli.specs.Inputs.{IsNotOpened};
 
 use crate::statuses::Status;
@@ -19,6 +20,7 @@ const IMAGE_LIMIT: usize = 268_431_360;
 /// The image that a source has left, read to its end, opened and cleared.
 pub fn open_image<I: Source>(alloc: Global, image: &mut I) -> Result<Start, Status>
     ensures opened { IfOk result (λ start. (bytes : List ℕ) → I.left image.old ≡ Some bytes → OpensTo bytes start.words.items) }
+    ensures stands { IfOk result (λ start. StandForAFile start.words.items) }
     ensures accepted { IfOk result (λ start. (bytes : List ℕ) (why : BadImage) → I.left image.old ≡ Some bytes → RefusesImage bytes why → ⊥) }
     ensures end { OnOk result (IsAtEnd (I.left image.new)) }
     ensures refused { IfErr result (IsNotOpened (I.left image.old) (I.faults image.old) (I.faults image.new)) }

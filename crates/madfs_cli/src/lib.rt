@@ -3,12 +3,11 @@
 
 pub mod answers;
 pub mod commands;
-pub mod histories;
 #[cfg(test)]
 mod image_tests;
 pub mod images;
 pub mod outputs;
-pub mod plain_file;
+pub mod replays;
 pub mod statuses;
 #[cfg(test)]
 mod tests;

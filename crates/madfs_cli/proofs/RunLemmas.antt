@@ -1,0 +1,79 @@
+-- What the calls on an engine say of a run, and of the run on an image that opens.
+use Rattle.std.proofs.Common.{◌≡◌, ◌+◌, ℕ, List, [], ◌∷◌, length, refl, sym, ap, ◌∙◌, subst, Option, Some, Ok}
+use Rattle.log_entry.specs.WordBytes.{word_bytes}
+use Rattle.log_entry.specs.Legal.{Legal, last_file, last_position_of}
+use Rattle.log_entry.specs.declared.calls.Call.{Call}
+use Rattle.log_entry.specs.declared.calls.Job.{Job}
+use Rattle.log_entry.specs.declared.shapes.Geometry.{Geometry}
+use Rattle.log_entry.specs.Kinds.{HaveKinds}
+use Rattle.log_entry.proofs.HistoryLemmas.{HaveKinds-Legal}
+use Rattle.log_image.specs.Image.{Shape}
+use Rattle.log_image.specs.Header.{shape_of, generation_of}
+use Rattle.log_image.specs.Positions.{position_of}
+use Rattle.log_image.specs.Stands.{StandsBy, Stands}
+use Rattle.chain_reader.specs.Tables.{shape_by}
+use Rattle.trace_reader.specs.Reading.{Reads}
+use Rattle.history_report.specs.Report.{report_text}
+use Rattle.opening_rules.specs.Opening.{chain_of}
+use Rattle.opening_rules.proofs.Accepted.{file_of, stands_by}
+use Rattle.plain_engine.specs.Engine.{Running}
+use Rattle.plain_engine.specs.Replaying.{Replays}
+use Rattle.plain_engine.specs.declared.engine.PlainEngine.{PlainEngine}
+use Rattle.madfs_cli.specs.Images.{OpensTo}
+use Rattle.madfs_cli.specs.Replays.{IsRunOf, IsReplayOf}
+use Rattle.madfs_cli.proofs.ImageLemmas.{clears_stand}
+
+-- the shape of an engine's words
+engine_shape : (words : List ℕ) (engine : PlainEngine) (chain file : List ℕ) → engine.words.items ≡ words → Running engine chain file → shape_of words ≡ shape_by engine.geometry
+engine_shape words engine chain file same running = subst (λ (l : List ℕ). shape_of l ≡ shape_by engine.geometry) same running.fits.same_shape
+
+pub run_of : (words : List ℕ) (engine new : PlainEngine) (chain file : List ℕ) (position : ℕ) (jobs : List Job) (calls : List Call) (text : List ℕ) (at size : ℕ) (after : List ℕ) →
+    engine.words.items ≡ words → position ≡ engine.position → Running engine chain file → Replays engine new file jobs calls →
+    text ≡ report_text calls at size → at ≡ new.position → size ≡ new.table.size → after ≡ new.words.items → IsRunOf words file position jobs text after
+run_of words engine new chain file position jobs calls text at size after same from running replays told at_is size_is after_is =
+    let shape : shape_of words ≡ shape_by engine.geometry = engine_shape words engine chain file same running in
+    let last : new.position ≡ last_position_of position calls = replays.position ∙ ap (λ (n : ℕ). last_position_of n calls) (sym from) in
+    record {
+      calls = calls;
+      of_trace = replays.of_trace;
+      legal = subst (λ (n : ℕ). Legal n file position calls) (sym (ap (λ (s : Shape). s.block_bytes) shape)) (subst (λ (n : ℕ). Legal engine.geometry.block_bytes file n calls) (sym from) replays.legal);
+      in_order = replays.in_order;
+      text_is = told ∙ ap (λ (n : ℕ). report_text calls n size) (at_is ∙ last) ∙ ap (λ (n : ℕ). report_text calls (last_position_of position calls) n) (size_is ∙ replays.runs.fits.size);
+      same_shape = ap shape_of after_is ∙ replays.runs.fits.same_shape ∙ ap (λ (g : Geometry). shape_by g) replays.geometry ∙ sym shape;
+      same_generation = ap generation_of after_is ∙ replays.generation ∙ ap generation_of same;
+      stands = (replays.longer, subst (λ (l : List ℕ). StandsBy l replays.longer (last_file file calls) (last_position_of position calls)) (sym after_is) (subst (λ (n : ℕ). StandsBy new.words.items replays.longer (last_file file calls) n) last replays.runs.stands));
+    }
+
+-- the calls of a run have replies of their kinds
+pub kinds_of : (engine new : PlainEngine) (file : List ℕ) (jobs : List Job) (calls shown : List Call) → Replays engine new file jobs calls → shown ≡ calls → HaveKinds shown
+kinds_of engine new file jobs calls shown replays same = rw same (HaveKinds-Legal engine.geometry.block_bytes file engine.position calls replays.legal)
+
+-- a run on what clearing leaves is a run on the image
+pub replayed : (image cleared trace text after fresh : List ℕ) (jobs : List Job) → OpensTo image cleared → Reads 1 trace (Ok jobs) →
+    ((chain file : List ℕ) (position : ℕ) → StandsBy cleared chain file position → IsRunOf cleared file position jobs text after) → fresh ≡ word_bytes after → IsReplayOf image trace text fresh
+replayed image cleared trace text after fresh jobs opens read runs fresh_is =
+    let clears = opens.clears in
+    let stays = clears_stand image opens.chain cleared clears in
+    let run = runs (chain_of clears.words clears.rest) (file_of clears.words clears.rest) (position_of clears.words (shape_of clears.words) (chain_of clears.words clears.rest)) stays.stands in
+    record {
+      words = clears.words;
+      rest = clears.rest;
+      accepts = clears.accepts;
+      file = file_of clears.words clears.rest;
+      position = position_of clears.words (shape_of clears.words) (chain_of clears.words clears.rest);
+      stands = stands_by clears.words clears.rest clears.accepts.accepts;
+      jobs = jobs;
+      read = read;
+      after = after;
+      run = record {
+        calls = run.calls;
+        of_trace = run.of_trace;
+        legal = subst (λ (s : Shape). Legal s.block_bytes (file_of clears.words clears.rest) (position_of clears.words (shape_of clears.words) (chain_of clears.words clears.rest)) run.calls) stays.same_shape run.legal;
+        in_order = run.in_order;
+        text_is = run.text_is;
+        same_shape = run.same_shape ∙ stays.same_shape;
+        same_generation = run.same_generation ∙ stays.same_generation;
+        stands = run.stands;
+      };
+      fresh_is = fresh_is;
+    }

@@ -1,5 +1,0 @@
-use Rattle.madfs_cli.proofs.FileLemmas.{touched_from_place}
-use Rattle.madfs_cli.proofs.plain_file.touched.Goals as goal
-
-pub returns : goal.returns
-returns c = rw c.from-block.ensures (touched_from_place c.args.block_bytes c.args.offset c.args.count c.requires.block c.requires.some)
