@@ -2,7 +2,7 @@
 
 use crate::{Status, run};
 use io_ends::{Bytes, FailingBytes, FailingGathered, Gathered, Sink, Source, Words};
-use log_entry::{of_bytes, to_bytes};
+use log_entry::to_bytes;
 use opening_rules::BadImage;
 use std::alloc::{AllocError, Global};
 use std::test::Fail;
@@ -23,13 +23,29 @@ fn run_over<I: Source, N: Sink>(
     Ok(run(alloc, &words, image, &mut trace, report, fresh))
 }
 
-/// The bytes of a just-made image.
-fn made(alloc: Global, line: &str) -> Result<Vec<u8>, AllocError> {
-    let mut none = Bytes::new(Vec::new(alloc));
-    let mut report = Gathered::new(alloc);
-    let mut fresh = Gathered::new(alloc);
-    let _status = run_over(alloc, line, &mut none, &mut report, &mut fresh)?;
-    Vec::from_slice(alloc, fresh.bytes())
+/// The words of a just-made image of 40 data blocks, four log blocks and blocks of 64 bytes that are not 0.
+const MADE: [(usize, u64); 5] = [
+    (0, 0x314d_4953_4644_414d),
+    (1, 393217),
+    (2, 17179869224),
+    (3, 4294967337),
+    (329, 4611686018427387904),
+];
+
+/// The bytes of that image with other words at some places.
+fn changed(alloc: Global, changes: &[(usize, u64)]) -> Result<Vec<u8>, AllocError> {
+    let mut words = vec![in alloc; 0u64; 632]?;
+    for &(place, word) in MADE.iter() {
+        if place < words.len() {
+            words[place] = word;
+        }
+    }
+    for &(place, word) in changes {
+        if place < words.len() {
+            words[place] = word;
+        }
+    }
+    to_bytes(alloc, &words)
 }
 
 #[test]
@@ -90,13 +106,8 @@ const CHANGES: [([(usize, u64); 3], Status); 4] = [
 #[test]
 fn bad_images_are_refused(rt: HostRuntime) -> Result<(), Fail> {
     let alloc = rt.alloc();
-    let bytes = made(alloc, "mkfs 40 4 64")?;
     for (changes, want) in CHANGES {
-        let mut words = of_bytes(alloc, &bytes)?;
-        for (place, word) in changes {
-            words[place] = word;
-        }
-        let mut image = Bytes::new(to_bytes(alloc, &words)?);
+        let mut image = Bytes::new(changed(alloc, &changes)?);
         let mut report = Gathered::new(alloc);
         let mut fresh = Gathered::new(alloc);
         let status = run_over(alloc, "cat", &mut image, &mut report, &mut fresh)?;
@@ -109,17 +120,16 @@ fn bad_images_are_refused(rt: HostRuntime) -> Result<(), Fail> {
 #[test]
 fn a_file_is_shown(rt: HostRuntime) -> Result<(), Fail> {
     let alloc = rt.alloc();
-    let mut words = of_bytes(alloc, &made(alloc, "mkfs 40 4 64")?)?;
-    words[331] = 277076930461697;
-    words[8] = 0x61;
-    let bytes = to_bytes(alloc, &words)?;
+    let bytes = changed(alloc, &[(331, 277076930461697), (8, 0x61)])?;
     let mut fresh = Gathered::new(alloc);
     let mut image = Bytes::new(Vec::from_slice(alloc, &bytes)?);
     let mut report = Gathered::new(alloc);
     let status = run_over(alloc, "cat", &mut image, &mut report, &mut fresh)?;
     assert_eq!(rt; status, Status::Done);
     assert_eq!(rt; report.bytes(), b"a".as_slice());
-    let mut short = Bytes::new(Vec::from_slice(alloc, &bytes[..5055])?);
+    let mut short = Vec::from_slice(alloc, &bytes)?;
+    let _last = short.pop();
+    let mut short = Bytes::new(short);
     let status = run_over(alloc, "cat", &mut short, &mut report, &mut fresh)?;
     assert_eq!(rt; status, Status::BadImage(BadImage::Short { bytes: 5055 }));
     let mut long = bytes;
@@ -133,8 +143,7 @@ fn a_file_is_shown(rt: HostRuntime) -> Result<(), Fail> {
 #[test]
 fn faults_of_images_are_reported(rt: HostRuntime) -> Result<(), Fail> {
     let alloc = rt.alloc();
-    let bytes = made(alloc, "mkfs 2 1 64")?;
-    let mut broken = FailingBytes::new(bytes, vec![in alloc; 2]?);
+    let mut broken = FailingBytes::new(changed(alloc, &[])?, vec![in alloc; 2]?);
     let mut report = Gathered::new(alloc);
     let mut fresh = Gathered::new(alloc);
     let status = run_over(alloc, "dump", &mut broken, &mut report, &mut fresh)?;
