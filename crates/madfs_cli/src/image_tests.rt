@@ -33,7 +33,7 @@ const MADE: [(usize, u64); 5] = [
 ];
 
 /// The bytes of that image with other words at some places.
-fn changed(alloc: Global, changes: &[(usize, u64)]) -> Result<Vec<u8>, AllocError> {
+pub(crate) fn changed(alloc: Global, changes: &[(usize, u64)]) -> Result<Vec<u8>, AllocError> {
     let mut words = vec![in alloc; 0u64; 632]?;
     for &(place, word) in MADE.iter() {
         if place < words.len() {

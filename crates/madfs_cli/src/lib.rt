@@ -7,6 +7,8 @@ pub mod commands;
 mod image_tests;
 pub mod images;
 pub mod outputs;
+#[cfg(test)]
+mod replay_tests;
 pub mod replays;
 pub mod statuses;
 #[cfg(test)]

@@ -96,7 +96,7 @@ fn writes_of_too_many_blocks_are_refused(rt: HostRuntime) -> Result<(), Fail> {
 }
 
 /// Words that are no command.
-const NO_COMMANDS: [&str; 18] = [
+const NO_COMMANDS: [&str; 21] = [
     "",
     "try",
     "try 40 4 64",
@@ -110,7 +110,10 @@ const NO_COMMANDS: [&str; 18] = [
     "try 4294967336 4 64 1",
     "try -1 4 64 1",
     "try 40 4 64 +1",
-    "replay 1",
+    "replay",
+    "replay 0",
+    "replay 2",
+    "replay 1 2",
     "mkfs 2 1 63",
     "mkfs 2 1 64 1",
     "cat -",
