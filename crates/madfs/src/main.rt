@@ -21,7 +21,10 @@ madfs <image> <command> <arguments>
 mkfs <data blocks> <log blocks> <block bytes>
     makes an image, and prints its blocks and bytes
 try <data blocks> <log blocks> <block bytes> <seats>
-    runs the trace on standard input on an empty file, and prints the report
+    runs the trace on standard input on a just-made image, and prints the report
+replay <seats>
+    runs the trace on standard input on the image, prints the report, and puts
+    the image after it in the image's place
 cat
     prints the bytes of the image's file
 dump

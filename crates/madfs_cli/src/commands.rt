@@ -15,7 +15,7 @@ use log_entry::text::read_number;
 pub enum Command {
     /// Make an image of this shape.
     Mkfs { shape: Geometry },
-    /// Run a trace of one seat on an empty file, in the limits of an image of this shape.
+    /// Run a trace of one seat on a just-made image of this shape.
     Try { shape: Geometry },
     /// Run a trace of one seat on an image.
     Replay,

@@ -4,6 +4,8 @@
 pub mod answers;
 pub mod commands;
 #[cfg(test)]
+mod drawn_tests;
+#[cfg(test)]
 mod image_tests;
 pub mod images;
 pub mod outputs;

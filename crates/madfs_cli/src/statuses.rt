@@ -6,7 +6,7 @@ use opening_rules::BadImage;
 use std::fmt;
 use trace_reader::BadTrace;
 
-/// How a command ended. Each but `Done` and `NoMemory` comes exactly for its cause.
+/// How a command ended. Each but `Done` and `NoMemory` comes only for its cause.
 #[derive(Clone, Copy, Debug, PartialEq, Eq)]
 pub enum Status {
     /// All was read, done and written.
@@ -19,9 +19,9 @@ pub enum Status {
     BadTrace(BadTrace),
     /// A read failed. Nothing was written.
     ReadFault,
-    /// A write failed. A first part of the text was written.
+    /// A write failed. A first part of the text was written, or all of it and a first part of the new image.
     WriteFault,
-    /// Want of memory. A first part of the text may have been written.
+    /// Want of memory. Nothing was written, or a first part of the text, or all of it and a first part of the new image.
     NoMemory,
 }
 

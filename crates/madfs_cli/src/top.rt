@@ -52,7 +52,8 @@ fn run_command<I: Source, T: Source, O: Sink, N: Sink>(
 ///
 /// The order of work is: the words, the image read to its end, opened and cleared, the trace read to its end, the calls, the
 /// report, the new image. `mkfs` reads nothing and writes the line of the new image's size and the image; `try`, of one seat,
-/// reads the trace and writes the report; `cat` and `dump` read the image and write its file and its text.
+/// reads the trace and writes the report of its run on a just-made image; `replay`, of one seat, reads the image and the trace
+/// and writes the report and the image after the run; `cat` and `dump` read the image and write its file and its text.
 /// A source or a sink that does not tell its bytes has the clauses on causes alone.
 pub fn run<I: Source, T: Source, O: Sink, N: Sink>(
     alloc: Global,
@@ -72,7 +73,7 @@ pub fn run<I: Source, T: Source, O: Sink, N: Sink>(
     ensures trace_kept { (request : Request) → Asks words.now request → reads_trace request ≡ false → trace.new ≡ trace.old }
     ensures fresh_kept { (request : Request) → Asks words.now request → writes_image request ≡ false → fresh.new ≡ fresh.old }
 
-    // Nothing is written before what the command reads was read to its end and accepted.
+    // Nothing is written before what the command reads was read to its end.
     ensures order { (request : Request) → Asks words.now request → ((report.new ≡ report.old) × (fresh.new ≡ fresh.old))
         ⊎ ((reads_image request ≡ true → IsAtEnd (I.left image.new)) × (reads_trace request ≡ true → IsAtEnd (T.left trace.new))) }
     ensures unwritten { (result ≡ Status.ReadFault) ⊎ ((why : BadImage) × (result ≡ Status.BadImage why)) ⊎ ((why : BadTrace) × (result ≡ Status.BadTrace why))
