@@ -270,14 +270,11 @@ impl Walked {
         let mut sealed = false;
         for (slot, word) in image.slots(own) {
             let bad = Bad::Entry(own, slot, word);
-            if sealed {
-                if word != 0 {
-                    return Err(bad);
-                }
-                continue;
-            }
             if word == 0 {
-                return Ok(false);
+                return Ok(sealed);
+            }
+            if sealed {
+                return Err(bad);
             }
             let (virt, count, leftover) = match Entry::of(word) {
                 Some(Entry::Seal) if slot > 3 => {
