@@ -86,7 +86,7 @@ fn draw(
     trace: &mut String,
     report: &mut String,
 ) -> Result<(), AllocError> {
-    for number in 1..draws.next(30) + 2 {
+    for number in 1..draws.next(30).saturating_add(2) {
         let offset = draws.next(600);
         let count = draws.next(200);
         if draws.next(3) == 0 {
