@@ -1,6 +1,7 @@
 //! Traces run on images, through the top call: the report, and the image after it.
 
 use crate::image_tests::changed;
+use crate::tests::push_write;
 use crate::{Status, run};
 use io_ends::{Bytes, FailingGathered, Gathered, Sink, Words};
 use opening_rules::BadImage;
@@ -25,7 +26,13 @@ fn replay<O: Sink, N: Sink>(
 }
 
 /// Traces on the just-made image of 40 data blocks, their reports, and the words that are another number after it.
-const RUNS: [(&[u8], &[u8], &[(usize, u64)]); 4] = [
+const RUNS: [(&[u8], &[u8], &[(usize, u64)]); 6] = [
+    (b"", b"end 0 0\n", &[]),
+    (
+        b"0 pwrite 100 ff\n0 pread 98 3\n",
+        b"1 0 1 pwrite 100 1 = 1\n1 0 2 pread 98 3 = 0000ff\nend 1 101\n",
+        &[(12, 0xff_0000_0000), (331, 118747256061957)],
+    ),
     (
         b"0 pwrite 0 616263\n0 pread 0 10\n",
         b"1 0 1 pwrite 0 3 = 3\n1 0 2 pread 0 10 = 616263\nend 1 3\n",
@@ -80,6 +87,55 @@ fn runs_leave_their_images(rt: HostRuntime) -> Result<(), Fail> {
         let after = changed(alloc, words)?;
         assert_eq!(rt; fresh.bytes(), after.as_slice());
     }
+    Ok(())
+}
+
+#[test]
+fn writes_of_too_many_blocks_are_refused_in_a_run(rt: HostRuntime) -> Result<(), Fail> {
+    let alloc = rt.alloc();
+    let image = changed(alloc, &[])?;
+    let mut trace = Vec::new(alloc);
+    push_write(&mut trace, b"0", 448)?;
+    push_write(&mut trace, b"0", 449)?;
+    push_write(&mut trace, b"1", 448)?;
+    let mut report = Gathered::new(alloc);
+    let mut fresh = Gathered::new(alloc);
+    let status = replay(alloc, &image, &trace, &mut report, &mut fresh)?;
+    assert_eq!(rt; status, Status::Done);
+    let want =
+        b"1 0 1 pwrite 0 448 = 448\n1 0 2 pwrite 0 449 = TooLong 8\n1 0 3 pwrite 1 448 = TooLong 8\nend 1 448\n";
+    assert_eq!(rt; report.bytes(), want.as_slice());
+    Ok(())
+}
+
+#[test]
+fn a_full_log_takes_no_entry(rt: HostRuntime) -> Result<(), Fail> {
+    let alloc = rt.alloc();
+    let mut words = Words::new(alloc);
+    for word in "try 40 1 64 1".split_whitespace() {
+        words.push(word)?;
+    }
+    let mut image = Bytes::new(Vec::new(alloc));
+    let mut trace = Vec::new(alloc);
+    for _ in 0..6 {
+        trace.extend_from_slice(b"0 pwrite 0 aa\n")?;
+    }
+    let mut trace = Bytes::new(trace);
+    let mut report = Gathered::new(alloc);
+    let mut fresh = Gathered::new(alloc);
+    let status = run(
+        alloc,
+        &words,
+        &mut image,
+        &mut trace,
+        &mut report,
+        &mut fresh,
+    );
+    assert_eq!(rt; status, Status::Done);
+    let want =
+        b"1 0 1 pwrite 0 1 = 1\n2 0 2 pwrite 0 1 = 1\n3 0 3 pwrite 0 1 = 1\n4 0 4 pwrite 0 1 = 1\n5 0 5 pwrite 0 1 = 1\n5 0 6 pwrite 0 1 = NoSpace log\nend 5 1\n";
+    assert_eq!(rt; report.bytes(), want.as_slice());
+    assert_eq!(rt; fresh.bytes(), b"".as_slice());
     Ok(())
 }
 

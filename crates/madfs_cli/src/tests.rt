@@ -68,7 +68,11 @@ fn rows_have_their_reports(rt: HostRuntime) -> Result<(), Fail> {
 }
 
 /// A line that writes this many bytes at this offset.
-fn push_write(trace: &mut Vec<u8>, offset: &[u8], count: usize) -> Result<(), AllocError> {
+pub(crate) fn push_write(
+    trace: &mut Vec<u8>,
+    offset: &[u8],
+    count: usize,
+) -> Result<(), AllocError> {
     trace.extend_from_slice(b"0 pwrite ")?;
     trace.extend_from_slice(offset)?;
     trace.extend_from_slice(b" ")?;
