@@ -1,38 +1,62 @@
 -- The calls answered so far, one more, and all of them.
 use Rattle.std.proofs.Common.{◌≡◌, ℕ, ◌+◌, List, [], ◌∷◌, ◌++◌, refl, sym, ap, ◌∙◌, subst}
-use Rattle.log_entry.specs.Legal.{Legal, Answers, last_file, last_position_of, position_after}
+use Rattle.log_entry.specs.Legal.{Legal, Answers, last_file, last_position_of, file_after, position_after}
+use Rattle.log_image.specs.Image.{Shape}
+use Rattle.log_image.specs.Stands.{StandsBy}
+use Rattle.chain_reader.specs.Tables.{shape_by}
 use Rattle.log_entry.specs.declared.shapes.Geometry.{Geometry}
 use Rattle.log_entry.specs.declared.calls.Call.{Call}
 use Rattle.log_entry.specs.declared.calls.Job.{Job}
 use Rattle.log_entry.specs.declared.calls.Reply.{Reply}
 use Rattle.log_entry.proofs.HistoryLemmas.{Mirrors, Legal-push, last_file-push, last_position_of-push, AreOfOneSeat, OfTrace-Mirrors, IsInOrder-one_seat}
 use Rattle.log_image.specs.Header.{generation_of}
-use Rattle.plain_engine.specs.Engine.{Running}
-use Rattle.plain_engine.specs.Serving.{Serves}
+use Rattle.plain_engine.specs.Engine.{shape_in, Running}
+use Rattle.plain_engine.specs.Serving.{Serves, wanted_blocks, lacking_for, refused_area}
+use Rattle.plain_engine.specs.Served.{IsServed, AreServed}
 use Rattle.plain_engine.specs.Replaying.{AreNumbered, AreOneSeat, Replays}
 use Rattle.plain_engine.specs.declared.engine.PlainEngine.{PlainEngine}
 
 -- these calls are legal from the file and the position of the engine before, and the engine now runs where they end
-pub record SoFar (before engine : PlainEngine) (file : List ℕ) (calls : List Call) : Type 0 where
+pub record SoFar (before engine : PlainEngine) (chain file : List ℕ) (calls : List Call) : Type 0 where
   pub geometry : engine.geometry ≡ before.geometry
   pub legal : Legal before.geometry.block_bytes file before.position calls
   pub position : engine.position ≡ last_position_of before.position calls
   pub generation : generation_of engine.words.items ≡ generation_of before.words.items
   pub longer : List ℕ
   pub runs : Running engine longer (last_file file calls)
+  pub served : AreServed (shape_in before) before.words.items chain file before.position calls engine.words.items longer
 
 -- no call yet
-pub SoFar-none : (engine : PlainEngine) (chain file : List ℕ) (calls : List Call) → calls ≡ [] → Running engine chain file → SoFar engine engine file calls
-SoFar-none engine chain file calls none runs = subst (λ (l : List Call). SoFar engine engine file l) (sym none) (record { geometry = refl; legal = tt; position = refl; generation = refl; longer = chain; runs = runs })
+pub SoFar-none : (engine : PlainEngine) (chain file : List ℕ) (calls : List Call) → calls ≡ [] → Running engine chain file → SoFar engine engine chain file calls
+SoFar-none engine chain file calls none runs = subst (λ (l : List Call). SoFar engine engine chain file l) (sym none) (record { geometry = refl; legal = tt; position = refl; generation = refl; longer = chain; runs = runs; served = (refl, refl) })
 
 -- the record of a job
 abbrev pub record_of : Job → ℕ → Reply → Call
 record_of job position reply = record { position = position; seat = job.seat; number = job.number; op = job.op; reply = reply }
 
+-- one more call served after others
+pub AreServed-push : (shape : Shape) (words chain file : List ℕ) (position : ℕ) (calls : List Call) (last last_chain : List ℕ) (call : Call) (after longer : List ℕ) → AreServed shape words chain file position calls last last_chain →
+    IsServed shape last last_chain (last_file file calls) (last_position_of position calls) call after longer → AreServed shape words chain file position (calls ++ call ∷ []) after longer
+AreServed-push shape words chain file position [] last last_chain call after longer served step =
+    let by_words : IsServed shape words last_chain file position call after longer = subst (λ (l : List ℕ). IsServed shape l last_chain file position call after longer) (sym served.0) step in
+    (after, longer, subst (λ (l : List ℕ). IsServed shape words l file position call after longer) (sym served.1) by_words, (refl, refl))
+AreServed-push shape words chain file position (first ∷ calls) last last_chain call after longer served step =
+    (served.0, served.1, served.2, AreServed-push shape served.0 served.1 (file_after file first.op first.reply) (position_after position first.op first.reply) calls last last_chain call after longer served.3 step)
+
+-- one call of an engine, as a step of its words
+step_of : (before engine next : PlainEngine) (file : List ℕ) (calls : List Call) (job : Job) (reply : Reply) (position : ℕ) → engine.geometry ≡ before.geometry → engine.position ≡ last_position_of before.position calls → (longer : List ℕ) →
+    (serves : Serves engine next longer (last_file file calls) job.op reply) →
+    IsServed (shape_in before) engine.words.items longer (last_file file calls) (last_position_of before.position calls) (record_of job position reply) next.words.items serves.longer
+step_of before engine next file calls job reply position geometry at longer serves = record {
+  stands = subst (λ (n : ℕ). StandsBy next.words.items serves.longer (file_after (last_file file calls) job.op reply) n) (serves.position ∙ ap (λ (n : ℕ). position_after n job.op reply) at) serves.runs.stands;
+  space = subst (λ (g : Geometry). refused_area reply ≡ lacking_for engine.words.items (shape_by g) longer (wanted_blocks g.block_bytes (last_position_of before.position calls) (last_file file calls) job.op)) geometry
+      (subst (λ (n : ℕ). refused_area reply ≡ lacking_for engine.words.items (shape_by engine.geometry) longer (wanted_blocks engine.geometry.block_bytes n (last_file file calls) job.op)) at serves.space);
+}
+
 -- one more
-pub SoFar-push : (before engine next : PlainEngine) (file : List ℕ) (calls : List Call) (job : Job) (reply : Reply) (position : ℕ) → position ≡ next.position → SoFar before engine file calls →
-    ((chain file : List ℕ) → Running engine chain file → Serves engine next chain file job.op reply) → SoFar before next file (calls ++ record_of job position reply ∷ [])
-SoFar-push before engine next file calls job reply position is far serving =
+pub SoFar-push : (before engine next : PlainEngine) (chain file : List ℕ) (calls : List Call) (job : Job) (reply : Reply) (position : ℕ) → position ≡ next.position → SoFar before engine chain file calls →
+    ((chain file : List ℕ) → Running engine chain file → Serves engine next chain file job.op reply) → SoFar before next chain file (calls ++ record_of job position reply ∷ [])
+SoFar-push before engine next chain file calls job reply position is far serving =
     let serves : Serves engine next far.longer (last_file file calls) job.op reply = serving far.longer (last_file file calls) far.runs in
     let answers : Answers before.geometry.block_bytes (last_position_of before.position calls) (last_file file calls) job.op reply =
     subst (λ (g : Geometry). Answers g.block_bytes (last_position_of before.position calls) (last_file file calls) job.op reply) far.geometry
@@ -45,6 +69,7 @@ SoFar-push before engine next file calls job reply position is far serving =
       generation = serves.generation ∙ far.generation;
       longer = serves.longer;
       runs = subst (λ (l : List ℕ). Running next serves.longer l) (sym (last_file-push file calls (record_of job position reply))) serves.runs;
+      served = AreServed-push (shape_in before) before.words.items chain file before.position calls engine.words.items far.longer (record_of job position reply) next.words.items serves.longer far.served (step_of before engine next file calls job reply position far.geometry far.position far.longer serves);
     }
 
 -- the calls of one seat's jobs are one seat's
@@ -55,8 +80,8 @@ one_seat number [] (call ∷ calls) numbered mirrors = absurd mirrors
 one_seat number (job ∷ jobs) [] numbered mirrors = absurd mirrors
 
 -- all of them
-pub Replays-all : (before engine : PlainEngine) (file : List ℕ) (jobs : List Job) (calls : List Call) → AreOneSeat jobs → Mirrors calls jobs → SoFar before engine file calls → Replays before engine file jobs calls
-Replays-all before engine file jobs calls numbered mirrors far = record {
+pub Replays-all : (before engine : PlainEngine) (chain file : List ℕ) (jobs : List Job) (calls : List Call) → AreOneSeat jobs → Mirrors calls jobs → SoFar before engine chain file calls → Replays before engine chain file jobs calls
+Replays-all before engine chain file jobs calls numbered mirrors far = record {
   of_trace = OfTrace-Mirrors calls jobs mirrors;
   legal = far.legal;
   in_order = IsInOrder-one_seat before.geometry.block_bytes file before.position 0 1 calls far.legal (one_seat 1 jobs calls numbered mirrors);
@@ -65,4 +90,5 @@ Replays-all before engine file jobs calls numbered mirrors far = record {
   generation = far.generation;
   longer = far.longer;
   runs = far.runs;
+  served = far.served;
 }

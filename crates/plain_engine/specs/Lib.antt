@@ -5,4 +5,5 @@ pub mod Space
 pub mod Engine
 pub mod Fresh
 pub mod Serving
+pub mod Served
 pub mod Replaying

@@ -6,7 +6,8 @@ use Rattle.log_entry.specs.Order.{IsInOrder}
 use Rattle.log_entry.specs.declared.calls.Call.{Call}
 use Rattle.log_entry.specs.declared.calls.Job.{Job}
 use Rattle.log_image.specs.Header.{generation_of}
-use Rattle.plain_engine.specs.Engine.{Running}
+use Rattle.plain_engine.specs.Served.{AreServed}
+use Rattle.plain_engine.specs.Engine.{shape_in, Running}
 use Rattle.plain_engine.specs.declared.engine.PlainEngine.{PlainEngine}
 
 -- the jobs are one seat's, numbered in turn from this number on
@@ -19,8 +20,9 @@ abbrev pub AreOneSeat : List Job → Type 0
 AreOneSeat jobs = AreNumbered 0 1 jobs
 
 -- the calls are the jobs', each once, in one legal history that starts from the file and the position that the engine had, in the
--- order of a report; the engine then runs on the history's last file, at its last position
-pub record Replays (old new : PlainEngine) (file : List ℕ) (jobs : List Job) (calls : List Call) : Type 0 where
+-- order of a report; the engine then runs on the history's last file, at its last position; and each call was served in turn, so
+-- that none says there is no space where there is
+pub record Replays (old new : PlainEngine) (chain file : List ℕ) (jobs : List Job) (calls : List Call) : Type 0 where
   pub of_trace : OfTrace calls jobs
   pub legal : Legal old.geometry.block_bytes file old.position calls
   pub in_order : IsInOrder calls
@@ -29,3 +31,4 @@ pub record Replays (old new : PlainEngine) (file : List ℕ) (jobs : List Job) (
   pub generation : generation_of new.words.items ≡ generation_of old.words.items
   pub longer : List ℕ
   pub runs : Running new longer (last_file file calls)
+  pub served : AreServed (shape_in old) old.words.items chain file old.position calls new.words.items longer

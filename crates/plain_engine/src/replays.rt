@@ -17,7 +17,7 @@ pub fn replay_all(
     jobs: Vec<Job>,
 ) -> Result<Vec<Call>, AllocError>
     requires { AreOneSeat jobs.items }
-    ensures { IfOk result (λ calls. (chain file : List ℕ) → Running engine.old chain file → Replays engine.old engine.new file jobs.items calls.items) }
+    ensures { IfOk result (λ calls. (chain file : List ℕ) → Running engine.old chain file → Replays engine.old engine.new chain file jobs.items calls.items) }
 {
     let mut calls = Vec::with_capacity(alloc, jobs.len())?;
     for job in jobs {

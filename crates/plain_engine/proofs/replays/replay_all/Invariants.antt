@@ -7,5 +7,5 @@ use Rattle.plain_engine.proofs.replays.replay_all.Given as goal
 abbrev pub invariant-loop-job : goal.invariant-loop-job
 invariant-loop-job l = record {
   mirrors : Mirrors l.calls.items l.yielded;
-  so_far : (chain file : List ℕ) → Running l.fn.engine chain file → SoFar l.fn.engine l.engine file l.calls.items;
+  so_far : (chain file : List ℕ) → Running l.fn.engine chain file → SoFar l.fn.engine l.engine chain file l.calls.items;
 }
