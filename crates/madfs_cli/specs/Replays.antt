@@ -1,5 +1,5 @@
 -- What a run of a trace's calls makes of an image.
-use Rattle.std.specs.Prelude.{ℕ, ◌≡◌, List, [], length, Ok}
+use Rattle.std.specs.Prelude.{ℕ, ◌≡◌, List, [], ◌∷◌, length, Ok}
 use Rattle.log_entry.specs.WordBytes.{word_bytes}
 use Rattle.log_entry.specs.Legal.{Legal, last_file, last_position_of}
 use Rattle.log_entry.specs.OfTrace.{OfTrace}
@@ -8,19 +8,22 @@ use Rattle.log_entry.specs.declared.calls.Call.{Call}
 use Rattle.log_entry.specs.declared.calls.Job.{Job}
 use Rattle.log_image.specs.Image.{Shape}
 use Rattle.log_image.specs.Header.{shape_of, generation_of}
-use Rattle.log_image.specs.Stands.{StandsBy, Stands}
-use Rattle.log_image.specs.JustMade.{IsJustMade}
+use Rattle.log_image.specs.Stands.{StandsBy}
+use Rattle.log_image.specs.JustMade.{first_log, IsJustMade}
+use Rattle.log_image.specs.Laws.{StaysCleared}
 use Rattle.trace_reader.specs.Reading.{Reads}
 use Rattle.history_report.specs.Report.{report_text}
-use Rattle.opening_rules.specs.Opening.{AcceptsBytes, chain_of}
+use Rattle.plain_engine.specs.Served.{AreServed}
+use Rattle.madfs_cli.specs.Images.{Clears}
 
 -- the words stand for a file
 abbrev pub StandForAFile : List ℕ → Type 0
 StandForAFile words = (chain : List ℕ) × (file : List ℕ) × (position : ℕ) × StandsBy words chain file position
 
--- from words that stand for this file at this position: the text is the report of the jobs' calls, each once, in one legal history
--- that keeps their order, and the words after it stand for the history's last file and position, in the same shape and generation
-pub record IsRunOf (words file : List ℕ) (position : ℕ) (jobs : List Job) (text after : List ℕ) : Type 0 where
+-- from words that stand for this file at this position by this chain: the text is the report of the jobs' calls, each once, in one
+-- legal history that keeps their order; the words after it stand for the history's last file and position, in the same shape and
+-- generation; and the calls are served in turn, so that none says there is no space where there is
+pub record IsRunOf (words chain file : List ℕ) (position : ℕ) (jobs : List Job) (text after : List ℕ) : Type 0 where
   pub calls : List Call
   pub of_trace : OfTrace calls jobs
   pub legal : Legal (shape_of words).block_bytes file position calls
@@ -28,7 +31,9 @@ pub record IsRunOf (words file : List ℕ) (position : ℕ) (jobs : List Job) (t
   pub text_is : text ≡ report_text calls (last_position_of position calls) (length (last_file file calls))
   pub same_shape : shape_of after ≡ shape_of words
   pub same_generation : generation_of after ≡ generation_of words
-  pub stands : Stands after (last_file file calls) (last_position_of position calls)
+  pub longer : List ℕ
+  pub stands : StandsBy after longer (last_file file calls) (last_position_of position calls)
+  pub served : AreServed (shape_of words) words chain file position calls after longer
 
 -- the text is the report of the trace that these bytes are, run on a just-made image of this shape
 pub record IsTryOf (shape : Shape) (trace text : List ℕ) : Type 0 where
@@ -37,19 +42,20 @@ pub record IsTryOf (shape : Shape) (trace text : List ℕ) : Type 0 where
   pub jobs : List Job
   pub read : Reads 1 trace (Ok jobs)
   pub after : List ℕ
-  pub run : IsRunOf words [] 0 jobs text after
+  pub run : IsRunOf words (first_log shape ∷ []) [] 0 jobs text after
 
--- the first bytes are an image that opens and stands for a file; the text is the report of the trace that the second bytes are,
--- run on it, and the last bytes are the image after it
+-- the first bytes are an image that opens; clearing leaves words of it that stand for the same file; the text is the report of the
+-- trace that the second bytes are, run on them, and the last bytes are the image after it
 pub record IsReplayOf (image trace text fresh : List ℕ) : Type 0 where
-  pub words : List ℕ
-  pub rest : List ℕ
-  pub accepts : AcceptsBytes image words rest
+  pub chain : List ℕ
+  pub cleared : List ℕ
+  pub clears : Clears image chain cleared
   pub file : List ℕ
   pub position : ℕ
-  pub stands : StandsBy words (chain_of words rest) file position
+  pub stands : StandsBy clears.words chain file position
+  pub stays : StaysCleared clears.words cleared chain file position
   pub jobs : List Job
   pub read : Reads 1 trace (Ok jobs)
   pub after : List ℕ
-  pub run : IsRunOf words file position jobs text after
+  pub run : IsRunOf cleared chain file position jobs text after
   pub fresh_is : fresh ≡ word_bytes after

@@ -38,7 +38,7 @@ struct Run {
 fn run_jobs(alloc: Global, start: Start, jobs: Vec<Job>) -> Result<Run, AllocError>
     requires trace { IsTrace 1 jobs.items }
     requires stands { StandForAFile start.words.items }
-    ensures { IfOk result (λ run. (chain file : List ℕ) (position : ℕ) → StandsBy start.words.items chain file position → IsRunOf start.words.items file position jobs.items run.text.items run.words.items) }
+    ensures { IfOk result (λ run. (chain file : List ℕ) (position : ℕ) → StandsBy start.words.items chain file position → IsRunOf start.words.items chain file position jobs.items run.text.items run.words.items) }
 {
     let mut engine = PlainEngine::new(alloc, start)?;
     let calls = replay_all(alloc, &mut engine, jobs)?;

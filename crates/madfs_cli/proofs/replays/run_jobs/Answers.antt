@@ -11,7 +11,7 @@ pub print_report-requires : goal.print_report-requires
 print_report-requires c =
     let stands = c.requires.stands in
     let runs = c.in_ok-engine.ensures.runs stands.0 stands.1 stands.2 stands.3 in
-    kinds_of c.in_ok-engine.engine c.replay_all.new.engine stands.1 c.args.jobs.items c.in_ok-calls.calls.items c.deref.result.now (c.in_ok-calls.ensures stands.0 stands.1 runs.1) c.deref.ensures.value
+    kinds_of c.in_ok-engine.engine c.replay_all.new.engine stands.0 stands.1 c.args.jobs.items c.in_ok-calls.calls.items c.deref.result.now (c.in_ok-calls.ensures stands.0 stands.1 runs.1) c.deref.ensures.value
 
 pub returns : goal.returns
 returns c = λ chain file position stands.
