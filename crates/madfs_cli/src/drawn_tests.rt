@@ -106,7 +106,7 @@ fn draw(
         } else {
             let mut bytes = Vec::new(alloc);
             for _ in 0..count {
-                bytes.push(draws.next(256) as u8)?;
+                bytes.push((draws.next(256) % 256) as u8)?;
             }
             let line = format!(in alloc; "0 pwrite {offset} ")?;
             trace.push_str(line.as_str())?;
