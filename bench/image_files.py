@@ -127,6 +127,17 @@ def write_past_end(path, data, block_bytes=4096):
             out.write(bytes(block_bytes))
 
 
+def write_fresh(path, data, log, block_bytes=4096):
+    """A just-made image."""
+    with open(path, "wb") as out:
+        out.write(block_of(header_words(data, log, block_bytes, 1, data + 1), block_bytes))
+        for _ in range(data):
+            out.write(bytes(block_bytes))
+        out.write(block_of([0, LOG], block_bytes))
+        for _ in range(total_blocks(data, log, block_bytes) - data - 2):
+            out.write(bytes(block_bytes))
+
+
 def image_of(total, block_bytes, laid):
     """The bytes of an image with these words, by their places, and 0 in all others."""
     words = array("Q", bytes(total * block_bytes))
@@ -158,6 +169,33 @@ def made_by_hand():
          "image data 7 log 2 spare 22 block 64\nhead generation 1 block 8\nlog 8 base 0\n"
          "slot 3 indirect 1 virt 5 count 3 leftover 60 run 2 1 run 4 2\nslot 4 seal\nlog 9 base 1\nend 1 452\n",
          bytes(5 * 64) + b"\x11\x11" + bytes(62 + 62) + b"\x22\x22" + b"\x33\x33\0\0"),
+    ]
+
+
+def replayed_by_hand():
+    """Small images, a trace, and the report and the image that are due, written by hand: (name, bytes, trace, report, bytes after)."""
+    fresh = {0: MAGIC, 1: 393_217, 2: 4_294_967_298, 3: 4_294_967_299, 25: LOG}
+    seven = {0: MAGIC, 1: 393_217, 2: 7 | 2 << 32, 3: 8 | 1 << 32, 65: LOG}
+    grown = {8 * block: block for block in range(1, 8)} | {66 + block: direct(0, block, leftover=63) for block in range(1, 6)}
+    grown |= {64: 9, 73: LOG | 5, 75: direct(0, 6, leftover=63), 76: direct(0, 7, leftover=63)}
+    laid = {24: 0xFF, 48: 0x1111, 55: 0x04030201 << 32, 56: 0x08070605, 63: 0x2222 << 48}
+    laid |= {75: direct(0, 3, leftover=63), 76: direct(5, 6, 2, 60), 77: 0}
+    spread = made_by_hand()[2][1]
+    after = array("Q", spread)
+    for place, word in laid.items():
+        after[place] = word
+    return [
+        ("just made", image_of(24, 64, fresh), "0 pwrite 0 616263\n0 pread 0 10\n",
+         "1 0 1 pwrite 0 3 = 3\n1 0 2 pread 0 10 = 616263\nend 1 3\n",
+         image_of(24, 64, fresh | {8: 0x636261, 27: direct(0, 1, leftover=61)})),
+        ("whose log grows", image_of(32, 64, seven), "".join(f"0 pwrite 0 0{block}\n" for block in range(1, 9)),
+         "".join(f"{block} 0 {block} pwrite 0 1 = 1\n" for block in range(1, 8)) + "7 0 8 pwrite 0 1 = NoSpace data\nend 7 1\n",
+         image_of(32, 64, seven | grown)),
+        ("with runs and a seal", spread,
+         "0 pwrite 0 ff\n0 pread 0 2\n0 pwrite 380 0102030405060708\n0 pread 379 10\n0 pread 448 10\n0 pwrite 4194304 00\n0 pwrite 9 -\n",
+         "2 0 1 pwrite 0 1 = 1\n2 0 2 pread 0 2 = ff00\n3 0 3 pwrite 380 8 = 8\n3 0 4 pread 379 10 = 00010203040506070800\n"
+         "3 0 5 pread 448 10 = 33330000\n3 0 6 pwrite 4194304 1 = TooLarge 4194305\n3 0 7 pwrite 9 0 = 0\nend 3 452\n",
+         to_bytes(after)),
     ]
 
 

@@ -1,5 +1,8 @@
-//! The plain twin of `madfs <image> mkfs <data> <log> <block bytes>`, `cat` and `dump`: the same job in ordinary Rust, with no proof.
-//! Built by `rustc -O`, no crates.
+//! The plain twin of `madfs <image> mkfs <data> <log> <block bytes>`, `cat`, `dump` and `replay 1`: the same job in ordinary Rust, with
+//! no proof. Built by `rustc -O`, no crates.
+
+mod calls;
+mod replay_twin;
 
 use std::fmt;
 use std::io::{BufWriter, Write};
@@ -426,7 +429,14 @@ fn dump(image: &Image, walked: &Walked, out: &mut impl Write) -> io::Result<()> 
     writeln!(out, "end {} {}", walked.position, walked.size)
 }
 
-/// Writes a just-made image beside the image's name, and puts it in its place.
+/// Writes a new image beside the image's name, and puts it in its place.
+fn replace(name: &str, bytes: &[u8]) -> io::Result<()> {
+    let fresh = format!("{name}.new");
+    fs::write(&fresh, bytes)?;
+    fs::rename(fresh, name)
+}
+
+/// Makes a just-made image.
 fn mkfs(name: &str, shape: &Shape, out: &mut impl Write) -> io::Result<()> {
     let mut bytes = vec![0; shape.bytes()];
     let first = shape.data + 1;
@@ -439,9 +449,7 @@ fn mkfs(name: &str, shape: &Shape, out: &mut impl Write) -> io::Result<()> {
     bytes[second..second + 8].copy_from_slice(&(1u64 << 62).to_le_bytes());
     writeln!(out, "blocks {} bytes {}", shape.total(), shape.bytes())?;
     out.flush()?;
-    let fresh = format!("{name}.new");
-    fs::write(&fresh, bytes)?;
-    fs::rename(fresh, name)
+    replace(name, &bytes)
 }
 
 fn show(name: &str, command: &str) -> ExitCode {
@@ -468,6 +476,7 @@ fn main() -> ExitCode {
     let words: Vec<&str> = words.iter().map(String::as_str).collect();
     match words.as_slice() {
         [name, command @ ("cat" | "dump")] => show(name, command),
+        [name, "replay", "1"] => replay_twin::replay(name),
         [name, "mkfs", data, log, block] => {
             let parsed: Result<Vec<usize>, _> = [data, log, block].iter().map(|text| text.parse()).collect();
             let Some(shape) = parsed.ok().and_then(|number| Shape::new(number[0], number[1], number[2])) else {

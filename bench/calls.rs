@@ -1,0 +1,141 @@
+//! Traces and reports, for the twins of the commands that run a trace: read and printed in ordinary Rust, with no proof.
+
+use std::io::Write;
+
+/// What a call asks.
+pub enum Op {
+    Pwrite { offset: u64, bytes: Vec<u8> },
+    Pread { offset: u64, length: u64 },
+}
+
+/// A call that a line of a trace asks.
+pub struct Job {
+    pub number: u32,
+    pub op: Op,
+}
+
+/// What a call is answered.
+pub enum Reply {
+    Wrote(u64),
+    TooLong(u64),
+    TooLarge(u128),
+    PositionLimit,
+    NoSpace(&'static str),
+    Bytes(Vec<u8>),
+}
+
+/// A call that was made.
+pub struct Call {
+    pub position: u64,
+    pub number: u32,
+    pub op: Op,
+    pub reply: Reply,
+}
+
+fn number(text: &[u8]) -> Option<u64> {
+    if text.is_empty() || (text.len() > 1 && text[0] == b'0') {
+        return None;
+    }
+    let mut value = 0u64;
+    for digit in text {
+        if !digit.is_ascii_digit() {
+            return None;
+        }
+        value = value.checked_mul(10)?.checked_add(u64::from(digit - b'0'))?;
+    }
+    Some(value)
+}
+
+fn digit(c: u8) -> Option<u8> {
+    match c {
+        b'0'..=b'9' => Some(c - b'0'),
+        b'a'..=b'f' => Some(c - b'a' + 10),
+        _ => None,
+    }
+}
+
+fn bytes(text: &[u8]) -> Option<Vec<u8>> {
+    if text == b"-" {
+        return Some(Vec::new());
+    }
+    if text.is_empty() || text.len() % 2 != 0 {
+        return None;
+    }
+    text.chunks_exact(2).map(|pair| Some(digit(pair[0])? * 16 + digit(pair[1])?)).collect()
+}
+
+fn job(line: &[u8]) -> Option<Op> {
+    let mut fields = line.split(|b| *b == b' ');
+    if fields.next()? != b"0" {
+        return None;
+    }
+    let name = fields.next()?;
+    let offset = number(fields.next()?)?;
+    let last = fields.next()?;
+    if fields.next().is_some() {
+        return None;
+    }
+    match name {
+        b"pwrite" => Some(Op::Pwrite { offset, bytes: bytes(last)? }),
+        b"pread" => {
+            let length = number(last)?;
+            (length <= 1_048_576).then_some(Op::Pread { offset, length })
+        }
+        _ => None,
+    }
+}
+
+/// The calls of a trace, or the number of its first bad line.
+pub fn jobs(text: &[u8]) -> Result<Vec<Job>, u64> {
+    let mut jobs = Vec::new();
+    let mut rest = text;
+    let mut total = 0u64;
+    while !rest.is_empty() {
+        let line = jobs.len() as u64 + 1;
+        let end = rest.iter().position(|b| *b == b'\n').ok_or(line)?;
+        let op = job(&rest[..end]).ok_or(line)?;
+        if let Op::Pread { length, .. } = op {
+            total += length;
+            if total > 268_435_456 {
+                return Err(line);
+            }
+        }
+        jobs.push(Job { number: line as u32, op });
+        rest = &rest[end + 1..];
+    }
+    Ok(jobs)
+}
+
+fn hex(out: &mut Vec<u8>, bytes: &[u8]) {
+    const DIGITS: &[u8; 16] = b"0123456789abcdef";
+    if bytes.is_empty() {
+        out.push(b'-');
+    }
+    for b in bytes {
+        out.push(DIGITS[usize::from(b >> 4)]);
+        out.push(DIGITS[usize::from(b & 15)]);
+    }
+}
+
+/// The report of calls of one seat, in their order.
+pub fn report(calls: &[Call], position: u64, size: usize) -> Vec<u8> {
+    let mut out = Vec::new();
+    for call in calls {
+        write!(out, "{} 0 {} ", call.position, call.number).unwrap();
+        match &call.op {
+            Op::Pwrite { offset, bytes } => write!(out, "pwrite {offset} {} = ", bytes.len()).unwrap(),
+            Op::Pread { offset, length } => write!(out, "pread {offset} {length} = ").unwrap(),
+        }
+        match &call.reply {
+            Reply::Wrote(length) => write!(out, "{length}").unwrap(),
+            Reply::TooLong(blocks) => write!(out, "TooLong {blocks}").unwrap(),
+            Reply::TooLarge(end) => write!(out, "TooLarge {end}").unwrap(),
+            Reply::PositionLimit => write!(out, "PositionLimit").unwrap(),
+            Reply::NoSpace(area) => write!(out, "NoSpace {area}").unwrap(),
+            Reply::Bytes(bytes) => hex(&mut out, bytes),
+        }
+        out.push(b'\n');
+    }
+    writeln!(out, "end {position} {size}").unwrap();
+    out
+}
