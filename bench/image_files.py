@@ -185,7 +185,7 @@ def replayed_by_hand():
     for place, word in laid.items():
         after[place] = word
     return [
-        ("just made", image_of(24, 64, fresh), "0 pwrite 0 616263\n0 pread 0 10\n",
+        ("just made, with bytes in a free block", image_of(24, 64, fresh | {8: 99 << 56, 9: 99}), "0 pwrite 0 616263\n0 pread 0 10\n",
          "1 0 1 pwrite 0 3 = 3\n1 0 2 pread 0 10 = 616263\nend 1 3\n",
          image_of(24, 64, fresh | {8: 0x636261, 27: direct(0, 1, leftover=61)})),
         ("whose log grows", image_of(32, 64, seven), "".join(f"0 pwrite 0 0{block}\n" for block in range(1, 9)),
