@@ -75,31 +75,103 @@ fn an_image_is_made_and_shown(rt: HostRuntime) -> Result<(), Fail> {
     Ok(())
 }
 
-/// Words of an image of 40 data blocks, four log blocks and 64-byte blocks that are changed, and how showing its file then ends.
-/// Each has the entry of one byte in block 1, but the last.
-const CHANGES: [([(usize, u64); 3], Status); 4] = [
+/// Words of the just-made image of 40 data blocks that are changed, and why it is refused then.
+const CHANGES: [(&[(usize, u64)], BadImage); 19] = [
+    (&[(0, 3552576303075180800)], BadImage::BadMagic),
+    (&[(1, 393225)], BadImage::BadVersion { value: 9 }),
+    (&[(1, 458753)], BadImage::BadGeometry),
+    (&[(2, 40)], BadImage::BadGeometry),
+    (&[(3, 41)], BadImage::BadHead { word: 41 }),
+    (&[(3, 4294967336)], BadImage::BadHead { word: 4294967336 }),
     (
-        [(331, 277076930461697), (332, 3), (328, 41)],
-        Status::BadImage(BadImage::BadLink {
+        &[(329, 4611686018427387905)],
+        BadImage::BadBase {
             block: 41,
-            word: 41,
-        }),
+            word: 4611686018427387905,
+        },
     ),
+    (&[(330, 1)], BadImage::BadBase { block: 41, word: 1 }),
     (
-        [(331, 277076930461697), (332, 277076930461697), (328, 0)],
-        Status::BadImage(BadImage::BadShare { block: 1 }),
-    ),
-    (
-        [(331, 277076930461697), (8, 256), (328, 0)],
-        Status::BadImage(BadImage::BadSlack { block: 1 }),
-    ),
-    (
-        [(331, 3), (332, 0), (328, 0)],
-        Status::BadImage(BadImage::BadEntry {
+        &[(331, 3)],
+        BadImage::BadEntry {
             block: 41,
             slot: 3,
             word: 3,
-        }),
+        },
+    ),
+    (
+        &[(331, 4)],
+        BadImage::BadEntry {
+            block: 41,
+            slot: 3,
+            word: 4,
+        },
+    ),
+    (
+        &[(331, 277076940947457)],
+        BadImage::BadEntry {
+            block: 41,
+            slot: 3,
+            word: 277076940947457,
+        },
+    ),
+    (
+        &[(331, 281474976972801)],
+        BadImage::BadEntry {
+            block: 41,
+            slot: 3,
+            word: 281474976972801,
+        },
+    ),
+    (
+        &[
+            (331, 277076930461697),
+            (332, 277076930723841),
+            (333, 277076930985985),
+            (334, 277076931248129),
+            (335, 277076931510273),
+            (328, 41),
+        ],
+        BadImage::BadLink {
+            block: 41,
+            word: 41,
+        },
+    ),
+    (
+        &[(331, 277076930461697), (332, 3), (328, 41)],
+        BadImage::BadLink {
+            block: 41,
+            word: 41,
+        },
+    ),
+    (
+        &[(331, 277076930461697), (332, 3), (328, 1)],
+        BadImage::BadLink { block: 41, word: 1 },
+    ),
+    (
+        &[(3, 8589934637), (361, 9223372036854775808)],
+        BadImage::BadLink { block: 45, word: 0 },
+    ),
+    (
+        &[
+            (3, 8589934637),
+            (361, 9223372036854775808),
+            (360, 41),
+            (363, 1),
+        ],
+        BadImage::BadEntry {
+            block: 45,
+            slot: 3,
+            word: 1,
+        },
+    ),
+    (
+        &[(331, 277076930461697), (332, 277076930461697)],
+        BadImage::BadShare { block: 1 },
+    ),
+    (
+        &[(331, 277076930461697), (8, 256)],
+        BadImage::BadSlack { block: 1 },
     ),
 ];
 
@@ -107,11 +179,11 @@ const CHANGES: [([(usize, u64); 3], Status); 4] = [
 fn bad_images_are_refused(rt: HostRuntime) -> Result<(), Fail> {
     let alloc = rt.alloc();
     for (changes, want) in CHANGES {
-        let mut image = Bytes::new(changed(alloc, &changes)?);
+        let mut image = Bytes::new(changed(alloc, changes)?);
         let mut report = Gathered::new(alloc);
         let mut fresh = Gathered::new(alloc);
         let status = run_over(alloc, "cat", &mut image, &mut report, &mut fresh)?;
-        assert_eq!(rt; status, want);
+        assert_eq!(rt; status, Status::BadImage(want));
         assert_eq!(rt; report.bytes(), b"".as_slice());
     }
     Ok(())
