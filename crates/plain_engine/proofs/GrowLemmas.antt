@@ -145,16 +145,6 @@ grow_runs shape words new taken marked table position tail_block tail_slot first
     (fresh_block shape new next position (omega (arith, is.long)) (omega (arith, is.same_length, is.whole, block_inside (words_in shape) next (total shape) (next_in shape words new taken position next is))) is.below is.fresh)
     same_bits marks
 
--- which blocks are taken is told by their bits
-pub taken_by_bits : (words new : List ℕ) (shape : Shape) (chain longer taken marked : List ℕ) (block : ℕ) → HasTaken words shape chain taken → HasTaken new shape longer marked → block < total shape → bit_of marked block ≡ bit_of taken block → is_taken new shape longer block ≡ is_taken words shape chain block
-taken_by_bits words new shape chain longer taken marked block has also inside same = go (is_taken new shape longer block) (is_taken words shape chain block) (sym (also.bits block inside) ∙ same ∙ has.bits block inside)
-  where
-    go : (a b : Bool) → ◌≡◌ {A = ℕ} (if a then 1 else 0) (if b then 1 else 0) → a ≡ b
-    go true true is = refl
-    go false false is = refl
-    go true false is = absurd (omega (arith, is))
-    go false true is = absurd (omega (arith, is))
-
 -- what the code did, by the numbers that it has
 pub stored_by : (shape : Shape) (words seen new taken seen_taken : List ℕ) (table : FileMap) (position tail_block tail_slot next size first end : ℕ) → Bounds shape words taken table position tail_block tail_slot → seen ≡ words → seen_taken ≡ taken → size ≡ words_in shape →
     first ≡ 1 + shape.data_blocks → end ≡ 1 + shape.data_blocks + shape.log_blocks → IsFirstClear seen_taken first end next → length new ≡ length seen →

@@ -9,6 +9,7 @@ pub mod GrowLemmas
 pub mod FileLemmas
 pub mod WriteLemmas
 pub mod SpaceLemmas
+pub mod NamesLemmas
 pub mod WriteSteps
 pub mod ReadLemmas
 pub mod StartLemmas

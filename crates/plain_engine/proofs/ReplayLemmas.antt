@@ -11,7 +11,8 @@ use Rattle.log_entry.specs.declared.calls.Reply.{Reply}
 use Rattle.log_entry.proofs.HistoryLemmas.{Mirrors, Legal-push, last_file-push, last_position_of-push, AreOfOneSeat, OfTrace-Mirrors, IsInOrder-one_seat}
 use Rattle.log_image.specs.Header.{generation_of}
 use Rattle.plain_engine.specs.Engine.{shape_in, Running}
-use Rattle.plain_engine.specs.Serving.{Serves, wanted_blocks, lacking_for, refused_area}
+use Rattle.plain_engine.specs.Serving.{Serves, wanted_blocks, lacking_for, refused_area, written_blocks}
+use Rattle.plain_engine.specs.Names.{NamesAfter}
 use Rattle.plain_engine.specs.Served.{IsServed, AreServed}
 use Rattle.plain_engine.specs.Replaying.{AreNumbered, AreOneSeat, Replays}
 use Rattle.plain_engine.specs.declared.engine.PlainEngine.{PlainEngine}
@@ -49,8 +50,10 @@ step_of : (before engine next : PlainEngine) (file : List ℕ) (calls : List Cal
     IsServed (shape_in before) engine.words.items longer (last_file file calls) (last_position_of before.position calls) (record_of job position reply) next.words.items serves.longer
 step_of before engine next file calls job reply position geometry at longer serves = record {
   stands = subst (λ (n : ℕ). StandsBy next.words.items serves.longer (file_after (last_file file calls) job.op reply) n) (serves.position ∙ ap (λ (n : ℕ). position_after n job.op reply) at) serves.runs.stands;
+  same_shape = serves.runs.fits.same_shape ∙ ap (λ (g : Geometry). shape_by g) (serves.geometry ∙ geometry);
   space = subst (λ (g : Geometry). refused_area reply ≡ lacking_for engine.words.items (shape_by g) longer (wanted_blocks g.block_bytes (last_position_of before.position calls) (last_file file calls) job.op)) geometry
       (subst (λ (n : ℕ). refused_area reply ≡ lacking_for engine.words.items (shape_by engine.geometry) longer (wanted_blocks engine.geometry.block_bytes n (last_file file calls) job.op)) at serves.space);
+  names = subst (λ (g : Geometry). NamesAfter (shape_by g) engine.words.items longer (written_blocks g.block_bytes (last_file file calls) job.op reply) next.words.items serves.longer) geometry serves.names;
 }
 
 -- one more

@@ -17,12 +17,14 @@ use Rattle.log_entry.specs.declared.calls.Reply.{Reply}
 use Rattle.log_entry.specs.declared.calls.Reply.TheVariants.{Wrote, Appended, NotWritten}
 use Rattle.log_image.specs.Image.{Shape}
 use Rattle.plain_engine.specs.Space.{lacks_data, lacks_log, lacking}
-use Rattle.plain_engine.specs.Engine.{shape_in, Running, Writes, file_written, position_written}
-use Rattle.plain_engine.specs.Serving.{unless_refused, lacking_for, refused_area, Serves}
+use Rattle.plain_engine.specs.Engine.{shape_in, Running, Writes, file_written, position_written, blocks_written}
+use Rattle.plain_engine.specs.Serving.{unless_refused, lacking_for, refused_area, written_blocks, Serves}
 use Rattle.plain_engine.specs.declared.engine.PlainEngine.{PlainEngine}
 use Rattle.image_steps.proofs.StoreStep.{nothing_after}
 use Rattle.plain_engine.proofs.FileLemmas.{append_is_write}
+use Rattle.plain_engine.specs.Names.{NamesAfter}
 use Rattle.plain_engine.proofs.SpaceLemmas.{touched_from_place}
+use Rattle.plain_engine.proofs.NamesLemmas.{names_stay}
 
 -- what follows where nothing refuses a write
 pub record IsAllowed (block_bytes position blocks end : ℕ) : Type 0 where
@@ -83,8 +85,13 @@ serve_pwrite old new chain file offset (byte ∷ bytes) result some none is = re
   generation = ap (λ (w : ℕ). field HEAD_GENERATION w) is.head;
   longer = is.longer;
   runs = subst (λ (l : List ℕ). Running new is.longer l) (after result) is.runs;
+  names = subst (λ (o : Option ℕ). NamesAfter (shape_in old) old.words.items chain o new.words.items is.longer) (blocks result) is.names;
 }
   where
+    blocks : (found : Option Area) → blocks_written (touched_blocks old.geometry.block_bytes offset (length (byte ∷ bytes))) found ≡ written_blocks old.geometry.block_bytes file (Pwrite offset (byte ∷ bytes)) (reply_by found (Wrote (length (byte ∷ bytes))))
+    blocks None = refl
+    blocks (Some area) = refl
+
     area_same : (found : Option Area) → refused_area (reply_by found (Wrote (length (byte ∷ bytes)))) ≡ found
     area_same None = refl
     area_same (Some area) = refl
@@ -111,8 +118,13 @@ serve_append old new chain file at (byte ∷ bytes) result is_end some none is =
   generation = ap (λ (w : ℕ). field HEAD_GENERATION w) is.head;
   longer = is.longer;
   runs = subst (λ (l : List ℕ). Running new is.longer l) (after result) is.runs;
+  names = subst (λ (o : Option ℕ). NamesAfter (shape_in old) old.words.items chain o new.words.items is.longer) (blocks result) is.names;
 }
   where
+    blocks : (found : Option Area) → blocks_written (touched_blocks old.geometry.block_bytes at (length (byte ∷ bytes))) found ≡ written_blocks old.geometry.block_bytes file (Append (byte ∷ bytes)) (reply_by found (Appended at (length (byte ∷ bytes))))
+    blocks None = ap (λ (n : ℕ). Some (touched_blocks old.geometry.block_bytes n (length (byte ∷ bytes)))) is_end
+    blocks (Some area) = refl
+
     area_same : (found : Option Area) → refused_area (reply_by found (Appended at (length (byte ∷ bytes)))) ≡ found
     area_same None = refl
     area_same (Some area) = refl
@@ -161,6 +173,7 @@ refuse_pwrite e chain file offset (byte ∷ bytes) why some is runs = record {
   generation = refl;
   longer = chain;
   runs = runs;
+  names = names_stay (shape_in e) e.words.items e.words.items chain (λ block. refl) refl;
 }
 
 pub refuse_append : (e : PlainEngine) (chain file bytes : List ℕ) (why : WriteRefusal) → 0 < length bytes → write_refusal e.geometry.block_bytes e.position (appended_blocks e.geometry.block_bytes (length bytes)) (length file + length bytes) ≡ Some why →
@@ -175,7 +188,27 @@ refuse_append e chain file (byte ∷ bytes) why some is runs = record {
   generation = refl;
   longer = chain;
   runs = runs;
+  names = names_stay (shape_in e) e.words.items e.words.items chain (λ block. refl) refl;
 }
+
+-- a list of no bytes
+pub no_bytes : (bytes : List ℕ) → length bytes ≡ 0 → bytes ≡ []
+no_bytes [] is = refl
+no_bytes (byte ∷ bytes) is = absurd (omega (arith, is))
+
+-- a write of no bytes
+pub pwrite_nothing : (e : PlainEngine) (chain file : List ℕ) (offset : ℕ) (bytes : List ℕ) (count : ℕ) → bytes ≡ [] → count ≡ 0 → Running e chain file → Serves e e chain file (Pwrite offset bytes) (Wrote count)
+pwrite_nothing e chain file offset bytes count none zero_count runs =
+    subst (λ (l : List ℕ). Serves e e chain file (Pwrite offset l) (Wrote count)) (sym none) (record {
+      answers = ap (λ (n : ℕ). Wrote n) zero_count;
+      space = refl;
+      geometry = refl;
+      position = refl;
+      generation = refl;
+      longer = chain;
+      runs = runs;
+      names = names_stay (shape_in e) e.words.items e.words.items chain (λ block. refl) refl;
+    })
 
 -- an append of no bytes
 pub append_nothing : (e : PlainEngine) (chain file bytes : List ℕ) (at count : ℕ) → bytes ≡ [] → at ≡ length file → count ≡ 0 → Running e chain file → Serves e e chain file (Append bytes) (Appended at count)
@@ -188,6 +221,7 @@ append_nothing e chain file bytes at count none is_end zero_count runs =
       generation = refl;
       longer = chain;
       runs = subst (λ (m : List ℕ). Running e chain m) (sym (nothing_after file)) runs;
+      names = names_stay (shape_in e) e.words.items e.words.items chain (λ block. refl) refl;
     })
 
 -- a refusal by numbers that are the same

@@ -12,7 +12,7 @@ use Rattle.log_image.specs.Holes.{Hole, hole_of}
 use Rattle.log_image.specs.Taken.{is_taken, HasTaken}
 use Rattle.log_image.proofs.HoldingLemmas.{both_right}
 use Rattle.plain_engine.specs.Clear.{IsFirstClear, IsLeastRun}
-use Rattle.plain_engine.specs.Space.{clear_blocks, begins_run, lacks_data, is_link, lacks_log, lacking}
+use Rattle.plain_engine.specs.Space.{clear_blocks, least_data, least_log, begins_run, lacks_data, is_link, lacks_log, lacking}
 use Rattle.plain_engine.proofs.EngineLemmas.{clear_untaken, set_taken}
 
 -- a range touches as many blocks as the range from its place in its first block on
@@ -100,12 +100,12 @@ first_or_none p first (suc count) = go (p first) refl (first_or_none p (first + 
         each k above below (inr same) = (let one : first ≡ k = omega (arith, above, same) in subst (λ (n : ℕ). p n ≡ false) one is)
 
 -- the list of clear blocks from the first clear one on
-from_first : (p : ℕ → Bool) (count block : ℕ) → 1 ≤ block → block < 1 + count → p block ≡ true → ((k : ℕ) → 1 ≤ k → k < block → p k ≡ false) →
-    (passing p 1 count ≡ passing p block (1 + count - block)) × (get_or (passing p 1 count) 0 0 ≡ block)
-from_first p count block low high passes before =
-    let skip : passing p 1 count ≡ passing p block (1 + count - block) = skip_failing p 1 count block low (omega (arith, high)) before in
-    let long : 1 + count - block ≡ suc (count - block) = omega (arith, low, high) in
-    (skip, ap (λ (l : List ℕ). get_or l 0 0) (skip ∙ ap (λ (n : ℕ). passing p block n) long ∙ first_passes p block (count - block) passes))
+from_first : (p : ℕ → Bool) (start count block : ℕ) → start ≤ block → block < start + count → p block ≡ true → ((k : ℕ) → start ≤ k → k < block → p k ≡ false) →
+    (passing p start count ≡ passing p block (start + count - block)) × (get_or (passing p start count) 0 0 ≡ block)
+from_first p start count block low high passes before =
+    let skip : passing p start count ≡ passing p block (start + count - block) = skip_failing p start count block low (omega (arith, high)) before in
+    let long : start + count - block ≡ suc (start + count - block - 1) = omega (arith, low, high) in
+    (skip, ap (λ (l : List ℕ). get_or l 0 0) (skip ∙ ap (λ (n : ℕ). passing p block n) long ∙ first_passes p block (start + count - block - 1) passes))
 
 -- what is known of the bits and of the cursor
 pub record Cursor (words : List ℕ) (shape : Shape) (chain taken : List ℕ) (first_clear : ℕ) : Type 0 where
@@ -126,11 +126,24 @@ run_enough words shape chain taken first_clear count block some is least =
     λ k above below. ap (λ (b : Bool). not b) (clear_untaken words shape chain taken k is.has (omega (arith, below, least.room)) (least.run k above below)) in
     let first : not (is_taken words shape chain block) ≡ true = ap (λ (b : Bool). not b) (clear_untaken words shape chain taken block is.has (omega (arith, least.first.inside)) least.first.clear) in
     let both : (clear_blocks words shape chain 1 shape.data_blocks ≡ passing (λ (b : ℕ). not (is_taken words shape chain b)) block (1 + shape.data_blocks - block)) × (get_or (clear_blocks words shape chain 1 shape.data_blocks) 0 0 ≡ block) =
-    from_first (λ (b : ℕ). not (is_taken words shape chain b)) shape.data_blocks block some least.first.inside first
+    from_first (λ (b : ℕ). not (is_taken words shape chain b)) 1 shape.data_blocks block some least.first.inside first
     (λ k low below. ap (λ (b : Bool). not b) (before_run words shape chain taken first_clear count block is least.first k low below)) in
     ap (λ (n : ℕ). not (begins_run n count (clear_blocks words shape chain 1 shape.data_blocks))) both.1
     ∙ ap (λ (l : List ℕ). not (begins_run block count l)) both.0
     ∙ ap (λ (b : Bool). not b) (run_begins (λ (b : ℕ). not (is_taken words shape chain b)) block (1 + shape.data_blocks - block) count (omega (arith, least.room)) clear_at)
+
+-- the run begins at the least clear data block, and the first clear block of the log area is the least one
+pub run_is_least : (words : List ℕ) (shape : Shape) (chain taken : List ℕ) (first_clear count block : ℕ) → 1 ≤ block → Cursor words shape chain taken first_clear → IsLeastRun taken first_clear (1 + shape.data_blocks) count block → least_data words shape chain ≡ block
+run_is_least words shape chain taken first_clear count block some is least =
+    (from_first (λ (b : ℕ). not (is_taken words shape chain b)) 1 shape.data_blocks block some least.first.inside
+    (ap (λ (b : Bool). not b) (clear_untaken words shape chain taken block is.has (omega (arith, least.first.inside)) least.first.clear))
+    (λ k low below. ap (λ (b : Bool). not b) (before_run words shape chain taken first_clear count block is least.first k low below))).1
+
+pub next_is_least : (words : List ℕ) (shape : Shape) (chain taken : List ℕ) (next : ℕ) → HasTaken words shape chain taken → IsFirstClear taken (1 + shape.data_blocks) (1 + shape.data_blocks + shape.log_blocks) next → least_log words shape chain ≡ next
+next_is_least words shape chain taken next has first =
+    (from_first (λ (b : ℕ). not (is_taken words shape chain b)) (1 + shape.data_blocks) shape.log_blocks next first.after first.inside
+    (ap (λ (b : Bool). not b) (clear_untaken words shape chain taken next has (omega (arith, first.inside)) first.clear))
+    (λ k low below. ap (λ (b : Bool). not b) (set_taken words shape chain taken k has (omega (arith, below, first.inside)) (first.before k low below)))).1
 
 pub no_run_lacks : (words : List ℕ) (shape : Shape) (chain taken : List ℕ) (first_clear count : ℕ) → 1 ≤ count → Cursor words shape chain taken first_clear → ((block : ℕ) → IsLeastRun taken first_clear (1 + shape.data_blocks) count block → ⊥) → lacks_data words shape chain count ≡ true
 no_run_lacks words shape chain taken first_clear count some is none = go (begins_run (get_or (clear_blocks words shape chain 1 shape.data_blocks) 0 0) count (clear_blocks words shape chain 1 shape.data_blocks)) refl (first_or_none (λ (b : ℕ). not (is_taken words shape chain b)) 1 shape.data_blocks)
@@ -160,7 +173,7 @@ no_run_lacks words shape chain taken first_clear count some is none = go (begins
         absurd (cc)
     go true begun (inr first) =
         let both : (clear_blocks words shape chain 1 shape.data_blocks ≡ passing (λ (b : ℕ). not (is_taken words shape chain b)) first.0 (1 + shape.data_blocks - first.0)) × (get_or (clear_blocks words shape chain 1 shape.data_blocks) 0 0 ≡ first.0) =
-        from_first (λ (b : ℕ). not (is_taken words shape chain b)) shape.data_blocks first.0 first.1 first.2 first.3 first.4 in
+        from_first (λ (b : ℕ). not (is_taken words shape chain b)) 1 shape.data_blocks first.0 first.1 first.2 first.3 first.4 in
         let there : begins_run first.0 count (passing (λ (b : ℕ). not (is_taken words shape chain b)) first.0 (1 + shape.data_blocks - first.0)) ≡ true =
         sym (ap (λ (l : List ℕ). begins_run first.0 count l) both.0) ∙ sym (ap (λ (n : ℕ). begins_run n count (clear_blocks words shape chain 1 shape.data_blocks)) both.1) ∙ begun in
         let run : (count ≤ 1 + shape.data_blocks - first.0) × ((k : ℕ) → first.0 ≤ k → k < first.0 + count → not (is_taken words shape chain k) ≡ true) = run_passes (λ (b : ℕ). not (is_taken words shape chain b)) first.0 (1 + shape.data_blocks - first.0) count there in
@@ -198,6 +211,10 @@ pub lacks_log_same : (words new : List ℕ) (shape : Shape) (chain : List ℕ) �
 lacks_log_same words new shape chain taken hole =
     ap (λ (h : Hole). is_link h && length (clear_blocks new shape chain (1 + shape.data_blocks) shape.log_blocks) == 0) hole
     ∙ ap (λ (l : List ℕ). is_link (hole_of words shape chain) && length l == 0) (filter_same (λ (b : ℕ). not (is_taken new shape chain b)) (λ (b : ℕ). not (is_taken words shape chain b)) (range_with_len (1 + shape.data_blocks) shape.log_blocks) (λ b. ap (λ (t : Bool). not t) (taken b)))
+
+pub least_log_same : (words new : List ℕ) (shape : Shape) (chain : List ℕ) → ((block : ℕ) → is_taken new shape chain block ≡ is_taken words shape chain block) → least_log new shape chain ≡ least_log words shape chain
+least_log_same words new shape chain taken =
+    ap (λ (l : List ℕ). get_or l 0 0) (filter_same (λ (b : ℕ). not (is_taken new shape chain b)) (λ (b : ℕ). not (is_taken words shape chain b)) (range_with_len (1 + shape.data_blocks) shape.log_blocks) (λ b. ap (λ (t : Bool). not t) (taken b)))
 
 -- the three answers
 pub lacking_data : (words : List ℕ) (shape : Shape) (chain : List ℕ) (count : ℕ) → lacks_data words shape chain count ≡ true → Some Data ≡ lacking words shape chain count

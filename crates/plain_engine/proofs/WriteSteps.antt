@@ -1,5 +1,5 @@
 -- The way of a write through an engine: its blocks are stored, a slot is made, the entry is put there.
-use Rattle.std.proofs.Common.{◌≡◌, ◌<◌, ◌≤◌, ◌+◌, ◌*◌, ◌⊎◌, inl, inr, ℕ, Bool, true, false, List, length, get_or, nat_le, sym, ap, ◌∙◌, subst, arith}
+use Rattle.std.proofs.Common.{◌≡◌, ◌<◌, ◌≤◌, ◌+◌, ◌*◌, ◌⊎◌, inl, inr, ℕ, Bool, true, false, List, length, get_or, Some, nat_le, sym, ap, ◌∙◌, subst, arith}
 use Rattle.std.proofs.Math.Logic.{∥∥₁_elim}
 use Rattle.std.proofs.Math.Nat.{ℕ_set}
 use Rattle.std.proofs.lemmas.Bool.{cases_lt, le-leb}
@@ -22,10 +22,12 @@ use Rattle.plain_engine.specs.Clear.{IsLeastRun}
 use Rattle.plain_engine.specs.Running.{Runs, RunsOnSome, AllTakenBefore}
 use Rattle.plain_engine.specs.Engine.{shape_in, Running, SameBesideWords, SameNames, HasSlot, SameBesideTail}
 use Rattle.plain_engine.specs.declared.engine.PlainEngine.{PlainEngine}
-use Rattle.plain_engine.proofs.BoundsLemmas.{set_bits, data_inside}
+use Rattle.plain_engine.proofs.BoundsLemmas.{bounds, set_bits, data_inside}
 use Rattle.plain_engine.proofs.EngineLemmas.{clear_untaken, set_taken}
 use Rattle.plain_engine.specs.Space.{lacks_log}
-use Rattle.plain_engine.proofs.SpaceLemmas.{lacks_log_same}
+use Rattle.plain_engine.specs.Names.{MakesSlot, TakesRun, NamesAfter}
+use Rattle.plain_engine.proofs.SpaceLemmas.{lacks_log_same, run_is_least}
+use Rattle.plain_engine.proofs.NamesLemmas.{names_written}
 use Rattle.plain_engine.proofs.WriteLemmas.{IsRunFor, run_entry, present_is}
 
 -- the engines before, after the blocks are stored, and after a slot is made
@@ -119,3 +121,14 @@ pub log_lack : (before stored : PlainEngine) (chain : List ℕ) → SameBesideWo
 log_lack before stored chain same names lack is =
     sym (lacks_log_same before.words.items stored.words.items (shape_in before) chain names.taken names.hole)
     ∙ subst (λ (s : Shape). lacks_log stored.words.items s chain ≡ lack) (shape_stored before stored same) is
+
+-- the blocks that the chain names after it, and its hole
+pub way_names : (before stored slotted new : PlainEngine) (virt block count leftover offset : ℕ) (bytes chain file : List ℕ) → IsWay before stored slotted virt block count leftover offset bytes → Running before chain file → SameNames before stored chain → (slot : HasSlot stored slotted chain file) →
+    TakesRun (shape_in slotted) slotted.words.items slot.longer new.words.items block count → NamesAfter (shape_in before) before.words.items chain (Some count) new.words.items slot.longer
+way_names before stored slotted new virt block count leftover offset bytes chain file is runs names slot run =
+    names_written (shape_in before) before.words.items stored.words.items slotted.words.items new.words.items chain slot.longer block count
+    (bounds (shape_in before) before.words.items before.taken.items before.table before.position before.tail_block before.tail_slot before.first_clear before.kept).long
+    (run_is_least before.words.items (shape_in before) chain before.taken.items before.first_clear count block is.run.first (record { has = runs.fits.bitmap; low = runs.fits.low }) is.least)
+    names.taken names.hole
+    (subst (λ (s : Shape). MakesSlot s stored.words.items chain slotted.words.items slot.longer) (shape_stored before stored is.same) slot.names)
+    (subst (λ (s : Shape). TakesRun s slotted.words.items slot.longer new.words.items block count) (shape_slotted before stored slotted is.same is.same_tail) run)

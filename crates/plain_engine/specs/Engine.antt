@@ -12,6 +12,7 @@ use Rattle.log_image.specs.Taken.{bit_of, is_taken}
 use Rattle.chain_reader.specs.Tables.{shape_by}
 use Rattle.plain_engine.specs.Running.{Runs}
 use Rattle.plain_engine.specs.Space.{lacks_log, lacking}
+use Rattle.plain_engine.specs.Names.{MakesSlot, NamesAfter}
 use Rattle.plain_engine.specs.declared.engine.PlainEngine.{PlainEngine}
 
 -- the shape of the engine's image
@@ -39,11 +40,11 @@ pub record SameNames (old new : PlainEngine) (chain : List ℕ) : Type 0 where
   pub taken : (block : ℕ) → is_taken new.words.items (shape_in old) chain block ≡ is_taken old.words.items (shape_in old) chain block
   pub hole : hole_of new.words.items (shape_in old) chain ≡ hole_of old.words.items (shape_in old) chain
 
--- the tail is a slot: it was one, or the chain has a block more, which is no data block
+-- the tail is a slot: it was one, or the least clear block of the log area is linked
 pub record HasSlot (old new : PlainEngine) (chain file : List ℕ) : Type 0 where
   pub longer : List ℕ
   pub runs : Running new longer file
-  pub taken : (block : ℕ) → is_in_data (shape_in old) block ≡ true → is_taken new.words.items (shape_in old) longer block ≡ is_taken old.words.items (shape_in old) chain block
+  pub names : MakesSlot (shape_in old) old.words.items chain new.words.items longer
   pub enough : lacks_log old.words.items (shape_in old) chain ≡ false
 
 -- there is no slot for an entry, and nothing has changed
@@ -76,7 +77,13 @@ abbrev pub position_written : ℕ → Option Area → ℕ
 position_written position None = position + 1
 position_written position (Some area) = position
 
--- the engine runs on the file that the write makes, or found no space for it; the head's word is the same
+-- the blocks that a write takes which found space, or did not
+abbrev pub blocks_written : ℕ → Option Area → Option ℕ
+blocks_written count None = Some count
+blocks_written count (Some area) = None
+
+-- the engine runs on the file that the write makes, and the least clear blocks are taken, or found no space for it; the head's
+-- word is the same
 pub record Writes (old new : PlainEngine) (chain file : List ℕ) (offset : ℕ) (bytes : List ℕ) (result : Option Area) : Type 0 where
   pub space : result ≡ lacking old.words.items (shape_in old) chain (touched_blocks old.geometry.block_bytes offset (length bytes))
   pub geometry : new.geometry ≡ old.geometry
@@ -84,3 +91,4 @@ pub record Writes (old new : PlainEngine) (chain file : List ℕ) (offset : ℕ)
   pub head : slice_index new.words.items 3 ≡ slice_index old.words.items 3
   pub longer : List ℕ
   pub runs : Running new longer (file_written file offset bytes result)
+  pub names : NamesAfter (shape_in old) old.words.items chain (blocks_written (touched_blocks old.geometry.block_bytes offset (length bytes)) result) new.words.items longer

@@ -2,6 +2,7 @@ pub mod Clear
 pub mod Bytes
 pub mod Running
 pub mod Space
+pub mod Names
 pub mod Engine
 pub mod Fresh
 pub mod Serving

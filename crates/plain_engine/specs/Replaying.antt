@@ -21,7 +21,7 @@ AreOneSeat jobs = AreNumbered 0 1 jobs
 
 -- the calls are the jobs', each once, in one legal history that starts from the file and the position that the engine had, in the
 -- order of a report; the engine then runs on the history's last file, at its last position; and each call was served in turn, so
--- that none says there is no space where there is
+-- that one says that there is no space exactly where there is none, and the least clear blocks are taken
 pub record Replays (old new : PlainEngine) (chain file : List ℕ) (jobs : List Job) (calls : List Call) : Type 0 where
   pub of_trace : OfTrace calls jobs
   pub legal : Legal old.geometry.block_bytes file old.position calls

@@ -1,6 +1,6 @@
 -- One call on an engine: its reply, and what the engine runs on after it.
-use Rattle.std.specs.Prelude.{ℕ, ◌≡◌, ◌+◌, List, ◌∷◌, length, Option, Some, None}
-use Rattle.log_entry.specs.Legal.{Answers, file_after, position_after, write_refusal, touched_blocks, appended_blocks}
+use Rattle.std.specs.Prelude.{ℕ, ◌≡◌, ◌+◌, List, ◌∷◌, length, Option, Some, None, if◌then◌else◌}
+use Rattle.log_entry.specs.Legal.{Answers, is_write, file_after, position_after, write_refusal, touched_blocks, appended_blocks}
 use Rattle.log_entry.specs.declared.shapes.Area.{Area}
 use Rattle.log_entry.specs.declared.calls.Op.{Op}
 use Rattle.log_entry.specs.declared.calls.Op.TheVariants.{Pwrite, Append}
@@ -11,6 +11,7 @@ use Rattle.log_entry.specs.declared.calls.Reply.TheVariants.{NotWritten}
 use Rattle.log_image.specs.Image.{Shape}
 use Rattle.log_image.specs.Header.{generation_of}
 use Rattle.plain_engine.specs.Space.{lacking}
+use Rattle.plain_engine.specs.Names.{NamesAfter}
 use Rattle.plain_engine.specs.Engine.{shape_in, Running}
 use Rattle.plain_engine.specs.declared.engine.PlainEngine.{PlainEngine}
 
@@ -39,8 +40,18 @@ abbrev pub refused_area : Reply → Option Area
 refused_area (NotWritten (NoSpace area)) = Some area
 refused_area _ = None
 
--- the reply is the one that comes there, the engine runs on the file as the history goes on, and the reply says that there is no
--- space exactly where there is none
+-- how many blocks the bytes of a write touch; of another call none
+abbrev pub touched_by : ℕ → List ℕ → Op → ℕ
+touched_by block_bytes file (Pwrite offset bytes) = touched_blocks block_bytes offset (length bytes)
+touched_by block_bytes file (Append bytes) = touched_blocks block_bytes (length file) (length bytes)
+touched_by block_bytes file _ = 0
+
+-- the blocks that a call writes: those that its bytes touch, if it is a write of at least one byte that was accepted
+abbrev pub written_blocks : ℕ → List ℕ → Op → Reply → Option ℕ
+written_blocks block_bytes file op reply = if is_write op reply then Some (touched_by block_bytes file op) else None
+
+-- the reply is the one that comes there, the engine runs on the file as the history goes on, the reply says that there is no
+-- space exactly where there is none, and the least clear blocks are taken where it was written
 pub record Serves (old new : PlainEngine) (chain file : List ℕ) (op : Op) (reply : Reply) : Type 0 where
   pub answers : Answers old.geometry.block_bytes old.position file op reply
   pub space : refused_area reply ≡ lacking_for old.words.items (shape_in old) chain (wanted_blocks old.geometry.block_bytes old.position file op)
@@ -49,3 +60,4 @@ pub record Serves (old new : PlainEngine) (chain file : List ℕ) (op : Op) (rep
   pub generation : generation_of new.words.items ≡ generation_of old.words.items
   pub longer : List ℕ
   pub runs : Running new longer (file_after file op reply)
+  pub names : NamesAfter (shape_in old) old.words.items chain (written_blocks old.geometry.block_bytes file op reply) new.words.items longer

@@ -11,6 +11,14 @@ use Rattle.log_image.specs.Taken.{is_taken}
 abbrev pub clear_blocks : List ℕ → Shape → List ℕ → ℕ → ℕ → List ℕ
 clear_blocks words shape chain first count = filter (λ (block : ℕ). not (is_taken words shape chain block)) (range_with_len first count)
 
+-- the least data block that is not taken
+abbrev pub least_data : List ℕ → Shape → List ℕ → ℕ
+least_data words shape chain = slice_index (clear_blocks words shape chain 1 shape.data_blocks) 0
+
+-- the least block of the log area that is not taken
+abbrev pub least_log : List ℕ → Shape → List ℕ → ℕ
+least_log words shape chain = slice_index (clear_blocks words shape chain (1 + shape.data_blocks) shape.log_blocks) 0
+
 -- the list begins with so many numbers, each one more than the one before it, from this one on
 abbrev pub begins_run : ℕ → ℕ → List ℕ → Bool
 begins_run first zero blocks = true
@@ -20,7 +28,7 @@ begins_run first (suc count) (block ∷ blocks) = block == first && begins_run (
 -- fewer data blocks are clear than these, or the least clear ones are not one run
 abbrev pub lacks_data : List ℕ → Shape → List ℕ → ℕ → Bool
 lacks_data words shape chain count =
-    not (begins_run (slice_index (clear_blocks words shape chain 1 shape.data_blocks) 0) count (clear_blocks words shape chain 1 shape.data_blocks))
+    not (begins_run (least_data words shape chain) count (clear_blocks words shape chain 1 shape.data_blocks))
 
 -- the hole is a link
 abbrev pub is_link : Hole → Bool

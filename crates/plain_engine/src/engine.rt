@@ -44,6 +44,7 @@ impl PlainEngine {
     ghost use Rattle.log_image.specs.Stands.{StandsBy};
     ghost use Rattle.image_steps.specs.Steps.{IsEntryOf, fits_log};
     ghost use Rattle.plain_engine.specs.Serving.{Serves};
+    ghost use Rattle.plain_engine.specs.Names.{TakesRun};
     ghost use Rattle.plain_engine.specs.Engine.{shape_in, Running, SameBesideWords, SameNames, HasSlot, LacksSlot, SameBesideTail, run_word, Writes};
 
     /// The words of the image.
@@ -188,6 +189,7 @@ impl PlainEngine {
         requires entry { (chain file : List ℕ) → Running self.old chain file → (new_file : List ℕ) × IsEntryOf self.old.words.items (shape_in self.old) chain file new_file (run_word run leftover) }
         ensures runs { (chain file new_file : List ℕ) → Running self.old chain file → IsEntryOf self.old.words.items (shape_in self.old) chain file new_file (run_word run leftover) →
             Running self.new chain new_file }
+        ensures names { (chain file : List ℕ) → Running self.old chain file → TakesRun (shape_in self.old) self.old.words.items chain self.new.words.items run.block run.count }
         ensures geometry { self.new.geometry ≡ self.old.geometry }
         ensures position { self.new.position ≡ self.old.position + 1 }
         ensures head { slice_index self.new.words.items 3 ≡ slice_index self.old.words.items 3 }

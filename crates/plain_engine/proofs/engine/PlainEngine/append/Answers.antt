@@ -1,4 +1,4 @@
-use Rattle.std.proofs.Common.{◌≡◌, ◌∙◌, ◌<◌, ◌+◌, ◌-◌, ◌*◌, ◌/◌, ℕ, List, [], ◌∷◌, Option, Some, None, length, ap, sym, subst, refl, arith}
+use Rattle.std.proofs.Common.{◌≡◌, ◌∙◌, ◌<◌, ◌+◌, ◌-◌, ◌*◌, ◌/◌, ℕ, List, Option, Some, None, length, ap, sym, subst, arith}
 use Rattle.std.proofs.lemmas.Grind.{common_steps}
 use Rattle.log_entry.specs.Legal.{write_refusal, appended_blocks}
 use Rattle.log_entry.specs.declared.shapes.Area.{Area}
@@ -9,7 +9,7 @@ use Rattle.chain_reader.specs.Tables.{shape_by}
 use Rattle.plain_engine.specs.Engine.{Writes}
 use Rattle.plain_engine.specs.Serving.{Serves}
 use Rattle.plain_engine.proofs.BoundsLemmas.{bounds}
-use Rattle.plain_engine.proofs.ServeLemmas.{IsAllowed, allowed_by, serve_append, refuse_append, append_nothing, refusal_by}
+use Rattle.plain_engine.proofs.ServeLemmas.{IsAllowed, allowed_by, serve_append, refuse_append, no_bytes, append_nothing, refusal_by}
 use Rattle.plain_engine.proofs.engine.PlainEngine.append.Goals as goal
 
 pub returns-in-Some : goal.returns-in-Some
@@ -51,11 +51,7 @@ pub returns-then-is_empty : goal.returns-then-is_empty
 returns-then-is_empty c = λ chain file runs.
     let e = c.args.self.now in
     let none : length c.bytes-bytes.result.now ≡ 0 = grind (arith, common_steps) in
-    append_nothing e chain file c.args.bytes.now c.size-at.result (length c.bytes-bytes.result.now) (empty c.args.bytes.now (ap length (sym c.bytes-bytes.ensures) ∙ none)) (c.size-at.ensures ∙ runs.fits.size) none runs
-  where
-    empty : (l : List ℕ) → length l ≡ 0 → l ≡ []
-    empty [] is = refl
-    empty (x ∷ l) is = absurd (omega (arith, is))
+    append_nothing e chain file c.args.bytes.now c.size-at.result (length c.bytes-bytes.result.now) (no_bytes c.args.bytes.now (ap length (sym c.bytes-bytes.ensures) ∙ none)) (c.size-at.ensures ∙ runs.fits.size) none runs
 
 pub write-requires-clause-room : goal.write-requires-clause-room
 write-requires-clause-room c =

@@ -1,11 +1,13 @@
-use Rattle.std.proofs.Common.{◌≡◌, ◌∙◌, ◌<◌, ◌+◌, ◌*◌, ℕ, List, take, drop, set, ◌++◌, length, ap, sym, subst, arith}
+use Rattle.std.proofs.Common.{◌≡◌, ◌∙◌, ◌<◌, ◌+◌, ◌*◌, ◌&&◌, ℕ, nat_le, nat_lt, if◌then◌else◌, List, take, drop, set, ◌++◌, length, ap, sym, subst, arith}
 use Rattle.std.proofs.Math.Logic.{∥∥₁_map}
+use Rattle.log_image.specs.Taken.{bit_of}
 use Rattle.chain_reader.specs.Tables.{shape_by}
 use Rattle.plain_engine.specs.Running.{Runs, RunsOnSome}
 use Rattle.plain_engine.specs.declared.engine.PlainEngine.{PlainEngine}
 use Rattle.plain_engine.proofs.BoundsLemmas.{Bounds, bounds}
 use Rattle.plain_engine.proofs.EngineLemmas.{lent_back}
 use Rattle.plain_engine.proofs.CommitLemmas.{commit_by, commit_head, slot_place}
+use Rattle.plain_engine.proofs.NamesLemmas.{run_taken}
 use Rattle.plain_engine.proofs.engine.PlainEngine.commit.Goals as goal
 
 -- the bounds of an engine
@@ -50,6 +52,17 @@ returns-clause-runs c = λ chain file new_file runs entry.
     (commit_by (shape_by e.geometry) e.words.items c.deref.result.now e.taken.items c.deref_mut.result.now c.mark_run.new.taken e.table c.take_in.new.table e.position e.tail_block e.tail_slot e.first_clear chain file new_file
     c.encode-word.result c.args.run.virt c.args.run.block c.args.run.count c.args.leftover c.q-count.result runs c.requires.slot c.requires.room c.encode-word.ensures.small_blocks.0 c.encode-word.ensures.small_blocks.1 c.requires.some c.requires.few c.requires.left
     c.encode-word.ensures.same c.requires.fitting entry c.q-count.ensures c.deref.ensures.value c.deref_mut.ensures.value c.mark_run.auto.taken c.mark_run.ensures c.take_in.ensures.map c.take_in.ensures.size (c.requires.least chain file runs))
+
+pub returns-clause-names : goal.returns-clause-names
+returns-clause-names c = λ chain file runs.
+    let e = c.args.self.now in
+    let new_runs : Runs (shape_by e.geometry) (set e.words.items (e.tail_block * c.q-count.result + e.tail_slot) c.encode-word.result) c.mark_run.new.taken c.take_in.new.table (e.position + 1) e.tail_block (e.tail_slot + 1) (c.args.run.block + c.args.run.count) chain (c.requires.entry chain file runs).0 =
+    commit_by (shape_by e.geometry) e.words.items c.deref.result.now e.taken.items c.deref_mut.result.now c.mark_run.new.taken e.table c.take_in.new.table e.position e.tail_block e.tail_slot e.first_clear chain file (c.requires.entry chain file runs).0
+    c.encode-word.result c.args.run.virt c.args.run.block c.args.run.count c.args.leftover c.q-count.result runs c.requires.slot c.requires.room c.encode-word.ensures.small_blocks.0 c.encode-word.ensures.small_blocks.1 c.requires.some c.requires.few c.requires.left
+    c.encode-word.ensures.same c.requires.fitting (c.requires.entry chain file runs).1 c.q-count.ensures c.deref.ensures.value c.deref_mut.ensures.value c.mark_run.auto.taken c.mark_run.ensures c.take_in.ensures.map c.take_in.ensures.size (c.requires.least chain file runs) in
+    run_taken (shape_by e.geometry) e.words.items (set e.words.items (e.tail_block * c.q-count.result + e.tail_slot) c.encode-word.result) e.taken.items c.mark_run.new.taken e.table c.take_in.new.table e.position (e.position + 1) e.tail_block e.tail_slot e.first_clear (c.args.run.block + c.args.run.count) c.args.run.block c.args.run.count
+    chain file (c.requires.entry chain file runs).0 runs c.requires.slot new_runs
+    (subst (λ (l : List ℕ). (other : ℕ) → bit_of c.mark_run.new.taken other ≡ (if nat_le c.args.run.block other && nat_lt other (c.args.run.block + c.args.run.count) then 1 else bit_of l other)) c.deref_mut.ensures.value c.mark_run.ensures)
 
 pub returns-clause-head : goal.returns-clause-head
 returns-clause-head c =

@@ -6,9 +6,10 @@ use Rattle.chain_reader.specs.Tables.{shape_by}
 use Rattle.plain_engine.specs.Clear.{AllTaken}
 use Rattle.plain_engine.specs.Running.{Runs, RunsOnSome}
 use Rattle.plain_engine.specs.declared.engine.PlainEngine.{PlainEngine}
-use Rattle.plain_engine.proofs.BoundsLemmas.{Bounds, bounds, data_inside}
+use Rattle.plain_engine.proofs.BoundsLemmas.{Bounds, bounds}
 use Rattle.plain_engine.proofs.EngineLemmas.{lent_back}
-use Rattle.plain_engine.proofs.GrowLemmas.{Stored, stored_by, grow_by, grow_content, grow_bits, grow_head, tail_place, block_place, none_lacks, one_enough, taken_by_bits}
+use Rattle.plain_engine.proofs.GrowLemmas.{Stored, stored_by, grow_by, grow_content, grow_bits, grow_head, tail_place, block_place, none_lacks, one_enough}
+use Rattle.plain_engine.proofs.NamesLemmas.{slot_linked}
 use Rattle.plain_engine.proofs.engine.PlainEngine.make_slot.Goals as goal
 
 -- the bounds of an engine
@@ -89,8 +90,9 @@ returns-clause-slot c = λ is_true chain file runs.
     record {
       longer = chain ++ c.in-Some.next ∷ [];
       runs = new_runs;
-      taken = λ block here. taken_by_bits e.words.items (set (take e.words.len (c.store_fresh.new.words ++ drop (length c.store_fresh.new.words) e.words.items)) (e.tail_block * c.q-count.result) c.in-Some.next) (shape_by e.geometry) chain (chain ++ c.in-Some.next ∷ []) e.taken.items (take e.taken.len (c.mark.new.taken ++ drop (length c.mark.new.taken) e.taken.items)) block runs.fits.bitmap new_runs.fits.bitmap
-          (data_inside (shape_by e.geometry) block here) (grow_bits (shape_by e.geometry) e.words.items c.store_fresh.new.words e.taken.items c.mark.new.taken (take e.taken.len (c.mark.new.taken ++ drop (length c.mark.new.taken) e.taken.items)) e.position c.in-Some.next stored back_taken marks block here);
+      names = slot_linked (shape_by e.geometry) e.words.items (set (take e.words.len (c.store_fresh.new.words ++ drop (length c.store_fresh.new.words) e.words.items)) (e.tail_block * c.q-count.result) c.in-Some.next) e.taken.items (take e.taken.len (c.mark.new.taken ++ drop (length c.mark.new.taken) e.taken.items))
+          e.table e.position e.tail_block e.tail_slot e.first_clear c.in-Some.next chain file runs (closes ∙ c.q-count.ensures) stored.long stored.first new_runs
+          (subst (λ (l : List ℕ). (other : ℕ) → bit_of l other ≡ (if other == c.in-Some.next then 1 else bit_of e.taken.items other)) (sym back_taken) marks);
       enough = one_enough (shape_by e.geometry) e.words.items e.taken.items e.table e.position e.tail_block e.tail_slot e.first_clear c.in-Some.next chain file runs (closes ∙ c.q-count.ensures) stored.first;
     }
 

@@ -9,7 +9,7 @@ use Rattle.chain_reader.specs.Tables.{shape_by}
 use Rattle.plain_engine.specs.Engine.{Writes}
 use Rattle.plain_engine.specs.Serving.{Serves}
 use Rattle.plain_engine.proofs.BoundsLemmas.{bounds}
-use Rattle.plain_engine.proofs.ServeLemmas.{IsAllowed, allowed_by, serve_pwrite, refuse_pwrite, refusal_by}
+use Rattle.plain_engine.proofs.ServeLemmas.{IsAllowed, allowed_by, serve_pwrite, refuse_pwrite, no_bytes, pwrite_nothing, refusal_by}
 use Rattle.plain_engine.proofs.engine.PlainEngine.pwrite.Goals as goal
 
 pub returns-in-Some : goal.returns-in-Some
@@ -46,6 +46,12 @@ returns-in-Some-write c = λ chain file runs.
     let writes : Writes e c.write.new.self chain file c.args.offset c.bytes-bytes.result.now (Some c.in-Some-write.area) = subst (λ (o : Option Area). Writes e c.write.new.self chain file c.args.offset c.bytes-bytes.result.now o) c.in-Some-write.is (c.write.ensures chain file runs) in
     subst (λ (b : List ℕ). Serves e c.write.new.self chain file (Pwrite c.args.offset b) (NotWritten (NoSpace c.in-Some-write.area))) c.bytes-bytes.ensures
     (serve_pwrite e c.write.new.self chain file c.args.offset c.bytes-bytes.result.now (Some c.in-Some-write.area) some refusal writes)
+
+pub returns-then-is_empty : goal.returns-then-is_empty
+returns-then-is_empty c = λ chain file runs.
+    let e = c.args.self.now in
+    let none : length c.bytes-bytes.result.now ≡ 0 = grind (arith, common_steps) in
+    pwrite_nothing e chain file c.args.offset c.args.bytes.now (length c.bytes-bytes.result.now) (no_bytes c.args.bytes.now (ap length (sym c.bytes-bytes.ensures) ∙ none)) none runs
 
 pub write-requires-clause-room : goal.write-requires-clause-room
 write-requires-clause-room c =

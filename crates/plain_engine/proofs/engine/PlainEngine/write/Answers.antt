@@ -1,4 +1,4 @@
-use Rattle.std.proofs.Common.{◌≡◌, ◌∙◌, ◌≤◌, ◌+◌, ◌-◌, ◌*◌, ◌/◌, ℕ, zero, suc, true, false, List, length, ap, sym, subst, refl, arith}
+use Rattle.std.proofs.Common.{◌≡◌, ◌∙◌, ◌≤◌, ◌+◌, ◌-◌, ◌*◌, ◌/◌, ℕ, zero, suc, true, false, List, Some, None, length, ap, sym, subst, refl, arith}
 use Rattle.log_entry.specs.ByteFile.{write}
 use Rattle.log_entry.specs.Legal.{touched_blocks}
 use Rattle.log_image.specs.Image.{Shape}
@@ -7,12 +7,14 @@ use Rattle.image_steps.specs.Steps.{fits_log}
 use Rattle.chain_reader.specs.Tables.{shape_by}
 use Rattle.plain_engine.specs.Clear.{IsLeastRun}
 use Rattle.plain_engine.specs.Space.{lacks_data}
+use Rattle.plain_engine.specs.Names.{NamesAfter}
 use Rattle.plain_engine.specs.Engine.{Running, HasSlot, LacksSlot, run_word}
 use Rattle.plain_engine.specs.declared.engine.PlainEngine.{PlainEngine}
 use Rattle.plain_engine.proofs.BoundsLemmas.{header_bit}
 use Rattle.plain_engine.proofs.WriteLemmas.{IsRunFor, run_for, run_fits}
 use Rattle.plain_engine.proofs.SpaceLemmas.{Cursor, run_enough, no_run_lacks, lacking_data, lacking_log, lacking_none}
-use Rattle.plain_engine.proofs.WriteSteps.{IsWay, way_entry, way_least, shape_slotted, log_lack}
+use Rattle.plain_engine.proofs.WriteSteps.{IsWay, way_entry, way_least, way_names, shape_slotted, log_lack}
+use Rattle.plain_engine.proofs.NamesLemmas.{names_stay}
 use Rattle.plain_engine.proofs.engine.PlainEngine.write.Goals as goal
 
 -- a clear block is not the header
@@ -39,6 +41,7 @@ returns-in_default c = λ chain file runs.
       head = refl;
       longer = chain;
       runs = runs;
+      names = names_stay (shape_by e.geometry) e.words.items e.words.items chain (λ block. refl) refl;
     }
 
 pub store-requires-clause-first : goal.store-requires-clause-first
@@ -64,6 +67,8 @@ returns-then-not-make_slot c = λ chain file runs.
       head = c.make_slot.ensures.same.head ∙ c.store.ensures.same.head;
       longer = chain;
       runs = none.runs;
+      names = subst (λ (l : List ℕ). NamesAfter (shape_by e.geometry) e.words.items chain None l chain) (sym none.same)
+          (names_stay (shape_by e.geometry) e.words.items c.store.new.self.words.items chain (c.store.ensures.names chain file runs).taken (c.store.ensures.names chain file runs).hole);
     }
 
 pub commit-requires-clause-first : goal.commit-requires-clause-first
@@ -168,4 +173,7 @@ returns c = λ chain file runs.
       head = c.commit.ensures.head ∙ c.make_slot.ensures.same.head ∙ c.store.ensures.same.head;
       longer = slot.longer;
       runs = c.commit.ensures.runs slot.longer file (write file c.args.offset c.args.bytes.now) slot.runs (way_entry e c.store.new.self c.make_slot.new.self (c.args.offset / c.from.result) c.in-Some.block c.touched-count.result ((c.args.offset / c.from.result + c.touched-count.result) * c.from-2.result - (c.args.offset + length c.args.bytes.now)) c.args.offset c.args.bytes.now way slot.longer file slot.runs);
+      names = subst (λ (n : ℕ). NamesAfter (shape_by e.geometry) e.words.items chain (Some n) c.commit.new.self.words.items slot.longer) touch
+          (way_names e c.store.new.self c.make_slot.new.self c.commit.new.self (c.args.offset / c.from.result) c.in-Some.block c.touched-count.result ((c.args.offset / c.from.result + c.touched-count.result) * c.from-2.result - (c.args.offset + length c.args.bytes.now)) c.args.offset c.args.bytes.now chain file
+          way runs (c.store.ensures.names chain file runs) slot (c.commit.ensures.names slot.longer file slot.runs));
     }
