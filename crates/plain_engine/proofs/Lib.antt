@@ -15,4 +15,5 @@ pub mod ReadLemmas
 pub mod StartLemmas
 pub mod ServeLemmas
 pub mod ReplayLemmas
+pub mod AlikeLemmas
 pub mod OpenLemmas

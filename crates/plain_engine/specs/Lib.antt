@@ -7,4 +7,5 @@ pub mod Engine
 pub mod Fresh
 pub mod Serving
 pub mod Served
+pub mod Alike
 pub mod Replaying

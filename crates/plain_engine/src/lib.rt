@@ -4,6 +4,7 @@
 pub mod bitmap;
 pub mod engine;
 mod fresh;
+pub mod laws;
 pub mod replays;
 pub mod stores;
 #[cfg(test)]
