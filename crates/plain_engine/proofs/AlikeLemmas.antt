@@ -1,5 +1,5 @@
 -- Two runs of the same calls find the same space lacking.
-use Rattle.std.proofs.Common.{◌≡◌, ◌<◌, ◌≤◌, ◌+◌, ◌==◌, ◌&&◌, ◌||◌, ◌⊎◌, inl, inr, ℕ, zero, suc, Bool, true, false, List, [], ◌∷◌, length, get_or, map, not, Option, Some, None, if◌then◌else◌, refl, sym, ap, ◌∙◌, subst, arith}
+use Rattle.std.proofs.Common.{◌≡◌, ◌<◌, ◌≤◌, ◌+◌, ◌==◌, ◌&&◌, ◌||◌, inl, inr, ℕ, zero, suc, Bool, List, [], ◌∷◌, length, get_or, not, Option, Some, None, if◌then◌else◌, refl, sym, ap, ◌∙◌, subst, arith}
 use Rattle.std.specs.Prelude.{filter}
 use Rattle.std.specs.List.{range_with_len}
 use Rattle.log_entry.specs.Legal.{Legal, Answers, AnswersWrite, write_refusal, touched_blocks, appended_blocks, is_write, file_after, position_after}
@@ -133,9 +133,11 @@ step_alike shape words chain other other_chain file position call also new longe
 
 -- all of them
 pub runs_lack_alike : RunsLackAlike
-runs_lack_alike shape words chain other other_chain file position [] [] last last_chain other_last other_last_chain alike ops legal other_legal served other_served =
-    (refl, subst (λ (l : List ℕ). NameAlike shape l last_chain other_last other_last_chain) served.0 (subst (λ (l : List ℕ). NameAlike shape words l other_last other_last_chain) served.1
-    (subst (λ (l : List ℕ). NameAlike shape words chain l other_last_chain) other_served.0 (subst (λ (l : List ℕ). NameAlike shape words chain other l) other_served.1 alike))))
+runs_lack_alike shape words chain other other_chain file position [] [] last last_chain other_last other_last_chain alike ops legal other_legal served other_served = (
+  refl,
+  subst (λ (l : List ℕ). NameAlike shape l last_chain other_last other_last_chain) served.0 (subst (λ (l : List ℕ). NameAlike shape words l other_last other_last_chain) served.1
+      (subst (λ (l : List ℕ). NameAlike shape words chain l other_last_chain) other_served.0 (subst (λ (l : List ℕ). NameAlike shape words chain other l) other_served.1 alike))),
+)
 runs_lack_alike shape words chain other other_chain file position [] (also ∷ others) last last_chain other_last other_last_chain alike ops legal other_legal served other_served = cc
 runs_lack_alike shape words chain other other_chain file position (call ∷ calls) [] last last_chain other_last other_last_chain alike ops legal other_legal served other_served = cc
 runs_lack_alike shape words chain other other_chain file position (call ∷ calls) (also ∷ others) last last_chain other_last other_last_chain alike ops legal other_legal served other_served =

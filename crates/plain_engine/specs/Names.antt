@@ -10,12 +10,12 @@ use Rattle.plain_engine.specs.Space.{least_data, least_log}
 abbrev pub is_in_run : ℕ → ℕ → ℕ → Bool
 is_in_run first count block = nat_le first block && nat_lt block (first + count)
 
--- whether a block is the one that an entry links: this one, if the hole is a link
+-- whether another block is the one that is linked to make a slot: this one, if the hole is a link
 abbrev pub is_linked : Hole → ℕ → ℕ → Bool
 is_linked (AtSlot block slot) next other = false
 is_linked (AtLink block) next other = other == next
 
--- the chain with a slot for an entry: it had one, or this block is linked
+-- the chain with a slot for an entry: it had one, or this block is linked to its end
 abbrev pub slot_chain : Hole → ℕ → List ℕ → List ℕ
 slot_chain (AtSlot block slot) next chain = chain
 slot_chain (AtLink block) next chain = chain ++ next ∷ []
