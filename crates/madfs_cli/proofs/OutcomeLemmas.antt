@@ -10,7 +10,7 @@ use Rattle.madfs_cli.specs.Inputs.{IsNotRead}
 use Rattle.madfs_cli.specs.Commands.{Request, ReplayTrace, writes_image}
 use Rattle.log_image.specs.Image.{Shape}
 use Rattle.madfs_cli.specs.Images.{RefusesImage}
-use Rattle.madfs_cli.specs.Replays.{IsTryOf, IsReplayOf}
+use Rattle.madfs_cli.specs.Replays.{IsTryOf}
 use Rattle.madfs_cli.specs.Outcomes.{TakenFrom, Seen, IsOutputOf, WriteFailed, WritesNone, Ends, ImageRefused, TraceRefused, IsOutcome, IsNotMade, OutputEnds}
 use Rattle.madfs_cli.specs.declared.outputs.Output.{Output}
 use Rattle.madfs_cli.specs.declared.statuses.Status.{Status}

@@ -1,5 +1,5 @@
 -- What the calls on an engine say of a run, and of the run on an image that opens.
-use Rattle.std.proofs.Common.{◌≡◌, ◌+◌, ℕ, List, [], ◌∷◌, length, refl, sym, ap, ◌∙◌, subst, Option, Some, Ok}
+use Rattle.std.proofs.Common.{◌≡◌, ℕ, List, sym, ap, ◌∙◌, subst, Ok}
 use Rattle.log_entry.specs.WordBytes.{word_bytes}
 use Rattle.log_entry.specs.Legal.{Legal, last_file, last_position_of}
 use Rattle.log_entry.specs.declared.calls.Call.{Call}

@@ -1,5 +1,5 @@
 -- What a command leaves for each way in which it ends.
-use Rattle.std.specs.Prelude.{ℕ, ◌≡◌, ◌<◌, ◌⊎◌, Bool, true, false, List, [], length, Option, Some, Ok, Err}
+use Rattle.std.specs.Prelude.{ℕ, ◌≡◌, ◌<◌, ◌⊎◌, Bool, true, false, List, [], length, Option, Some, Err}
 use Rattle.io_ends.specs.Faults.{Rose}
 use Rattle.io_ends.specs.Giving.{Gives, GivesPrefix}
 use Rattle.trace_reader.specs.Reading.{Reads}

@@ -8,11 +8,12 @@ ghost use Rattle.madfs_cli.specs.Replays.{StandForAFile};
 ghost use Rattle.madfs_cli.specs.Inputs.{IsNotOpened};
 
 use crate::statuses::Status;
-use io_ends::{ReadAll, Source, read_all};
+use io_ends::{ReadAll, Source};
 use log_image::Start;
 use opening_rules::BadImage;
-use recovery::{OpenRefusal, open_bytes};
+use recovery::{OpenRefusal, open_words_with_rest};
 use std::alloc::Global;
+use word_reader::{WordsRead, read_words};
 
 /// The most bytes that an image may have: 65,535 blocks of 4,096 bytes.
 const IMAGE_LIMIT: usize = 268_431_360;
@@ -25,8 +26,8 @@ pub fn open_image<I: Source>(alloc: Global, image: &mut I) -> Result<Start, Stat
     ensures end { OnOk result (IsAtEnd (I.left image.new)) }
     ensures refused { IfErr result (IsNotOpened (I.left image.old) (I.faults image.old) (I.faults image.new)) }
 {
-    let bytes = match read_all(alloc, image, IMAGE_LIMIT) {
-        Ok(bytes) => bytes,
+    let WordsRead { words, rest } = match read_words(alloc, image, IMAGE_LIMIT) {
+        Ok(read) => read,
         Err(ReadAll::ReadFault) => return Err(Status::ReadFault),
         Err(ReadAll::TooLong) => {
             return Err(Status::BadImage(BadImage::Long {
@@ -35,7 +36,7 @@ pub fn open_image<I: Source>(alloc: Global, image: &mut I) -> Result<Start, Stat
         }
         Err(ReadAll::NoMemory) => return Err(Status::NoMemory),
     };
-    match open_bytes(alloc, bytes.as_slice()) {
+    match open_words_with_rest(alloc, words, &rest) {
         Ok(opened) => Ok(opened.clear()),
         Err(OpenRefusal::Bad(why)) => Err(Status::BadImage(why)),
         Err(OpenRefusal::NoMemory) => Err(Status::NoMemory),

@@ -1,8 +1,8 @@
 -- What an image holds of which no condition holds.
-use Rattle.std.proofs.Common.{◌≡◌, ◌<◌, ◌≤◌, ◌-◌, ◌*◌, ◌/◌, ◌^◌, ℕ, zero, suc, Bool, true, List, [], ◌∷◌, ◌++◌, length, take, drop, get_or, Err, refl, sym, ap, ◌∙◌, subst, arith}
+use Rattle.std.proofs.Common.{◌≡◌, ◌<◌, ◌≤◌, ◌+◌, ◌-◌, ◌*◌, ◌^◌, ℕ, zero, suc, Bool, true, List, [], ◌∷◌, ◌++◌, length, get_or, Err, refl, sym, ap, ◌∙◌, subst, arith}
 use Rattle.std.specs.List.{list_all}
-use Rattle.std.proofs.lemmas.List.{take-append-drop, length-drop}
-use Rattle.std.proofs.lemmas.List.{take_all, get_or_default}
+use Rattle.std.proofs.lemmas.List.{append-nil, length-append, get_or_default}
+use Rattle.log_entry.proofs.WordBytesLemmas.{eight_each}
 use Rattle.log_entry.specs.Fields.{field}
 use Rattle.log_entry.specs.declared.layouts.TheConstants.{HEAD_GENERATION}
 use Rattle.log_entry.specs.WordBytes.{word_bytes}
@@ -16,7 +16,7 @@ use Rattle.log_image.specs.Holes.{Hole as Place, last_block, hole_in, hole_of}
 use Rattle.log_image.specs.Stands.{StandsBy}
 use Rattle.log_image.proofs.HoldingLemmas.{both_left, both_right}
 use Rattle.opening_rules.specs.Walks.{end_place}
-use Rattle.opening_rules.specs.Opening.{AcceptsBytes, chain_of}
+use Rattle.opening_rules.specs.Opening.{Refuses, AcceptsBytes, chain_of}
 use Rattle.opening_rules.proofs.Accepted.{accepted_chain, file_of, stands_by}
 use Rattle.recovery.specs.declared.refusals.OpenRefusal.{OpenRefusal}
 use Rattle.recovery.specs.declared.refusals.OpenRefusal.TheVariants.{Bad, NoMemory}
@@ -95,33 +95,32 @@ pub words_refused : (words : List ℕ) (refusal : OpenRefusal) → PassAnswers (
 words_refused words (Bad why) refuses = refuses
 words_refused words NoMemory refuses = tt
 
--- a refusal of bytes, of which these are the whole words
-pub bytes_refused : (bytes words : List ℕ) (refusal : OpenRefusal) → PassAnswers (Err refusal) (length bytes) words →
-    word_bytes words ≡ take (8 * (length bytes / 8)) bytes → ((index : ℕ) → get_or words index 0 < 2 ^ 64) → OpensBytes (Err refusal) bytes
-bytes_refused bytes words NoMemory refuses same small = tt
-bytes_refused bytes words (Bad why) refuses same small = record {
+-- as many bytes as eight for each word and the rest
+pub length-with_rest : (words rest : List ℕ) → length (word_bytes words ++ rest) ≡ 8 * length words + length rest
+length-with_rest words rest = omega (arith, eight_each words, length-append (word_bytes words) rest)
+
+-- a refusal of the bytes of words with fewer than 8 after them
+pub bytes_refused : (words rest : List ℕ) (bytes : ℕ) (refusal : OpenRefusal) → PassAnswers (Err refusal) bytes words → bytes ≡ 8 * length words + length rest → length rest < 8 → ((index : ℕ) → get_or words index 0 < 2 ^ 64) →
+    OpensBytes (Err refusal) (word_bytes words ++ rest)
+bytes_refused words rest bytes NoMemory refuses count few small = tt
+bytes_refused words rest bytes (Bad why) refuses count few small = record {
   words = words;
-  are_words = record {
-    rest = drop (8 * (length bytes / 8)) bytes;
-    bytes_are = rw same (sym (take-append-drop (8 * (length bytes / 8)) bytes));
-    few = omega (arith, length-drop (8 * (length bytes / 8)) bytes);
-    small = small;
-  };
-  refuses = refuses;
+  are_words = record { rest = rest; bytes_are = refl; few = few; small = small };
+  refuses = subst (λ (n : ℕ). Refuses n words why) (count ∙ sym (length-with_rest words rest)) refuses;
 }
 
--- whole words have all bytes
-pub all_bytes : (bytes words : List ℕ) → word_bytes words ≡ take (8 * (length bytes / 8)) bytes → length bytes ≡ 8 * length words → word_bytes words ≡ bytes
-all_bytes bytes words same exact = same ∙ take_all (8 * (length bytes / 8)) bytes (omega (arith, exact))
+none_left : (bytes rest : List ℕ) → length rest ≡ 0 → bytes ++ rest ≡ bytes
+none_left bytes [] none = append-nil bytes
+none_left bytes (byte ∷ rest) none = absurd (omega (arith, none))
 
--- an accepted image of bytes, of which these are the whole words
-pub bytes_accepted : (bytes words : List ℕ) (geometry : Geometry) (reading : Reading) (opened : List ℕ) → HasPassed (length bytes) words geometry reading → opened ≡ words → word_bytes words ≡ take (8 * (length bytes / 8)) bytes →
-    ((index : ℕ) → get_or words index 0 < 2 ^ 64) → (rest : List ℕ) × AcceptsBytes bytes opened rest
-bytes_accepted bytes words geometry reading opened passed same beginning small =
+-- an accepted image of such bytes
+pub bytes_accepted : (words rest : List ℕ) (bytes : ℕ) (geometry : Geometry) (reading : Reading) (opened : List ℕ) → HasPassed bytes words geometry reading → bytes ≡ 8 * length words + length rest → opened ≡ words →
+    ((index : ℕ) → get_or words index 0 < 2 ^ 64) → (chain : List ℕ) × AcceptsBytes (word_bytes words ++ rest) opened chain
+bytes_accepted words rest bytes geometry reading opened passed count same small =
     rw same (
       passed.rest,
       record {
-        bytes_are = sym (all_bytes bytes words beginning passed.exact);
+        bytes_are = none_left (word_bytes words) rest (omega (arith, count, passed.exact));
         small = small;
         accepts = rw passed.exact at passed.accepts;
       },

@@ -23,5 +23,5 @@ mod walks;
 
 pub use holes::Hole;
 pub use opened::Opened;
-pub use openings::{open_bytes, open_words};
+pub use openings::{open_bytes, open_words, open_words_with_rest};
 pub use refusals::OpenRefusal;

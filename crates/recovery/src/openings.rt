@@ -1,6 +1,7 @@
 //! Opening an image: all conditions on it, or what it holds.
 
-ghost use Rattle.std.specs.Prelude.{◌≡◌, ◌<◌, ◌*◌, ◌/◌, ◌%◌, ◌^◌, ℕ, length, take, slice_index};
+ghost use Rattle.std.specs.Prelude.{◌≡◌, ◌<◌, ◌*◌, ◌^◌, ◌++◌, ℕ, length, slice_index};
+ghost use Rattle.log_entry.specs.WordBytes.{word_bytes};
 ghost use Rattle.log_image.specs.Header.{shape_of};
 ghost use Rattle.log_image.specs.Holes.{hole_of};
 ghost use Rattle.recovery.specs.Openings.{place_of};
@@ -16,6 +17,9 @@ use chain_reader::block_at;
 use log_entry::layouts::HEAD_GENERATION;
 use log_entry::{Geometry, of_bytes};
 use std::alloc::Global;
+
+/// Bytes of a word.
+const WORD_LENGTH: usize = 8;
 
 /// Opens an image of these words, or refuses it for the first condition of the format that holds. Besides that only want of
 /// memory refuses it: for the map, the bitmap and the chain's blocks, and no more for the words.
@@ -33,29 +37,37 @@ pub fn open_words(alloc: Global, words: Vec<u64>) -> Result<Opened, OpenRefusal>
 pub fn open_bytes(alloc: Global, bytes: &[u8]) -> Result<Opened, OpenRefusal>
     ensures { OpensBytes result bytes.now }
 {
-    let Ok(words) = of_bytes(alloc, whole_words(bytes)) else {
+    let whole = WORD_LENGTH * (bytes.len() / WORD_LENGTH);
+    let Ok(words) = of_bytes(alloc, &bytes[..whole]) else {
         return Err(OpenRefusal::NoMemory);
     };
+    open_words_with_rest(alloc, words, &bytes[whole..])
+}
+
+/// Opens an image of the bytes that these words are, eight for each, the lowest first, and of fewer than 8 bytes after them; or
+/// refuses it for the first condition of the format that holds. Besides that only want of memory refuses it: for the map, the
+/// bitmap and the chain's blocks, and no more for the words.
+pub fn open_words_with_rest(
+    alloc: Global,
+    words: Vec<u64>,
+    rest: &[u8],
+) -> Result<Opened, OpenRefusal>
+    requires { length rest.now < 8 }
+    ensures { OpensBytes result (word_bytes words.items ++ rest.now) }
+{
     note_range(&words);
-    match pass(alloc, bytes.len() as u64, &words) {
+    let bytes = WORD_LENGTH * words.len() + rest.len();
+    match pass(alloc, bytes as u64, &words) {
         Err(refusal) => Err(refusal),
         Ok(passed) => Ok(opened_by(words, passed)),
     }
 }
 
-/// Says of words what their type says, for the clause of `open_bytes`.
+/// Says of words what their type says, for the clause of `open_words_with_rest`.
 fn note_range(words: &[u64])
     ensures { (index : ℕ) → slice_index words.now index < 2 ^ 64 }
 {
     let _count = words.len();
-}
-
-/// The longest beginning that is whole words.
-fn whole_words(bytes: &[u8]) -> &[u8]
-    ensures value { result.now ≡ take (8 * (length bytes.now / 8)) bytes.now }
-    ensures whole { length result.now % 8 ≡ 0 }
-{
-    &bytes[..8 * (bytes.len() / 8)]
 }
 
 /// The opened image of these words, of which no condition holds.

@@ -1,13 +1,13 @@
--- The whole words of the bytes are those that were made of their longest beginning.
-use Rattle.std.proofs.Common.{refl}
-use Rattle.recovery.proofs.OpeningLemmas.{bytes_refused, bytes_accepted}
+-- The whole words and the bytes after them are all bytes.
+use Rattle.std.proofs.Common.{◌≡◌, ◌*◌, ◌/◌, ◌++◌, ℕ, List, length, drop, ap, ◌∙◌, subst}
+use Rattle.std.proofs.lemmas.List.{take-append-drop, take_rest}
+use Rattle.log_entry.specs.WordBytes.{word_bytes}
+use Rattle.recovery.specs.OpenAnswers.{OpensBytes}
 use Rattle.recovery.proofs.openings.open_bytes.Goals as goal
 
-pub returns-in-Err : goal.returns-in-Err
-returns-in-Err c =
-    bytes_refused c.args.bytes.now c.in-Ok.words.items c.in-Err.refusal (rw c.deref-2.ensures.value at c.in-Err.ensures) (rw c.whole_words.ensures.value at c.in-Ok.ensures.only) (rw c.deref.ensures.value at c.note_range.ensures)
-
-pub returns-in-Ok-pass : goal.returns-in-Ok-pass
-returns-in-Ok-pass c =
-    bytes_accepted c.args.bytes.now c.in-Ok.words.items c.in-Ok-pass.passed.geometry c.in-Ok-pass.passed.reading c.opened_by.result.words.items (rw c.deref-2.ensures.value at c.in-Ok-pass.ensures) (rw c.opened_by.ensures refl)
-    (rw c.whole_words.ensures.value at c.in-Ok.ensures.only) (rw c.deref.ensures.value at c.note_range.ensures)
+pub returns : goal.returns
+returns c =
+    let bytes : List ℕ = c.args.bytes.now in
+    let whole : ℕ = 8 * (length bytes / 8) in
+    let all : word_bytes c.in-Ok.words.items ++ drop whole bytes ≡ bytes = ap (λ (front : List ℕ). front ++ drop whole bytes) c.in-Ok.ensures.only ∙ take-append-drop whole bytes in
+    subst (λ (l : List ℕ). OpensBytes c.open_words_with_rest.result l) all (rw (take_rest bytes whole) at c.open_words_with_rest.ensures)
