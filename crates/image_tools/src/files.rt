@@ -6,10 +6,14 @@ ghost use Rattle.log_image.specs.Stands.{StandsBy, Stands};
 ghost use Rattle.chain_reader.specs.Tables.{shape_by};
 ghost use Rattle.image_tools.specs.Files.{held_bytes};
 
+use byteorder::{ByteOrder, LittleEndian};
 use chain_reader::{block_at, read_chain};
-use log_entry::{Geometry, to_bytes};
+use log_entry::Geometry;
 use log_image::Start;
 use std::alloc::{AllocError, Global};
+
+/// The most bytes that a block of an image has.
+const LONGEST_BLOCK: usize = 4096;
 
 /// The bytes of the file that an image stands for, as many as its size. Only want of memory refuses them.
 pub fn file_of(alloc: Global, start: &Start) -> Result<Vec<u8>, AllocError>
@@ -25,7 +29,6 @@ pub fn file_of(alloc: Global, start: &Start) -> Result<Vec<u8>, AllocError>
     for virt in 0..size.div_ceil(block_bytes) {
         let count = block_bytes.min(size - bytes.len());
         push_block(
-            alloc,
             &mut bytes,
             words,
             geometry,
@@ -38,7 +41,6 @@ pub fn file_of(alloc: Global, start: &Start) -> Result<Vec<u8>, AllocError>
 
 /// Adds the first bytes of a virtual block, as many as asked, that this physical block holds, or none.
 fn push_block(
-    alloc: Global,
     bytes: &mut Vec<u8>,
     words: &[u64],
     geometry: Geometry,
@@ -51,11 +53,23 @@ fn push_block(
     ensures bytes { OnOk result (bytes.new.items ≡ bytes.old.items ++ take count (held_bytes words.now (shape_by geometry) block)) }
     ensures count { OnOk result (length bytes.new.items ≡ length bytes.old.items + count) }
 {
+    let mut longest = [0u8; LONGEST_BLOCK];
+    let content = &mut longest[..geometry.block_bytes() as usize];
+    lay_block(words, geometry, block, content);
+    bytes.extend_from_slice(&content[..count])
+}
+
+/// Lays the bytes of a virtual block, that this physical block holds or none, over as many bytes.
+fn lay_block(words: &[u64], geometry: Geometry, block: Option<u16>, content: &mut [u8])
+    requires whole { length words.now ≡ total (shape_by geometry) * words_in (shape_by geometry) }
+    requires inside { IfSome block (λ number. number < total (shape_by geometry)) }
+    requires room { length content.old ≡ geometry.block_bytes }
+    ensures { content.new ≡ held_bytes words.now (shape_by geometry) block }
+{
     match block {
         Some(number) => {
-            let content = to_bytes(alloc, block_at(words, geometry, u64::from(number)))?;
-            bytes.extend_from_slice(&content[..count])
+            LittleEndian::write_u64_into(block_at(words, geometry, u64::from(number)), content);
         }
-        None => bytes.resize(bytes.len() + count, 0),
+        None => content.fill(0),
     }
 }
