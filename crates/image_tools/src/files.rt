@@ -1,6 +1,8 @@
 //! The file that an image stands for.
 
-ghost use Rattle.std.specs.Prelude.{◌≡◌, ◌<◌, ◌≤◌, ◌+◌, ◌*◌, ◌++◌, List, ℕ, length, take, IfOk, IfSome, OnOk};
+ghost use Rattle.std.specs.Prelude.{◌≡◌, ◌<◌, ◌≤◌, ◌*◌, List, ℕ, length, take, IfOk, IfSome, OnOk, OnErr};
+ghost use Rattle.io_ends.specs.Faults.{WriteAllFaults};
+ghost use Rattle.io_ends.specs.Giving.{Gives, GivesPrefix};
 ghost use Rattle.log_image.specs.Image.{total, words_in};
 ghost use Rattle.log_image.specs.Stands.{StandsBy, Stands};
 ghost use Rattle.chain_reader.specs.Tables.{shape_by};
@@ -8,6 +10,7 @@ ghost use Rattle.image_tools.specs.Files.{held_bytes};
 
 use byteorder::{ByteOrder, LittleEndian};
 use chain_reader::{block_at, read_chain};
+use io_ends::{Gathered, Sink, WriteAll, write_all};
 use log_entry::Geometry;
 use log_image::Start;
 use std::alloc::{AllocError, Global};
@@ -20,43 +23,65 @@ pub fn file_of(alloc: Global, start: &Start) -> Result<Vec<u8>, AllocError>
     ensures each { IfOk result (λ bytes. (chain file : List ℕ) (position : ℕ) → StandsBy start.now.words.items chain file position → bytes.items ≡ file) }
     ensures stands { IfOk result (λ bytes. ∥ Stands start.now.words.items bytes.items start.now.position ∥₁) }
 {
-    let words = start.words();
-    let geometry = *start.geometry();
-    let read = read_chain(alloc, words, geometry)?;
-    let size = read.table.size() as usize;
-    let block_bytes = geometry.block_bytes() as usize;
-    let mut bytes = Vec::with_capacity(alloc, size)?;
-    for virt in 0..size.div_ceil(block_bytes) {
-        let count = block_bytes.min(size - bytes.len());
-        push_block(
-            &mut bytes,
-            words,
-            geometry,
-            read.table.block(virt as u16),
-            count,
-        )?;
+    let mut gathered = Gathered::new(alloc);
+    match write_file(alloc, start, &mut gathered) {
+        Ok(()) => {
+            let bytes = Vec::from_slice(alloc, gathered.bytes())?;
+            Ok(bytes)
+        }
+        Err(_) => Err(AllocError),
     }
-    Ok(bytes)
 }
 
-/// Adds the first bytes of a virtual block, as many as asked, that this physical block holds, or none.
-fn push_block(
-    bytes: &mut Vec<u8>,
+/// Writes the file that an image stands for to `sink`, block after block.
+///
+/// It stops at the first write that fails, with `WriteFault`, or that finds no memory, with `NoMemory`; a first part of the file was
+/// then appended. With `NoMemory` it also stops before the first write, where the chain finds no room.
+pub fn write_file<K: Sink>(alloc: Global, start: &Start, sink: &mut K) -> Result<(), WriteAll>
+    ensures all { OnOk result ((chain file : List ℕ) (position : ℕ) → StandsBy start.now.words.items chain file position → Gives (K.written sink.old) (K.written sink.new) file) }
+    ensures part { OnErr result ((chain file : List ℕ) (position : ℕ) → StandsBy start.now.words.items chain file position → GivesPrefix (K.written sink.old) (K.written sink.new) file) }
+    ensures cause { WriteAllFaults result (K.faults sink.old) (K.faults sink.new) }
+    ensures later { K.faults sink.old ≤ K.faults sink.new }
+{
+    let words = start.words();
+    let geometry = *start.geometry();
+    let Ok(read) = read_chain(alloc, words, geometry) else {
+        return Err(WriteAll::NoMemory);
+    };
+    let size = read.table.size() as usize;
+    let block_bytes = geometry.block_bytes() as usize;
+    for virt in 0..size.div_ceil(block_bytes) {
+        let count = block_bytes.min(size - virt * block_bytes);
+        let block = read.table.block(virt as u16);
+        match write_block(sink, words, geometry, block, count) {
+            Ok(()) => {}
+            Err(cause) => return Err(cause),
+        }
+    }
+    Ok(())
+}
+
+/// Writes the first bytes of a virtual block, as many as asked, that this physical block holds, or none.
+fn write_block<K: Sink>(
+    sink: &mut K,
     words: &[u64],
     geometry: Geometry,
     block: Option<u16>,
     count: usize,
-) -> Result<(), AllocError>
+) -> Result<(), WriteAll>
     requires whole { length words.now ≡ total (shape_by geometry) * words_in (shape_by geometry) }
     requires inside { IfSome block (λ number. number < total (shape_by geometry)) }
     requires few { count ≤ geometry.block_bytes }
-    ensures bytes { OnOk result (bytes.new.items ≡ bytes.old.items ++ take count (held_bytes words.now (shape_by geometry) block)) }
-    ensures count { OnOk result (length bytes.new.items ≡ length bytes.old.items + count) }
+    ensures long { length (held_bytes words.now (shape_by geometry) block) ≡ geometry.block_bytes }
+    ensures all { OnOk result (Gives (K.written sink.old) (K.written sink.new) (take count (held_bytes words.now (shape_by geometry) block))) }
+    ensures part { OnErr result (GivesPrefix (K.written sink.old) (K.written sink.new) (take count (held_bytes words.now (shape_by geometry) block))) }
+    ensures cause { WriteAllFaults result (K.faults sink.old) (K.faults sink.new) }
+    ensures later { K.faults sink.old ≤ K.faults sink.new }
 {
     let mut longest = [0u8; LONGEST_BLOCK];
     let content = &mut longest[..geometry.block_bytes() as usize];
     lay_block(words, geometry, block, content);
-    bytes.extend_from_slice(&content[..count])
+    write_all(sink, &content[..count])
 }
 
 /// Lays the bytes of a virtual block, that this physical block holds or none, over as many bytes.

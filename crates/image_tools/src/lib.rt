@@ -8,7 +8,7 @@ pub mod lines;
 pub mod making;
 
 pub use dumps::dump;
-pub use files::file_of;
+pub use files::{file_of, write_file};
 pub use making::mkfs;
 
 #[cfg(test)]
