@@ -1,21 +1,24 @@
 -- What the making of an output and the writing of it say of how a command ends.
-use Rattle.std.proofs.Common.{◌≡◌, ◌<◌, ℕ, Bool, true, false, List, [], length, Option, Some, Result, Ok, Err, IfOk, OnOk, refl, ap, inl, inr, ◌⊎◌, arith}
+use Rattle.std.proofs.Common.{◌≡◌, ◌<◌, ℕ, Bool, true, false, List, [], length, Option, Some, Result, None, Ok, Err, IfOk, OnOk, refl, sym, ap, ◌∙◌, inl, inr, ◌⊎◌, arith}
+use Rattle.std.proofs.lemmas.List.{append-nil}
 use Rattle.io_ends.specs.Faults.{Rose}
+use Rattle.io_ends.specs.Giving.{Gives}
 use Rattle.log_entry.specs.declared.calls.Job.{Job}
 use Rattle.trace_reader.specs.Reading.{Reads}
 use Rattle.trace_reader.specs.Laws.{OneReading}
 use Rattle.trace_reader.specs.declared.refusals.BadTrace.{BadTrace as TraceRefusal}
 use Rattle.opening_rules.specs.declared.refusals.BadImage.{BadImage as ImageRefusal}
-use Rattle.madfs_cli.specs.Inputs.{IsNotRead}
-use Rattle.madfs_cli.specs.Commands.{Request, ReplayTrace, writes_image}
+use Rattle.madfs_cli.specs.Inputs.{IsNotRead, IsNotOpened}
+use Rattle.madfs_cli.specs.Commands.{Request, ReplayTrace, ShowFile, writes_image}
 use Rattle.log_image.specs.Image.{Shape}
-use Rattle.madfs_cli.specs.Images.{RefusesImage}
-use Rattle.madfs_cli.specs.Replays.{IsTryOf}
-use Rattle.madfs_cli.specs.Outcomes.{TakenFrom, Seen, IsOutputOf, WriteFailed, WritesNone, Ends, ImageRefused, TraceRefused, IsOutcome, IsNotMade, OutputEnds}
+use Rattle.log_image.specs.Laws.{StandForOne}
+use Rattle.madfs_cli.specs.Images.{RefusesImage, OpensTo}
+use Rattle.madfs_cli.specs.Replays.{IsTryOf, StandForAFile}
+use Rattle.madfs_cli.specs.Outcomes.{TakenFrom, GivenTo, Seen, IsOutputOf, WriteFailed, WritesNone, Ends, ImageRefused, TraceRefused, IsOutcome, IsNotMade, OutputEnds}
 use Rattle.madfs_cli.specs.declared.outputs.Output.{Output}
 use Rattle.madfs_cli.specs.declared.statuses.Status.{Status}
 use Rattle.madfs_cli.specs.declared.statuses.Status.TheVariants.{Done, Usage, BadImage, BadTrace, ReadFault, WriteFault, NoMemory}
-use Rattle.madfs_cli.proofs.ImageLemmas.{one_image_refusal}
+use Rattle.madfs_cli.proofs.ImageLemmas.{one_image_refusal, file_shown}
 
 -- bytes that are a trace are not refused
 trace_not_both : OneReading → (bytes : List ℕ) (jobs : List Job) (why : TraceRefusal) → Reads 1 bytes (Ok jobs) → Reads 1 bytes (Err why) → ⊥
@@ -125,3 +128,29 @@ jobs_not_made image trace Done not_read good = absurd not_read
 jobs_not_made image trace Usage not_read good = absurd not_read
 jobs_not_made image trace (BadImage why) not_read good = absurd not_read
 jobs_not_made image trace WriteFault not_read good = absurd not_read
+
+-- no image was opened to show its file
+pub image_not_made : (image trace : TakenFrom) (status : Status) → IsNotOpened image.left image.faults_before image.faults_after status → IsNotMade ShowFile image trace status
+image_not_made image trace (BadImage why) not_opened = (refl, not_opened)
+image_not_made image trace ReadFault not_opened = inl (refl, not_opened)
+image_not_made image trace NoMemory not_opened = tt
+image_not_made image trace Done not_opened = absurd not_opened
+image_not_made image trace Usage not_opened = absurd not_opened
+image_not_made image trace (BadTrace why) not_opened = absurd not_opened
+image_not_made image trace WriteFault not_opened = absurd not_opened
+
+-- where nothing changed, nothing was given
+pub nothing_given : (before after : Option (List ℕ)) → after ≡ before → Gives before after []
+nothing_given None after same = same
+nothing_given (Some written) after same = same ∙ ap Some (sym (append-nil written))
+
+-- the file of what clearing leaves was written, and the write ended so
+pub file_outcome : StandForOne → (image trace : TakenFrom) (report fresh : GivenTo) (cleared : List ℕ) (status : Status) (stands : StandForAFile cleared) → ((bytes : List ℕ) → image.left ≡ Some bytes → OpensTo bytes cleared) →
+    ((bytes : List ℕ) (why : ImageRefusal) → image.left ≡ Some bytes → RefusesImage bytes why → ⊥) → OutputEnds report fresh stands.1 [] status → IsOutcome ShowFile (record { image = image; trace = trace; report = report; fresh = fresh }) status
+file_outcome one image trace report fresh cleared status stands opened accepted ends =
+    made_outcome ShowFile (record { image = image; trace = trace; report = report; fresh = fresh }) stands.1 [] status
+    (λ bytes text has_image has_trace. (file_shown bytes cleared stands.1 (opened bytes has_image) (λ chain file position also. (one cleared stands.0 chain stands.1 file stands.2 position stands.3 also).1), refl))
+    (λ writes. refl) (λ why refused. accepted refused.bytes why refused.left refused.refused) (λ why refused. no_trace refused.reads) ends
+  where
+    no_trace : false ≡ true → ⊥
+    no_trace same = cc

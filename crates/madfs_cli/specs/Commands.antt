@@ -6,7 +6,9 @@ use Rattle.log_entry.specs.Geometry.{shape_refusal}
 use Rattle.log_image.specs.Image.{Shape}
 use Rattle.chain_reader.specs.Tables.{shape_by}
 use Rattle.madfs_cli.specs.declared.commands.Command.{Command}
-use Rattle.madfs_cli.specs.declared.commands.Command.TheVariants.{Mkfs, Try, Replay, Cat, Dump}
+use Rattle.madfs_cli.specs.declared.commands.Command.TheVariants.{Make, Cat}
+use Rattle.madfs_cli.specs.declared.commands.Making.{Making}
+use Rattle.madfs_cli.specs.declared.commands.Making.TheVariants.{Mkfs, Try, Replay, Dump}
 
 -- what a command asks: a new image of a shape; the run of a trace on a just-made image of a shape, or on an image; the file of
 -- an image; the text of an image
@@ -70,13 +72,17 @@ Asks words ShowImage = words ≡ codes "dump" ∷ []
 abbrev pub IsCommand : List (List ℕ) → Type 0
 IsCommand words = (request : Request) × Asks words request
 
+-- what is asked for whose output is made whole before it is written
+abbrev pub made_request : Making → Request
+made_request (Mkfs shape) = MakeImage (shape_by shape)
+made_request (Try shape) = TryTrace (shape_by shape)
+made_request Replay = ReplayTrace
+made_request Dump = ShowImage
+
 -- what a command of the program asks
 abbrev pub request_of : Command → Request
-request_of (Mkfs shape) = MakeImage (shape_by shape)
-request_of (Try shape) = TryTrace (shape_by shape)
-request_of Replay = ReplayTrace
+request_of (Make making) = made_request making
 request_of Cat = ShowFile
-request_of Dump = ShowImage
 
 -- the words are this command
 abbrev pub Says : List (List ℕ) → Command → Type 0

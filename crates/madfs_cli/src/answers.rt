@@ -1,24 +1,25 @@
 //! What each command makes of what it reads.
 
-ghost use Rattle.std.specs.Prelude.{◌≡◌, ℕ, List, [], Some, Ok, IfOk, IfErr, OnOk, true, false};
+ghost use Rattle.std.specs.Prelude.{◌≡◌, ◌≢◌, ◌⊎◌, ℕ, List, [], Some, Ok, IfOk, IfErr, OnOk, true, false};
 ghost use Rattle.io_ends.specs.Taking.{IsAtEnd};
 ghost use Rattle.chain_reader.specs.Tables.{shape_by};
-ghost use Rattle.madfs_cli.specs.Commands.{request_of, reads_image, reads_trace, writes_image};
+ghost use Rattle.madfs_cli.specs.Commands.{ShowFile, made_request, reads_image, reads_trace, writes_image};
 ghost use Rattle.madfs_cli.specs.Inputs.{IsNotOpened};
-ghost use Rattle.madfs_cli.specs.Images.{RefusesImage, IsFileOf, IsDumpOf, made_text, IsNewImage};
-ghost use Rattle.madfs_cli.specs.Outcomes.{IsOutputOf, ImageRefused, TraceRefused, IsNotMade};
+ghost use Rattle.madfs_cli.specs.Images.{RefusesImage, IsDumpOf, made_text, IsNewImage};
+ghost use Rattle.madfs_cli.specs.Outcomes.{TakenFrom, GivenTo, IsOutcome, IsOutputOf, ImageRefused, TraceRefused, IsNotMade};
 ghost use Rattle.opening_rules.specs.declared.refusals.BadImage.{BadImage};
 ghost use Rattle.trace_reader.specs.declared.refusals.BadTrace.{BadTrace};
 
-use crate::commands::Command;
+use crate::commands::Making;
 use crate::images::open_image;
 use crate::outputs::Output;
 use crate::replays::{replay_trace, try_trace};
 use crate::statuses::Status;
-use image_tools::{dump, file_of, mkfs};
-use io_ends::Source;
+use image_tools::{dump, mkfs, write_file};
+use io_ends::{Sink, Source, WriteAll};
 use log_entry::text::push_number;
 use log_entry::{Geometry, to_bytes};
+use log_image::laws::law_one_meaning;
 use std::alloc::{AllocError, Global};
 use trace_reader::laws::law_readings;
 
@@ -47,22 +48,31 @@ fn make_image(alloc: Global, shape: Geometry) -> Result<Output, AllocError>
     Ok(Output { text, image })
 }
 
-/// The file of the image that a source has left, read to its end.
-fn show_file<I: Source>(alloc: Global, image: &mut I) -> Result<Output, Status>
-    ensures file { IfOk result (λ output. (bytes : List ℕ) → I.left image.old ≡ Some bytes → IsFileOf bytes output.text.items) }
-    ensures accepted { OnOk result ((bytes : List ℕ) (why : BadImage) → I.left image.old ≡ Some bytes → RefusesImage bytes why → ⊥) }
-    ensures image { IfOk result (λ output. output.image.items ≡ []) }
-    ensures end { OnOk result (IsAtEnd (I.left image.new)) }
-    ensures refused { IfErr result (IsNotOpened (I.left image.old) (I.faults image.old) (I.faults image.new)) }
+/// Writes the file of the image that a source has left, read to its end, and says how that ended.
+pub fn show_file<I: Source, O: Sink>(alloc: Global, image: &mut I, report: &mut O) -> Status
+    ensures not_usage { result ≢ Status.Usage }
+    ensures order { (report.new ≡ report.old) ⊎ IsAtEnd (I.left image.new) }
+    ensures unwritten { (result ≡ Status.ReadFault) ⊎ ((why : BadImage) × (result ≡ Status.BadImage why)) ⊎ ((why : BadTrace) × (result ≡ Status.BadTrace why)) → report.new ≡ report.old }
+    ensures outcome { (trace : TakenFrom) (fresh : GivenTo) → fresh.given_after ≡ fresh.given_before → IsOutcome ShowFile
+        (record {
+          image = record { left = I.left image.old; faults_before = I.faults image.old; faults_after = I.faults image.new };
+          trace = trace;
+          report = record { given_before = O.written report.old; given_after = O.written report.new; faults_before = O.faults report.old; faults_after = O.faults report.new };
+          fresh = fresh;
+        })
+        result }
 {
-    let start = open_image(alloc, image)?;
-    let Ok(text) = file_of(alloc, &start) else {
-        return Err(Status::NoMemory);
+    law_readings();
+    law_one_meaning();
+    let start = match open_image(alloc, image) {
+        Ok(start) => start,
+        Err(status) => return status,
     };
-    Ok(Output {
-        text,
-        image: Vec::new(alloc),
-    })
+    match write_file(alloc, &start, report) {
+        Ok(()) => Status::Done,
+        Err(WriteAll::WriteFault) => Status::WriteFault,
+        Err(WriteAll::NoMemory) => Status::NoMemory,
+    }
 }
 
 /// The text of the image that a source has left, read to its end.
@@ -83,37 +93,36 @@ fn show_image<I: Source>(alloc: Global, image: &mut I) -> Result<Output, Status>
     })
 }
 
-/// What a command makes of the image and the trace that it reads, each to its end.
+/// What is made of the image and the trace that it takes, each read to its end.
 pub fn output_of<I: Source, T: Source>(
     alloc: Global,
-    command: Command,
+    making: Making,
     image: &mut I,
     trace: &mut T,
 ) -> Result<Output, Status>
-    ensures made { IfOk result (λ output. IsOutputOf (request_of command)
+    ensures made { IfOk result (λ output. IsOutputOf (made_request making)
         (record { left = I.left image.old; faults_before = I.faults image.old; faults_after = I.faults image.new })
         (record { left = T.left trace.old; faults_before = T.faults trace.old; faults_after = T.faults trace.new })
         output.text.items output.image.items) }
-    ensures no_image { writes_image (request_of command) ≡ false → IfOk result (λ output. output.image.items ≡ []) }
-    ensures image_good { OnOk result ((why : BadImage) → ImageRefused (request_of command) (record { left = I.left image.old; faults_before = I.faults image.old; faults_after = I.faults image.new }) why → ⊥) }
-    ensures trace_good { OnOk result ((why : BadTrace) → TraceRefused (request_of command) (record { left = T.left trace.old; faults_before = T.faults trace.old; faults_after = T.faults trace.new }) why → ⊥) }
-    ensures image_end { OnOk result (reads_image (request_of command) ≡ true → IsAtEnd (I.left image.new)) }
-    ensures trace_end { OnOk result (reads_trace (request_of command) ≡ true → IsAtEnd (T.left trace.new)) }
-    ensures image_kept { reads_image (request_of command) ≡ false → image.new ≡ image.old }
-    ensures trace_kept { reads_trace (request_of command) ≡ false → trace.new ≡ trace.old }
-    ensures refused { IfErr result (IsNotMade (request_of command)
+    ensures no_image { writes_image (made_request making) ≡ false → IfOk result (λ output. output.image.items ≡ []) }
+    ensures image_good { OnOk result ((why : BadImage) → ImageRefused (made_request making) (record { left = I.left image.old; faults_before = I.faults image.old; faults_after = I.faults image.new }) why → ⊥) }
+    ensures trace_good { OnOk result ((why : BadTrace) → TraceRefused (made_request making) (record { left = T.left trace.old; faults_before = T.faults trace.old; faults_after = T.faults trace.new }) why → ⊥) }
+    ensures image_end { OnOk result (reads_image (made_request making) ≡ true → IsAtEnd (I.left image.new)) }
+    ensures trace_end { OnOk result (reads_trace (made_request making) ≡ true → IsAtEnd (T.left trace.new)) }
+    ensures image_kept { reads_image (made_request making) ≡ false → image.new ≡ image.old }
+    ensures trace_kept { reads_trace (made_request making) ≡ false → trace.new ≡ trace.old }
+    ensures refused { IfErr result (IsNotMade (made_request making)
         (record { left = I.left image.old; faults_before = I.faults image.old; faults_after = I.faults image.new })
         (record { left = T.left trace.old; faults_before = T.faults trace.old; faults_after = T.faults trace.new })) }
 {
     law_readings();
-    match command {
-        Command::Mkfs { shape } => match make_image(alloc, shape) {
+    match making {
+        Making::Mkfs { shape } => match make_image(alloc, shape) {
             Ok(output) => Ok(output),
             Err(_) => Err(Status::NoMemory),
         },
-        Command::Try { shape } => try_trace(alloc, shape, trace),
-        Command::Replay => replay_trace(alloc, image, trace),
-        Command::Cat => show_file(alloc, image),
-        Command::Dump => show_image(alloc, image),
+        Making::Try { shape } => try_trace(alloc, shape, trace),
+        Making::Replay => replay_trace(alloc, image, trace),
+        Making::Dump => show_image(alloc, image),
     }
 }

@@ -13,15 +13,22 @@ use log_entry::text::read_number;
 /// What the words of a command ask.
 #[derive(Clone, Copy)]
 pub enum Command {
-    /// Make an image of this shape.
-    Mkfs { shape: Geometry },
-    /// Run a trace of one seat on a just-made image of this shape.
-    Try { shape: Geometry },
-    /// Run a trace of one seat on an image.
-    Replay,
+    /// Make this, and write it.
+    Make(Making),
     /// Show the file of an image.
     Cat,
-    /// Show the text of an image.
+}
+
+/// What is made whole before it is written.
+#[derive(Clone, Copy)]
+pub enum Making {
+    /// An image of this shape.
+    Mkfs { shape: Geometry },
+    /// The run of a trace of one seat on a just-made image of this shape.
+    Try { shape: Geometry },
+    /// The run of a trace of one seat on an image.
+    Replay,
+    /// The text of an image.
     Dump,
 }
 
@@ -93,14 +100,14 @@ pub fn read_command(words: &Words) -> Option<Command>
         return Some(Command::Cat);
     }
     if words.count() == 1 && words.word(0) == "dump" {
-        return Some(Command::Dump);
+        return Some(Command::Make(Making::Dump));
     }
     if is_replay(words) {
-        return Some(Command::Replay);
+        return Some(Command::Make(Making::Replay));
     }
     if let Some(shape) = read_mkfs(words) {
-        return Some(Command::Mkfs { shape });
+        return Some(Command::Make(Making::Mkfs { shape }));
     }
     let shape = read_try(words)?;
-    Some(Command::Try { shape })
+    Some(Command::Make(Making::Try { shape }))
 }

@@ -7,7 +7,7 @@ ghost use Rattle.trace_reader.specs.declared.refusals.BadTrace.{BadTrace};
 ghost use Rattle.madfs_cli.specs.Commands.{Request, Asks, IsCommand, request_of, reads_image, reads_trace, writes_image};
 ghost use Rattle.madfs_cli.specs.Outcomes.{IsOutcome};
 
-use crate::answers::output_of;
+use crate::answers::{output_of, show_file};
 use crate::commands::{Command, read_command};
 use crate::outputs::write_output;
 use crate::statuses::Status;
@@ -42,7 +42,11 @@ fn run_command<I: Source, T: Source, O: Sink, N: Sink>(
         result }
 {
     law_readings();
-    match output_of(alloc, command, image, trace) {
+    let making = match command {
+        Command::Make(making) => making,
+        Command::Cat => return show_file(alloc, image, report),
+    };
+    match output_of(alloc, making, image, trace) {
         Ok(output) => write_output(&output, report, fresh),
         Err(status) => status,
     }
