@@ -1,12 +1,12 @@
 //! The file that an image stands for.
 
-ghost use Rattle.std.specs.Prelude.{◌≡◌, ◌<◌, ◌≤◌, ◌*◌, List, ℕ, length, take, IfOk, IfSome, OnOk, OnErr};
+ghost use Rattle.std.specs.Prelude.{◌≡◌, ◌<◌, ◌≤◌, ◌*◌, ◌++◌, List, ℕ, length, take, IfOk, IfSome, OnOk, OnErr};
 ghost use Rattle.io_ends.specs.Faults.{WriteAllFaults};
 ghost use Rattle.io_ends.specs.Giving.{Gives, GivesPrefix};
 ghost use Rattle.log_image.specs.Image.{total, words_in};
 ghost use Rattle.log_image.specs.Stands.{StandsBy, Stands};
 ghost use Rattle.chain_reader.specs.Tables.{shape_by};
-ghost use Rattle.image_tools.specs.Files.{held_bytes};
+ghost use Rattle.image_tools.specs.Files.{held_bytes, GivesFront};
 
 use byteorder::{ByteOrder, LittleEndian};
 use chain_reader::{block_at, read_chain};
@@ -17,6 +17,9 @@ use std::alloc::{AllocError, Global};
 
 /// The most bytes that a block of an image has.
 const LONGEST_BLOCK: usize = 4096;
+
+/// How many bytes are gathered before they are written: some whole blocks of each size.
+const PIECE: usize = 65536;
 
 /// The bytes of the file that an image stands for, as many as its size. Only want of memory refuses them.
 pub fn file_of(alloc: Global, start: &Start) -> Result<Vec<u8>, AllocError>
@@ -33,10 +36,10 @@ pub fn file_of(alloc: Global, start: &Start) -> Result<Vec<u8>, AllocError>
     }
 }
 
-/// Writes the file that an image stands for to `sink`, block after block.
+/// Writes the file that an image stands for to `sink`, some whole blocks at a time.
 ///
 /// It stops at the first write that fails, with `WriteFault`, or that finds no memory, with `NoMemory`; a first part of the file was
-/// then appended. With `NoMemory` it also stops before the first write, where the chain finds no room.
+/// then appended. With `NoMemory` it also stops where the chain or the blocks of the next write find no room.
 pub fn write_file<K: Sink>(alloc: Global, start: &Start, sink: &mut K) -> Result<(), WriteAll>
     ensures all { OnOk result ((chain file : List ℕ) (position : ℕ) → StandsBy start.now.words.items chain file position → Gives (K.written sink.old) (K.written sink.new) file) }
     ensures part { OnErr result ((chain file : List ℕ) (position : ℕ) → StandsBy start.now.words.items chain file position → GivesPrefix (K.written sink.old) (K.written sink.new) file) }
@@ -50,20 +53,26 @@ pub fn write_file<K: Sink>(alloc: Global, start: &Start, sink: &mut K) -> Result
     };
     let size = read.table.size() as usize;
     let block_bytes = geometry.block_bytes() as usize;
+    let mut piece = Vec::new(alloc);
     for virt in 0..size.div_ceil(block_bytes) {
         let count = block_bytes.min(size - virt * block_bytes);
         let block = read.table.block(virt as u16);
-        match write_block(sink, words, geometry, block, count) {
+        match add_block(sink, &mut piece, words, geometry, block, count) {
             Ok(()) => {}
             Err(cause) => return Err(cause),
         }
     }
-    Ok(())
+    match write_all(sink, &piece) {
+        Ok(()) => Ok(()),
+        Err(cause) => Err(cause),
+    }
 }
 
-/// Writes the first bytes of a virtual block, as many as asked, that this physical block holds, or none.
-fn write_block<K: Sink>(
+/// Adds the first bytes of a virtual block, as many as asked, that this physical block holds, or none, to a piece; and writes the
+/// piece and empties it, where it is long enough.
+fn add_block<K: Sink>(
     sink: &mut K,
+    piece: &mut Vec<u8>,
     words: &[u64],
     geometry: Geometry,
     block: Option<u16>,
@@ -73,15 +82,27 @@ fn write_block<K: Sink>(
     requires inside { IfSome block (λ number. number < total (shape_by geometry)) }
     requires few { count ≤ geometry.block_bytes }
     ensures long { length (held_bytes words.now (shape_by geometry) block) ≡ geometry.block_bytes }
-    ensures all { OnOk result (Gives (K.written sink.old) (K.written sink.new) (take count (held_bytes words.now (shape_by geometry) block))) }
-    ensures part { OnErr result (GivesPrefix (K.written sink.old) (K.written sink.new) (take count (held_bytes words.now (shape_by geometry) block))) }
+    ensures all { OnOk result (GivesFront (K.written sink.old) (K.written sink.new) piece.new.items (piece.old.items ++ take count (held_bytes words.now (shape_by geometry) block))) }
+    ensures part { OnErr result (GivesPrefix (K.written sink.old) (K.written sink.new) (piece.old.items ++ take count (held_bytes words.now (shape_by geometry) block))) }
     ensures cause { WriteAllFaults result (K.faults sink.old) (K.faults sink.new) }
     ensures later { K.faults sink.old ≤ K.faults sink.new }
 {
     let mut longest = [0u8; LONGEST_BLOCK];
     let content = &mut longest[..geometry.block_bytes() as usize];
     lay_block(words, geometry, block, content);
-    write_all(sink, &content[..count])
+    let Ok(()) = piece.extend_from_slice(&content[..count]) else {
+        return Err(WriteAll::NoMemory);
+    };
+    if piece.len() < PIECE {
+        return Ok(());
+    }
+    match write_all(sink, piece) {
+        Ok(()) => {
+            piece.clear();
+            Ok(())
+        }
+        Err(cause) => Err(cause),
+    }
 }
 
 /// Lays the bytes of a virtual block, that this physical block holds or none, over as many bytes.
