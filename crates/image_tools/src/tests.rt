@@ -4,7 +4,8 @@ ghost use Rattle.std.specs.Prelude.{◌≡◌, ◌∷◌, [], IfOk};
 ghost use Rattle.log_entry.specs.Geometry.{HasShape};
 ghost use Rattle.log_image.specs.Rows.{two_blocks, collected};
 
-use super::{dump, file_of, mkfs};
+use super::{dump, file_of, mkfs, write_file};
+use io_ends::{FailingGathered, WriteAll};
 use log_entry::Geometry;
 use log_image::Start;
 use std::alloc::{AllocError, Global};
@@ -60,6 +61,16 @@ fn an_image_after_a_collection_is_read(rt: HostRuntime) -> Result<(), Fail> {
     let taken = vec![in rt.alloc(); 55u64]?;
     let start = after_collection(geometry, words, taken);
     assert_eq!(rt; file_of(rt.alloc(), &start)?.as_slice(), b"\xcc".as_slice());
+    let fails = vec![in rt.alloc(); 1u64]?;
+    let mut sink = FailingGathered::new(rt.alloc(), fails);
+    assert_eq!(rt;
+        write_file(rt.alloc(), &start, &mut sink),
+        Err(WriteAll::WriteFault)
+    );
+    assert_eq!(rt; sink.bytes().len(), 0);
+    assert_eq!(rt; write_file(rt.alloc(), &start, &mut sink), Ok(()));
+    assert_eq!(rt; write_file(rt.alloc(), &start, &mut sink), Ok(()));
+    assert_eq!(rt; sink.bytes(), b"\xcc\xcc".as_slice());
     let want: &[u8] = b"image data 2 log 1 spare 20 block 64\nhead generation 2 block 5\n\
         snapshot 5 base 2 count 1 size 1\nslot 3 direct virt 0 block 2 count 1 leftover 0\n\
         log 4 base 2\nslot 3 direct virt 0 block 1 count 1 leftover 63\nend 3 1\n";

@@ -8,11 +8,11 @@ use std::alloc::{AllocError, Global};
 use std::test::Fail;
 
 /// Runs a command over this image and this new image, with no trace.
-fn run_over<I: Source, N: Sink>(
+fn run_over<I: Source, O: Sink, N: Sink>(
     alloc: Global,
     line: &str,
     image: &mut I,
-    report: &mut Gathered,
+    report: &mut O,
     fresh: &mut N,
 ) -> Result<Status, AllocError> {
     let mut words = Words::new(alloc);
@@ -209,6 +209,47 @@ fn a_file_is_shown(rt: HostRuntime) -> Result<(), Fail> {
     let mut long = Bytes::new(long);
     let status = run_over(alloc, "cat", &mut long, &mut report, &mut fresh)?;
     assert_eq!(rt; status, Status::BadImage(BadImage::Long { bytes: 5057 }));
+    Ok(())
+}
+
+/// The bytes of an image of 40 data blocks of 4096 bytes, all of them the file, with these bytes at some places.
+fn filled(alloc: Global, changes: &[(usize, u8)]) -> Result<Vec<u8>, AllocError> {
+    let mut none = Bytes::new(Vec::new(alloc));
+    let mut report = Gathered::new(alloc);
+    let mut fresh = Gathered::new(alloc);
+    let _made = run_over(alloc, "mkfs 40 1 4096", &mut none, &mut report, &mut fresh)?;
+    let mut bytes = Vec::from_slice(alloc, fresh.bytes())?;
+    // the entry of virtual block 0, block 1, 40 blocks and no byte past the end, in the first slot of block 41
+    let entry = [(167_960, 1), (167_962, 4), (167_964, 156)];
+    for &(place, byte) in entry.iter().chain(changes) {
+        if place < bytes.len() {
+            bytes[place] = byte;
+        }
+    }
+    Ok(bytes)
+}
+
+#[test]
+fn a_file_of_some_pieces_is_shown(rt: HostRuntime) -> Result<(), Fail> {
+    let alloc = rt.alloc();
+    // the file's first byte, the first of its second piece, and its last
+    let bytes = filled(alloc, &[(4_096, 7), (69_632, 8), (167_935, 9)])?;
+    let mut want = vec![in alloc; 0u8; 163_840]?;
+    want[0] = 7;
+    want[65_536] = 8;
+    want[163_839] = 9;
+    let mut fresh = Gathered::new(alloc);
+    let mut image = Bytes::new(Vec::from_slice(alloc, &bytes)?);
+    let mut report = Gathered::new(alloc);
+    let status = run_over(alloc, "cat", &mut image, &mut report, &mut fresh)?;
+    assert_eq!(rt; status, Status::Done);
+    assert!(rt; report.bytes() == want.as_slice());
+    let mut image = Bytes::new(bytes);
+    let mut broken = FailingGathered::new(alloc, vec![in alloc; 2]?);
+    let status = run_over(alloc, "cat", &mut image, &mut broken, &mut fresh)?;
+    assert_eq!(rt; status, Status::WriteFault);
+    assert_eq!(rt; broken.bytes().len(), 65_536);
+    assert!(rt; want.starts_with(broken.bytes()));
     Ok(())
 }
 

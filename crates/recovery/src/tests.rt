@@ -2,7 +2,7 @@
 
 ghost use Rattle.std.specs.Prelude.{◌<◌, length};
 
-use crate::{Hole, OpenRefusal, open_bytes, open_words};
+use crate::{Hole, OpenRefusal, open_bytes, open_words, open_words_with_rest};
 use log_entry::to_bytes;
 use opening_rules::BadImage;
 use std::alloc::{AllocError, Global};
@@ -121,6 +121,30 @@ fn images_of_other_lengths_are_refused(rt: HostRuntime) -> Result<(), Fail> {
     let short = BadImage::Short { bytes: 31 };
     assert_eq!(rt;
         open_bytes(alloc, &bytes).err(),
+        Some(OpenRefusal::Bad(short))
+    );
+    Ok(())
+}
+
+#[test]
+fn words_with_a_rest_are_the_bytes(rt: HostRuntime) -> Result<(), Fail> {
+    let alloc = rt.alloc();
+    let none: [u8; 0] = [];
+    let opened = open_words_with_rest(alloc, image(alloc, &[(331, ENTRY)])?, &none)?;
+    assert_eq!(rt; opened.position(), 1);
+    let long = BadImage::Long { bytes: 5057 };
+    assert_eq!(rt;
+        open_words_with_rest(alloc, image(alloc, &[(331, ENTRY)])?, &[0]).err(),
+        Some(OpenRefusal::Bad(long))
+    );
+    let long = BadImage::Long { bytes: 5063 };
+    assert_eq!(rt;
+        open_words_with_rest(alloc, image(alloc, &[(331, ENTRY)])?, &[0; 7]).err(),
+        Some(OpenRefusal::Bad(long))
+    );
+    let short = BadImage::Short { bytes: 31 };
+    assert_eq!(rt;
+        open_words_with_rest(alloc, words_with(alloc, 3, &[])?, &[0; 7]).err(),
         Some(OpenRefusal::Bad(short))
     );
     Ok(())
