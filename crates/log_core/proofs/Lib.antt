@@ -1,0 +1,4 @@
+pub mod OneView
+pub mod SetView
+pub mod Facts
+pub mod Begun

@@ -1,6 +1,6 @@
 -- The record that a call's last step adds: what each reply says of the seat's state, and of what contracts alone see of it.
 use Rattle.std.specs.Prelude.{ℕ, ◌+◌, ◌-◌, ◌^◌, ◌<◌, ◌≡◌, ◌≢◌, ◌⊎◌, min, Bool, true, false, List, [], ◌∷◌, length, Option, Some, None}
-use Rattle.std.specs.List.{list_any}
+use Rattle.std.specs.List.{list_any, list_all}
 use Rattle.log_entry.specs.declared.shapes.Area.{Area}
 use Rattle.log_entry.specs.declared.shapes.Area.TheVariants.{Data, Log, Spare}
 use Rattle.log_entry.specs.declared.calls.Op.{Op}
@@ -16,7 +16,7 @@ use Rattle.log_entry.specs.declared.calls.Reply.TheVariants.{Wrote, Appended, No
 use Rattle.log_entry.specs.declared.calls.Call.{Call}
 use Rattle.seat_state.specs.Seats.{Seat}
 use Rattle.log_core.specs.Views.{Ghost, HeadPut, op_in}
-use Rattle.log_core.specs.Works.{Computes, IsHeldPin, ended}
+use Rattle.log_core.specs.Works.{Computes, IsHeldPin, is_going_on, ended}
 use Rattle.log_core.specs.Needs.{is_area}
 use Rattle.log_core.specs.May.{refusal_at}
 
@@ -89,9 +89,11 @@ MayAddAll g s [] = Unit {0}
 MayAddAll g s (call ∷ []) = MayAdd g s call
 MayAddAll g s (call ∷ other ∷ calls) = ⊥
 
--- what enters the view after a step that left this state: the call computes, and goes on or ends with its record
+-- what enters the view after a step that left this state: the call computes, and goes on or ends with its record. Another call begins
+-- with its own first step
 pub record Enters (g : Ghost) (e t : Seat) (adds : List Call) : Type 0 where
   pub last : Seat
   pub computed : Computes g e last
+  pub going_on : list_all is_going_on computed.works ≡ true
   pub adds_are : MayAddAll g last adds
   pub seat_is : t ≡ ended adds last

@@ -2,7 +2,7 @@
 use Rattle.std.specs.Prelude.{ℕ, ◌-◌, ◌<◌, ◌≤◌, ◌≡◌, ◌⊎◌, true, Bool, List, ◌++◌, length, slice_index, slice_index_or, None}
 use Rattle.log_image.specs.Image.{Shape, words_in}
 use Rattle.log_image.specs.Entries.{all_names}
-use Rattle.persistence.specs.Memory.{Memory, cell}
+use Rattle.persistence.specs.Memory.{Cell}
 use Rattle.log_core.specs.Entries.{has, LogEntry, no_entry, entry_by, place_in}
 use Rattle.log_core.specs.Origin.{Origin, shape, first_base, first_position, Owner, InChain, LeftTo, LogBlock, Generation}
 use Rattle.log_core.specs.Files.{Write, entries, end_of, map_at, size_at, file_at, Holds, HoldsBelow}
@@ -17,9 +17,9 @@ abbrev pub IsStillTaken : Owner → Type 0
 IsStillTaken whose = (whose ≡ InChain) ⊎ ((seat : ℕ) × (whose ≡ LeftTo seat))
 
 -- no other words than the recorded ones are possible in these blocks
-abbrev pub AreRecorded : Shape → Memory → (ℕ → List ℕ) → List ℕ → Type 0
-AreRecorded image memory recorded blocks =
-    (block k : ℕ) → has blocks block ≡ true → k < words_in image → IsCertain (cell memory (place_in image block k)) (slice_index (recorded block) k)
+abbrev pub AreRecorded : Shape → (ℕ → Cell) → (ℕ → List ℕ) → List ℕ → Type 0
+AreRecorded image cells recorded blocks =
+    (block k : ℕ) → has blocks block ≡ true → k < words_in image → IsCertain (cells (place_in image block k)) (slice_index (recorded block) k)
 
 -- the entries from one on are what their words say by the recorded words, and such as a log block may have
 pub record EntriesSay (image : Shape) (recorded : ℕ → List ℕ) (from : ℕ) (es : List LogEntry) : Type 0 where
@@ -43,10 +43,10 @@ pub record SnapshotHolds (o : Origin) (history : List Write) (recorded : ℕ →
 
 -- a kept generation: its blocks are still taken, those of the snapshot and of the data area have their recorded words, and they say
 -- the map and the file at each position from the snapshot's to the end
-pub record GenerationHolds (o : Origin) (memory : Memory) (history : List Write) (recorded : ℕ → List ℕ) (owner : ℕ → Owner) (logs : List LogBlock) (g : Generation) : Type 0 where
+pub record GenerationHolds (o : Origin) (cells : ℕ → Cell) (history : List Write) (recorded : ℕ → List ℕ) (owner : ℕ → Owner) (logs : List LogBlock) (g : Generation) : Type 0 where
   pub taken : (block : ℕ) → is_named o logs (entries o history) g block ≡ true → IsStillTaken (owner block)
   pub whole : (block : ℕ) → is_named o logs (entries o history) g block ≡ true → length (recorded block) ≡ words_in (shape o)
-  pub words : AreRecorded (shape o) memory recorded (g.snapshots ++ data_names o (entries o history) g)
+  pub words : AreRecorded (shape o) cells recorded (g.snapshots ++ data_names o (entries o history) g)
   pub entries_say : EntriesSay (shape o) recorded (g.base - first_base o) (entries o history)
   pub snapshot : SnapshotHolds o history recorded logs g
   pub files : (position : ℕ) → g.base ≤ position → position ≤ end_of o history → HoldsFileAt o history recorded position

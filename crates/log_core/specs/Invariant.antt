@@ -24,10 +24,10 @@ KeptIn o c place = IsKept o c.generations (head_floor c.memory) c.views place
 
 -- order: the heads are the generations', these rise, and the log's blocks have the entries in order
 pub record Order (o : Origin) (memory : Memory) (history : List Write) (generations : List Generation) (logs : List LogBlock) (kept : ℕ → Type 0) : Type 0 where
-  pub heads : HeadsInOrder o memory (cell memory head_place) generations logs
+  pub heads : HeadsInOrder o (λ word. cell memory word) generations logs
   pub generations_rise : GenerationsRise o (end_of o history) generations logs
   pub log : LogInOrder o (entries o history) (end_of o history) logs
-  pub chains : ChainsStand (shape o) memory logs generations kept
+  pub chains : ChainsStand (shape o) (λ word. cell memory word) logs generations kept
 
 -- owners: bits and owners fit, the present chain and each seat have exactly their blocks, and a kept generation names none twice
 pub record Owners (o : Origin) (taken : List ℕ) (views : List View) (history : List Write) (generations : List Generation) (logs : List LogBlock) (owner : ℕ → Owner) (kept : ℕ → Type 0) : Type 0 where
@@ -40,7 +40,7 @@ pub record Owners (o : Origin) (taken : List ℕ) (views : List View) (history :
 -- contents: each kept generation holds its map and its files
 abbrev pub Contents : Origin → Memory → List Write → (ℕ → List ℕ) → (ℕ → Owner) → List Generation → List LogBlock → (ℕ → Type 0) → Type 0
 Contents o memory history recorded owner generations logs kept =
-    (place : ℕ) → kept place → GenerationHolds o memory history recorded owner logs (nth_generation generations place)
+    (place : ℕ) → kept place → GenerationHolds o (λ word. cell memory word) history recorded owner logs (nth_generation generations place)
 
 -- pins: each pin word is its view's, and what the view knows of the head is so
 pub record Pins (o : Origin) (memory : Memory) (views : List View) (generations : List Generation) : Type 0 where
@@ -79,13 +79,13 @@ pub record Records (o : Origin) (memory : Memory) (views : List View) (history :
   pub never_fall : (seat part : ℕ) → NeverFall part 0 0 (view_of views seat).done
   pub calls : (seat : ℕ) → CallHolds o history (view_of views seat)
   pub tails : (seat : ℕ) → TailHolds (view_of views seat) (began seat)
-  pub marks : (seat : ℕ) → MarksFit memory seat (view_of views seat)
+  pub marks : (seat : ℕ) → MarksFit (λ word. cell memory word) memory.past memory.notes seat (view_of views seat)
 
 -- synced: no crash takes back an entry up to the synced position, nor what leads to it
 pub record Syncs (o : Origin) (memory : Memory) (views : List View) (history : List Write) (generations : List Generation) (logs : List LogBlock) (synced : ℕ) : Type 0 where
   pub to_end : synced ≤ end_of o history
-  pub words : IsSynced (shape o) memory generations logs (head_floor memory) synced
-  pub views_hold : SyncsHold memory synced views
+  pub words : IsSynced (shape o) (λ word. cell memory word) generations logs (head_floor memory) synced
+  pub views_hold : SyncsHold (λ word. cell memory word) memory.past memory.notes synced views
 
 pub record Invariant (o : Origin) (c : Core) : Type 0 where
   pub sizes : Sizes o c.memory c.views c.began
@@ -94,7 +94,7 @@ pub record Invariant (o : Origin) (c : Core) : Type 0 where
   pub contents : Contents o c.memory c.history c.recorded c.owner c.generations c.logs (λ place. KeptIn o c place)
   pub pins : Pins o c.memory c.views c.generations
   pub walks : WalksHold (around o c) c.views
-  pub owned : OwnedAllHold c.memory c.views
+  pub owned : OwnedAllHold (λ word. cell c.memory word) c.memory.past c.memory.notes c.views
   pub givings : Givings o c.memory c.views c.history c.generations c.logs
   pub records : Records o c.memory c.views c.history c.generations (λ seat. Rattle.std.specs.Prelude.slice_index c.began seat)
   pub syncs : Syncs o c.memory c.views c.history c.generations c.logs c.synced

@@ -4,9 +4,9 @@ use Rattle.log_entry.specs.Words.{head_word, block_word}
 use Rattle.log_entry.specs.declared.words.BlockKind.TheVariants.{Log}
 use Rattle.log_entry.specs.declared.layouts.TheConstants.{EMPTY, SEAL}
 use Rattle.log_image.specs.Image.{Shape, words_in}
-use Rattle.persistence.specs.Memory.{Memory, Cell, cell}
+use Rattle.persistence.specs.Memory.{Cell}
 use Rattle.persistence.specs.Survivors.{value_at}
-use Rattle.log_core.specs.Entries.{LogEntry, no_entry, place_in}
+use Rattle.log_core.specs.Entries.{LogEntry, no_entry, place_in, head_place}
 use Rattle.log_core.specs.Origin.{Origin, shape, first_base, first_generation, LogBlock, Generation, no_generation}
 use Rattle.log_core.specs.Cores.{nth_log, entry_count, is_full}
 use Rattle.log_core.specs.Snapshots.{first_or}
@@ -20,14 +20,14 @@ abbrev pub front_of : List LogBlock → Generation → ℕ
 front_of logs g = first_or g.snapshots (nth_log logs g.cut).block
 
 -- the head's values are the heads of the generations, in order, and the first three words of the header stay
-pub record HeadsInOrder (o : Origin) (memory : Memory) (head : Cell) (generations : List Generation) (logs : List LogBlock) : Type 0 where
-  pub header : (word : ℕ) → word < 3 → IsCertain (cell memory word) (slice_index o.words word)
+pub record HeadsInOrder (o : Origin) (cells : ℕ → Cell) (generations : List Generation) (logs : List LogBlock) : Type 0 where
+  pub header : (word : ℕ) → word < 3 → IsCertain (cells word) (slice_index o.words word)
   pub some : 0 < first_generation o
   pub few : first_generation o + length generations ≤ 2 ^ 32
-  pub count : length generations ≡ length head.past + 1
-  pub floor : head.floor ≤ length head.past
+  pub count : length generations ≡ length (cells head_place).past + 1
+  pub floor : (cells head_place).floor ≤ length (cells head_place).past
   pub each : (place : ℕ) → place < length generations →
-      value_at head place ≡ head_word (record { generation = first_generation o + place; block = front_of logs (nth_generation generations place) })
+      value_at (cells head_place) place ≡ head_word (record { generation = first_generation o + place; block = front_of logs (nth_generation generations place) })
 
 -- the snapshots' positions rise with the generation, and so do the first log blocks, which begin there
 pub record GenerationsRise (o : Origin) (end : ℕ) (generations : List Generation) (logs : List LogBlock) : Type 0 where
@@ -54,16 +54,16 @@ pub record LogInOrder (o : Origin) (es : List LogEntry) (end : ℕ) (logs : List
       slice_index (nth_log logs number).slots k ≡ (slice_index_or es ((nth_log logs number).base + k - first_base o) no_entry).word
 
 -- a log block in the image, with the block that follows it, 0 for none
-pub record LogStands (image : Shape) (memory : Memory) (log : LogBlock) (following : ℕ) : Type 0 where
-  pub base : IsCertain (cell memory (place_in image log.block 1)) (block_word (record { kind = Log; base = log.base }))
-  pub zero : IsCertain (cell memory (place_in image log.block 2)) 0
-  pub link : IsGrowing (cell memory (place_in image log.block 0)) following
-  pub slots : (k : ℕ) → k + 3 < words_in image → IsGrowing (cell memory (place_in image log.block (k + 3))) (slice_index log.slots k)
+pub record LogStands (image : Shape) (cells : ℕ → Cell) (log : LogBlock) (following : ℕ) : Type 0 where
+  pub base : IsCertain (cells (place_in image log.block 1)) (block_word (record { kind = Log; base = log.base }))
+  pub zero : IsCertain (cells (place_in image log.block 2)) 0
+  pub link : IsGrowing (cells (place_in image log.block 0)) following
+  pub slots : (k : ℕ) → k + 3 < words_in image → IsGrowing (cells (place_in image log.block (k + 3))) (slice_index log.slots k)
 
 -- the log blocks from one on
-abbrev pub LogsStand : Shape → Memory → List LogBlock → ℕ → Type 0
-LogsStand image memory logs cut = (number : ℕ) → cut ≤ number → number < length logs → LogStands image memory (nth_log logs number) (nth_log logs (number + 1)).block
+abbrev pub LogsStand : Shape → (ℕ → Cell) → List LogBlock → ℕ → Type 0
+LogsStand image cells logs cut = (number : ℕ) → cut ≤ number → number < length logs → LogStands image cells (nth_log logs number) (nth_log logs (number + 1)).block
 
 -- those of each kept generation
-abbrev pub ChainsStand : Shape → Memory → List LogBlock → List Generation → (ℕ → Type 0) → Type 0
-ChainsStand image memory logs generations kept = (place : ℕ) → kept place → LogsStand image memory logs (nth_generation generations place).cut
+abbrev pub ChainsStand : Shape → (ℕ → Cell) → List LogBlock → List Generation → (ℕ → Type 0) → Type 0
+ChainsStand image cells logs generations kept = (place : ℕ) → kept place → LogsStand image cells logs (nth_generation generations place).cut

@@ -10,7 +10,7 @@ use Rattle.log_entry.specs.declared.calls.Reply.TheVariants.{Collected, NotColle
 use Rattle.log_entry.specs.declared.calls.Call.{Call}
 use Rattle.seat_parts.specs.declared.keeps.Task.TheVariants.{Pread}
 use Rattle.seat_state.specs.Seats.{Seat}
-use Rattle.persistence.specs.Memory.{Memory, Noted, cell, index_at, notes_of}
+use Rattle.persistence.specs.Memory.{Replaced, Noted, Cell, index_at, notes_of}
 use Rattle.persistence.specs.Survivors.{value_at}
 use Rattle.log_core.specs.Entries.{has}
 use Rattle.log_core.specs.Views.{Marked, Ghost, HeadPut, View, op_in}
@@ -142,8 +142,8 @@ pub record TailHolds (v : View) (began : ℕ) : Type 0 where
   pub records : v.seat.walk.at_tail ≡ true → AllByRecursion (λ (call : Call). call.position ≤ v.seat.walk.position) v.done
 
 -- the memory's marks of a seat are those that its view has, each of the value found
-abbrev pub mark_of : Memory → Noted → Marked
-mark_of memory note = record { word = note.word; value = value_at (cell memory note.word) (index_at memory.past note.time note.word) }
+abbrev pub mark_of : (ℕ → Cell) → List Replaced → Noted → Marked
+mark_of cells past note = record { word = note.word; value = value_at (cells note.word) (index_at past note.time note.word) }
 
-abbrev pub MarksFit : Memory → ℕ → View → Type 0
-MarksFit memory seat v = v.ghost.marks ≡ map (mark_of memory) (notes_of seat memory.notes)
+abbrev pub MarksFit : (ℕ → Cell) → List Replaced → List Noted → ℕ → View → Type 0
+MarksFit cells past notes seat v = v.ghost.marks ≡ map (mark_of cells past) (notes_of seat notes)

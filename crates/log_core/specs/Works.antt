@@ -430,6 +430,11 @@ pub record Computes (g : Ghost) (s t : Seat) : Type 0 where
   pub may : MayWorkAll g s works
   pub gives : t ≡ worked_all s works
 
+-- whether a computation goes on with a call, and begins none
+abbrev pub is_going_on : Work → Bool
+is_going_on (Begins task bytes) = false
+is_going_on _ = true
+
 -- a call that adds its record has ended
 abbrev pub ended : List Call → Seat → Seat
 ended [] s = s
