@@ -30,7 +30,7 @@ laid_none : (file bytes : List ℕ) (offset : ℕ) → bytes ≡ [] → bytes �
 laid_none file bytes offset none = subst (λ (b : List ℕ). b ≡ read file offset (length b)) (sym none) refl
 
 -- a list whose image is empty is empty
-no_notes : {A B : Type 0} (f : A → B) (list : List A) → [] ≡ map f list → list ≡ []
+pub no_notes : {A B : Type 0} (f : A → B) (list : List A) → [] ≡ map f list → list ≡ []
 no_notes f [] e = refl
 no_notes f (x ∷ list) e = cc
 

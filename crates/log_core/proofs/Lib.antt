@@ -2,3 +2,9 @@ pub mod OneView
 pub mod SetView
 pub mod Facts
 pub mod Begun
+pub mod Heads
+pub mod LoadsHead
+pub mod StoresOwnPin
+pub mod LoadsPinWord
+pub mod StepHolds
+pub mod RunHolds
