@@ -20,7 +20,7 @@ use Rattle.log_core.specs.Giving.{ScanHolds}
 use Rattle.log_core.specs.Records.{running_at, writes_at, one_if, mark_of, WritesOnce, CallHolds}
 use Rattle.log_core.specs.Synced.{SyncHolds, SyncMarkHolds}
 use Rattle.log_core.specs.Invariant.{around}
-use Rattle.log_core.proofs.OneView.{with_seat, ViewFacts}
+use Rattle.log_core.specs.Knows.{with_seat, Knows}
 
 -- a read that begins has no bytes
 begins_bare : (task : Task) (bytes : List ℕ) (offset count : ℕ) → laid_bytes task bytes ≡ [] → task ≡ Pread offset count → bytes ≡ []
@@ -37,7 +37,7 @@ no_notes f (x ∷ list) e = cc
 never_both : (either : Option HeadPut) (put : HeadPut) → either ≡ None → either ≡ Some put → ⊥
 never_both either put none some = cc
 
-module _ (o : Origin) (c : Core) (n : ℕ) (s : Seat) (g : Ghost) (pin began now : ℕ) (f : ViewFacts o c n s g pin began) (task : Task) (bytes : List ℕ) (number : ℕ) (b : Bool)
+module _ (o : Origin) (c : Core) (n : ℕ) (s : Seat) (g : Ghost) (pin began now : ℕ) (f : Knows o c n s g pin began) (task : Task) (bytes : List ℕ) (number : ℕ) (b : Bool)
     (may : MayBegin g s task bytes) (higher : b ≡ true → g.call.number < number) (begun : op_of task bytes ≢ None → b ≡ true) where
 
   abbrev pub new : Seat
@@ -106,7 +106,7 @@ module _ (o : Origin) (c : Core) (n : ℕ) (s : Seat) (g : Ghost) (pin began now
   notes_none : notes_of n c.memory.notes ≡ []
   notes_none = no_notes (mark_of (λ word. cell c.memory word) c.memory.past) (notes_of n c.memory.notes) (sym may.no_marks ∙ f.marks)
 
-  pub begun_facts : ViewFacts o c n new ghost pin now
+  pub begun_facts : Knows o c n new ghost pin now
   begun_facts = record {
     fits = λ some. (let r = f.fits some in record { number = r.number; seats = r.seats; geometry = r.geometry; first = r.first; found = length-replicate (length s.blocks.found) 0 ∙ r.found; named = r.named; map = r.map });
     kept = f.kept;

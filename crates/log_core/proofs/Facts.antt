@@ -7,7 +7,7 @@ use Rattle.log_core.specs.Cores.{Core, current, IsPinned}
 use Rattle.log_core.specs.Sizes.{SeatFits}
 use Rattle.log_core.specs.Walks.{WalkHolds}
 use Rattle.log_core.specs.Invariant.{Invariant, KeptIn, around}
-use Rattle.log_core.proofs.OneView.{with_seat, ViewFacts}
+use Rattle.log_core.specs.Knows.{with_seat, Knows}
 
 -- a generation from the first to the present one has a place
 place_inside : (first place now count past : ℕ) → now ≡ first + count - 1 → count ≡ past + 1 → first + place ≤ now → place < count
@@ -25,7 +25,7 @@ module _ (o : Origin) (c : Core) (n : ℕ) (inv : Invariant o c) (here : n < len
     why = inr (record { seat = n; valid = valid; same = same });
   }
 
-  pub facts_of : ViewFacts o c n v.seat v.ghost (slice_index c.memory.now.pins n) (slice_index c.began n)
+  pub facts_of : Knows o c n v.seat v.ghost (slice_index c.memory.now.pins n) (slice_index c.began n)
   facts_of = record {
     fits = inv.sizes.each n here;
     kept = kept;
@@ -52,7 +52,7 @@ module _ (o : Origin) (c : Core) (n : ℕ) (inv : Invariant o c) (here : n < len
 abbrev pub forgotten : Seat → Seat
 forgotten s = record s { walk = record (s.walk) { kept = [] } }
 
-module _ (o : Origin) (c : Core) (n : ℕ) (s : Seat) (g : Ghost) (pin began : ℕ) (f : ViewFacts o c n s g pin began) where
+module _ (o : Origin) (c : Core) (n : ℕ) (s : Seat) (g : Ghost) (pin began : ℕ) (f : Knows o c n s g pin began) where
   walk_forgotten : WalkHolds (around o c) s.hold s.walk → WalkHolds (around o c) s.hold (forgotten s).walk
   walk_forgotten w = record {
     unwalked = w.unwalked;
@@ -68,7 +68,7 @@ module _ (o : Origin) (c : Core) (n : ℕ) (s : Seat) (g : Ghost) (pin began : �
     ready_tail = w.ready_tail;
   }
 
-  pub forget_facts : ViewFacts o c n (forgotten s) g pin began
+  pub forget_facts : Knows o c n (forgotten s) g pin began
   forget_facts = record {
     fits = λ some. (let r = f.fits some in record { number = r.number; seats = r.seats; geometry = r.geometry; first = r.first; found = r.found; named = r.named; map = r.map });
     kept = f.kept;

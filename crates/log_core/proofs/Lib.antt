@@ -8,3 +8,4 @@ pub mod StoresOwnPin
 pub mod LoadsPinWord
 pub mod StepHolds
 pub mod RunHolds
+pub mod Serving

@@ -18,7 +18,7 @@ use Rattle.log_core.specs.Walks.{WalkHolds, IsKeptWord}
 use Rattle.log_core.specs.Giving.{GivingHolds, ScanHolds}
 use Rattle.log_core.specs.Synced.{SyncMarkHolds}
 use Rattle.log_core.specs.Invariant.{Invariant, KeptIn, around, names_by}
-use Rattle.log_core.proofs.OneView.{with_seat, ViewFacts}
+use Rattle.log_core.specs.Knows.{with_seat, Knows}
 use Rattle.log_core.proofs.Heads.{head_generation, was_head, some_generation, kept_current, floor_low}
 
 -- the hold and the readiness after the load, by whether the pin word holds the head's generation
@@ -59,7 +59,7 @@ ready_same true h ready e = by (h.pin == h.generation) refl e
     by true is e = eqb-true h.pin h.generation is
     by false is e = cc
 
-module _ (o : Origin) (c : Core) (n : ℕ) (s : Seat) (g : Ghost) (pin began word : ℕ) (inv : Invariant o c) (f : ViewFacts o c n s g pin began)
+module _ (o : Origin) (c : Core) (n : ℕ) (s : Seat) (g : Ghost) (pin began word : ℕ) (inv : Invariant o c) (f : Knows o c n s g pin began)
     (found : word ≡ (cell c.memory head_place).present) where
 
   generation : field HEAD_GENERATION word ≡ current o c.generations
@@ -143,7 +143,7 @@ module _ (o : Origin) (c : Core) (n : ℕ) (s : Seat) (g : Ghost) (pin began wor
   sync_marks b (note ∷ notes) valid all = subst (λ (generation : ℕ). AllByRecursion (SyncMarkHolds (λ place. cell c.memory place) c.memory.past generation) (note ∷ notes))
       (sym (valid_same b (valid (some_notes note notes)))) all
 
-  loaded_facts : (b : Bool) → (b ≡ true → s.hold.pin ≡ current o c.generations) → ViewFacts o c n (loaded_by b s word) g pin began
+  loaded_facts : (b : Bool) → (b ≡ true → s.hold.pin ≡ current o c.generations) → Knows o c n (loaded_by b s word) g pin began
   loaded_facts b is = record {
     fits = λ some. (let r = f.fits some in record { number = r.number; seats = r.seats; geometry = r.geometry; first = r.first; found = r.found; named = r.named; map = r.map });
     kept = kept b is;
@@ -177,5 +177,5 @@ module _ (o : Origin) (c : Core) (n : ℕ) (s : Seat) (g : Ghost) (pin began wor
     });
   }
 
-  pub load_facts : ViewFacts o c n (loaded_by (s.hold.pin == field HEAD_GENERATION word) s word) g pin began
+  pub load_facts : Knows o c n (loaded_by (s.hold.pin == field HEAD_GENERATION word) s word) g pin began
   load_facts = loaded_facts (s.hold.pin == field HEAD_GENERATION word) (λ same. eqb-true s.hold.pin (field HEAD_GENERATION word) same ∙ generation)

@@ -12,7 +12,8 @@ use Rattle.log_core.specs.May.{MayLoadPinWord}
 use Rattle.log_core.specs.Pins.{PinHolds}
 use Rattle.log_core.specs.Giving.{ScanHolds}
 use Rattle.log_core.specs.Invariant.{Invariant}
-use Rattle.log_core.proofs.OneView.{with_seat, ViewFacts, same_or_other}
+use Rattle.log_core.specs.Knows.{with_seat, Knows}
+use Rattle.log_core.proofs.OneView.{same_or_other}
 
 abbrev pub seen_at : Seat → ℕ → ℕ → Seat
 seen_at s other found = record s { giving = record (s.giving) { pins_seen = take other s.giving.pins_seen ++ found ∷ [] } }
@@ -45,7 +46,7 @@ list_seen seen other found k generation first now head h low is holds old inside
     (λ apart. (let count = length_seen seen other found low in let less : k < other = omega (arith, inside, count, apart) in
       old (omega (arith, less, low)) (subst (λ (value : ℕ). (value ≡ 0) ⊎ (generation < value)) (before_seen seen other found k low less) free) valid))
 
-module _ (o : Origin) (c : Core) (n : ℕ) (s : Seat) (g : Ghost) (pin began other found : ℕ) (inv : Invariant o c) (f : ViewFacts o c n s g pin began)
+module _ (o : Origin) (c : Core) (n : ℕ) (s : Seat) (g : Ghost) (pin began other found : ℕ) (inv : Invariant o c) (f : Knows o c n s g pin began)
     (low : other ≤ length s.giving.pins_seen) (is_others : other ≢ n → found ≡ (view_of c.views other).seat.hold.pin) (is_own : other ≡ n → found ≡ s.hold.pin) where
 
   scan_seen : (k : ℕ) (h : Hold) → (k ≡ other → found ≡ h.pin) → PinHolds (first_generation o) (current o c.generations) (cell c.memory head_place) h → ScanHolds s.giving k h → ScanHolds (seen_at s other found).giving k h
@@ -57,7 +58,7 @@ module _ (o : Origin) (c : Core) (n : ℕ) (s : Seat) (g : Ghost) (pin began oth
   other_pin : (k : ℕ) → k ≢ n → k ≡ other → found ≡ (view_of c.views k).seat.hold.pin
   other_pin k apart same = is_others (λ e. apart (same ∙ e)) ∙ ap (λ (j : ℕ). (view_of c.views j).seat.hold.pin) (sym same)
 
-  pub seen_facts : ViewFacts o c n (seen_at s other found) g pin began
+  pub seen_facts : Knows o c n (seen_at s other found) g pin began
   seen_facts = record {
     fits = λ some. (let r = f.fits some in record { number = r.number; seats = r.seats; geometry = r.geometry; first = r.first; found = r.found; named = r.named; map = r.map });
     kept = f.kept;

@@ -20,10 +20,7 @@ use Rattle.log_core.specs.Giving.{GivingHolds, ScanHolds}
 use Rattle.log_core.specs.Records.{WritesFit, WritesOnce, SeatsOnce, PutFits, CallHolds, TailHolds, MarksFit, parts_with, count_in, collected_by, collected_in, putting, CollectedOnce}
 use Rattle.log_core.specs.Synced.{SyncHolds}
 use Rattle.log_core.specs.Invariant.{Invariant, KeptIn, around, names_by}
-
--- a view with another state of its seat
-abbrev pub with_seat : View → Seat → Ghost → View
-with_seat v s g = record v { seat = s; ghost = g }
+use Rattle.log_core.specs.Knows.{with_seat, Knows}
 
 -- the core with another view at one place, other pin words, and another list of ends
 abbrev pub with_view : Core → ℕ → View → List ℕ → List ℕ → Core
@@ -32,28 +29,6 @@ with_view c n w pins began = record c {
   views = slice_set c.views n w;
   began = began;
 }
-
--- what has to hold of a seat's state at a place, with the pin word and the end there
-pub record ViewFacts (o : Origin) (c : Core) (n : ℕ) (s : Seat) (g : Ghost) (pin began : ℕ) : Type 0 where
-  pub fits : (view_of c.views n).parts ≢ [] → SeatFits o n (with_seat (view_of c.views n) s g)
-  pub kept : (place : ℕ) → s.hold.valid ≡ true → s.hold.generation ≡ first_generation o + place → KeptIn o c place
-  pub owns : SeatOwns c.owner n s
-  pub pin_is : pin ≡ s.hold.pin
-  pub pin_holds : PinHolds (first_generation o) (current o c.generations) (cell c.memory head_place) s.hold
-  pub walk : (view_of c.views n).parts ≢ [] → WalkHolds (around o c) s.hold s.walk
-  pub owned : OwnedHold (λ word. cell c.memory word) c.memory.past c.memory.notes n g s
-  pub giving : GivingHolds (names_by o c.logs (entries o c.history) c.generations) (current o c.generations) (first_generation o + head_floor c.memory) s.giving
-  pub scan_others : (k : ℕ) → k ≢ n → ScanHolds s.giving k (view_of c.views k).seat.hold
-  pub scan_self : ScanHolds s.giving n s.hold
-  pub scanned : (k : ℕ) → k ≢ n → ScanHolds (view_of c.views k).seat.giving n s.hold
-  pub writes : WritesFit o c.history (with_seat (view_of c.views n) s g)
-  pub writes_once : WritesOnce o c.history (with_seat (view_of c.views n) s g)
-  pub put : PutFits o c.generations (with_seat (view_of c.views n) s g)
-  pub same_put : g.call.put ≡ (view_of c.views n).ghost.call.put
-  pub calls : CallHolds o c.history (with_seat (view_of c.views n) s g)
-  pub tail : TailHolds (with_seat (view_of c.views n) s g) began
-  pub marks : MarksFit (λ word. cell c.memory word) c.memory.past c.memory.notes n (with_seat (view_of c.views n) s g)
-  pub syncs : SyncHolds (λ word. cell c.memory word) c.memory.past c.memory.notes c.synced n (with_seat (view_of c.views n) s g)
 
 -- a place is another one, or not
 pub same_or_other : {P : Type 0} (k n : ℕ) → (k ≡ n → P) → (k ≢ n → P) → P

@@ -21,10 +21,11 @@ use Rattle.log_core.specs.Giving.{GivingHolds, ScanHolds}
 use Rattle.log_core.specs.Records.{WritesFit, WritesOnce, SeatsOnce, PutFits, CallHolds, TailHolds, MarksFit, RecordHolds, NeverFall, parts_with, one_if}
 use Rattle.log_core.specs.Synced.{SyncHolds}
 use Rattle.log_core.specs.Invariant.{Invariant, KeptIn, around, names_by, Order, Owners, Pins, Givings, Records, Syncs}
-use Rattle.log_core.proofs.OneView.{with_seat, with_view, ViewFacts, same_or_other, each_set, parts_set, collected_set, all_set, all_at}
+use Rattle.log_core.specs.Knows.{with_seat, Knows}
+use Rattle.log_core.proofs.OneView.{with_view, same_or_other, each_set, parts_set, collected_set, all_set, all_at}
 
 module _ (o : Origin) (c : Core) (n : ℕ) (s : Seat) (g : Ghost) (pins began : List ℕ) (inv : Invariant o c) (here : n < length c.views)
-    (facts : ViewFacts o c n s g (slice_index pins n) (slice_index began n))
+    (facts : Knows o c n s g (slice_index pins n) (slice_index began n))
     (same_pins : length pins ≡ length c.memory.now.pins) (other_pins : (k : ℕ) → k ≢ n → slice_index pins k ≡ slice_index c.memory.now.pins k)
     (same_began : length began ≡ length c.began) (other_began : (k : ℕ) → k ≢ n → slice_index began k ≡ slice_index c.began k) where
 

@@ -26,7 +26,8 @@ use Rattle.log_core.specs.After.{stepped, after, began_if}
 use Rattle.log_core.specs.May.{is_offered}
 use Rattle.log_core.specs.Runs.{MayNumber, MayStep, MayDo, DoesOffered, Allowed, ghost_at, effect_at, ghost_left, is_offered_work}
 use Rattle.log_core.specs.Invariant.{Invariant}
-use Rattle.log_core.proofs.OneView.{with_seat, with_view, ViewFacts, same_or_other}
+use Rattle.log_core.specs.Knows.{with_seat, Knows}
+use Rattle.log_core.proofs.OneView.{with_view, same_or_other}
 use Rattle.log_core.proofs.SetView.{set_view}
 use Rattle.log_core.proofs.Facts.{facts_of, forgotten, forget_facts}
 use Rattle.log_core.proofs.Begun.{begun_facts}
@@ -93,7 +94,7 @@ module _ (o : Origin) (c : Core) (n pin number : ℕ) where
   began_at s = began_if (is_begun (op_in v.seat) (op_in s)) c.began n (end_of o c.history)
 
   abbrev FactsAt : Seat → Type 0
-  FactsAt s = ViewFacts o c n s (ghost_begun v.ghost v.seat s number) pin (slice_index (began_at s) n)
+  FactsAt s = Knows o c n s (ghost_begun v.ghost v.seat s number) pin (slice_index (began_at s) n)
 
   -- a call begins from a state in which none runs
   begin_one : (s : Seat) (task : Task) (bytes : List ℕ) → FactsAt s → (op_in s ≡ None → op_in v.seat ≡ None) → MayBegin v.ghost s task bytes →
@@ -101,11 +102,11 @@ module _ (o : Origin) (c : Core) (n pin number : ℕ) where
   begin_one s task bytes facts start may higher =
       (let same : ghost_begun v.ghost v.seat s number ≡ v.ghost = rw (no_begin (op_in v.seat) (op_in s) may.none_runs) refl in
       begun_facts o c n s v.ghost pin (slice_index (began_at s) n) (slice_index (began_at (worked s (Begins task bytes))) n)
-        (subst (λ (g : Ghost). ViewFacts o c n s g pin (slice_index (began_at s) n)) same facts) task bytes number
+        (subst (λ (g : Ghost). Knows o c n s g pin (slice_index (began_at s) n)) same facts) task bytes number
         (is_begun (op_in v.seat) (op_of task bytes)) may higher (begins_from_none (op_in v.seat) (op_of task bytes) (start may.none_runs)))
 
   -- what a seat computes before a step
-  works_hold : (s : Seat) (works : List Work) → list_all is_offered_work works ≡ true → MayWorkAll v.ghost s works → FactsAt s → (op_in s ≡ None → op_in v.seat ≡ None) →
+  pub works_hold : (s : Seat) (works : List Work) → list_all is_offered_work works ≡ true → MayWorkAll v.ghost s works → FactsAt s → (op_in s ≡ None → op_in v.seat ≡ None) →
       MayNumber (is_begun (op_in v.seat) (op_in (worked_all s works))) v.ghost.call.number number → FactsAt (worked_all s works)
   works_hold s [] offered may facts start higher = facts
   works_hold s (Begins task bytes ∷ works) offered may facts start higher =
@@ -137,7 +138,7 @@ module _ (o : Origin) (c : Core) (n pin number : ℕ) where
 
 -- what a seat computes after a step: it gives up its kept words
 module _ (o : Origin) (c : Core) (n pin began : ℕ) (g : Ghost) where
-  later_hold : (s : Seat) (works : List Work) → list_all is_offered_work works ≡ true → list_all is_going_on works ≡ true → ViewFacts o c n s g pin began → ViewFacts o c n (worked_all s works) g pin began
+  later_hold : (s : Seat) (works : List Work) → list_all is_offered_work works ≡ true → list_all is_going_on works ≡ true → Knows o c n s g pin began → Knows o c n (worked_all s works) g pin began
   later_hold s [] offered going facts = facts
   later_hold s (Forgets ∷ works) offered going facts = later_hold (forgotten s) works offered going (forget_facts o c n s g pin began facts)
   later_hold s (Begins task bytes ∷ works) offered going facts = cc
@@ -181,8 +182,8 @@ module _ (o : Origin) (c : Core) (n : ℕ) (inv : Invariant o c) (here : n < len
 
   module _ (kind : Kind) (f : ℕ) (step : MayStep o c mine kind note f) (before : list_all is_offered_work step.begins.works ≡ true) (later : list_all is_offered_work step.enters.computed.works ≡ true) (no_record : note.adds ≡ []) where
     -- what holds at the ask
-    at_ask : ViewFacts o c n note.before (ghost_at mine note) (slice_index c.memory.now.pins n) (slice_index began n)
-    at_ask = subst (λ (s : Seat). ViewFacts o c n s (ghost_begun mine.ghost mine.seat s note.number) (slice_index c.memory.now.pins n) (slice_index (began_if (is_begun (op_in mine.seat) (op_in s)) c.began n (end_of o c.history)) n))
+    at_ask : Knows o c n note.before (ghost_at mine note) (slice_index c.memory.now.pins n) (slice_index began n)
+    at_ask = subst (λ (s : Seat). Knows o c n s (ghost_begun mine.ghost mine.seat s note.number) (slice_index c.memory.now.pins n) (slice_index (began_if (is_begun (op_in mine.seat) (op_in s)) c.began n (end_of o c.history)) n))
         (sym step.begins.gives)
         (works_hold o c n (slice_index c.memory.now.pins n) note.number mine.seat step.begins.works before step.begins.may start (λ e. e)
           (subst (λ (s : Seat). MayNumber (is_begun (op_in mine.seat) (op_in s)) mine.ghost.call.number note.number) step.begins.gives step.number))
@@ -195,8 +196,8 @@ module _ (o : Origin) (c : Core) (n : ℕ) (inv : Invariant o c) (here : n < len
         start = rw (begun_same (op_in mine.seat)) (facts_of o c n inv here)
 
     -- what the call computes after it, and that it goes on
-    at_end : (pin : ℕ) → ViewFacts o c n (effect_at mine note kind f) (ghost_left mine note kind f) pin (slice_index began n) → ViewFacts o c n note.seat (ghost_left mine note kind f) pin (slice_index began n)
-    at_end pin facts = subst (λ (s : Seat). ViewFacts o c n s (ghost_left mine note kind f) pin (slice_index began n))
+    at_end : (pin : ℕ) → Knows o c n (effect_at mine note kind f) (ghost_left mine note kind f) pin (slice_index began n) → Knows o c n note.seat (ghost_left mine note kind f) pin (slice_index began n)
+    at_end pin facts = subst (λ (s : Seat). Knows o c n s (ghost_left mine note kind f) pin (slice_index began n))
         (sym (step.enters.seat_is ∙ (ended_none note.adds step.enters.last no_record ∙ step.enters.computed.gives)))
         (later_hold o c n pin (slice_index began n) (ghost_left mine note kind f) (effect_at mine note kind f) step.enters.computed.works later step.enters.going_on facts)
 
@@ -242,7 +243,7 @@ module _ (o : Origin) (c : Core) (n : ℕ) (inv : Invariant o c) (here : n < len
           (store_facts o c n note.before (ghost_at mine note) (slice_index c.memory.now.pins n) (slice_index began n) value (at_ask (StoresOwnPin value) 0 step before later no_record) step.may) in
       by_view (slice_set c.memory.now.pins n value) (with_seat mine note.seat (ghost_left mine note (StoresOwnPin value) 0)) (view_after mine (StoresOwnPin value) note 0) (view_is (StoresOwnPin value) 0 step before later no_record)
         (set_view o c n note.seat (ghost_left mine note (StoresOwnPin value) 0) (slice_set c.memory.now.pins n value) began inv here
-          (subst (λ (pin : ℕ). ViewFacts o c n note.seat (ghost_left mine note (StoresOwnPin value) 0) pin (slice_index began n)) (sym (get_or-set_same c.memory.now.pins n value 0 inside)) facts)
+          (subst (λ (pin : ℕ). Knows o c n note.seat (ghost_left mine note (StoresOwnPin value) 0) pin (slice_index began n)) (sym (get_or-set_same c.memory.now.pins n value 0 inside)) facts)
           (length-set c.memory.now.pins n value) (λ k other. get_or-set_other c.memory.now.pins n k value 0 other) began_fits began_others))
 
   -- a load of a pin word
@@ -260,5 +261,5 @@ module _ (o : Origin) (c : Core) (n : ℕ) (inv : Invariant o c) (here : n < len
             (λ own. ap (λ (k : ℕ). slice_index c.memory.now.pins k) own ∙ asked.pin_is)) in
       by_view (slice_set c.memory.now.pins other f) (with_seat mine note.seat (ghost_left mine note (LoadsPinWord other) f)) (view_after mine (LoadsPinWord other) note f) (view_is (LoadsPinWord other) f step before later no_record)
         (set_view o c n note.seat (ghost_left mine note (LoadsPinWord other) f) (slice_set c.memory.now.pins other f) began inv here
-          (subst (λ (pin : ℕ). ViewFacts o c n note.seat (ghost_left mine note (LoadsPinWord other) f) pin (slice_index began n)) (sym (ap (λ (pins : List ℕ). slice_index pins n) same)) facts)
+          (subst (λ (pin : ℕ). Knows o c n note.seat (ghost_left mine note (LoadsPinWord other) f) pin (slice_index began n)) (sym (ap (λ (pins : List ℕ). slice_index pins n) same)) facts)
           (ap length same) (λ k apart. ap (λ (pins : List ℕ). slice_index pins k) same) began_fits began_others))

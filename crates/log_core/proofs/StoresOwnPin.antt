@@ -12,13 +12,13 @@ use Rattle.log_core.specs.Walks.{WalkHolds}
 use Rattle.log_core.specs.Giving.{ScanHolds}
 use Rattle.log_core.specs.Records.{mark_of}
 use Rattle.log_core.specs.Invariant.{around}
-use Rattle.log_core.proofs.OneView.{with_seat, ViewFacts}
+use Rattle.log_core.specs.Knows.{with_seat, Knows}
 use Rattle.log_core.proofs.Begun.{no_notes}
 
 abbrev pub pinned_at : Seat → ℕ → Seat
 pinned_at s value = record s { hold = record (s.hold) { pin = value; valid = false }; walk = record (s.walk) { kept = [] } }
 
-module _ (o : Origin) (c : Core) (n : ℕ) (s : Seat) (g : Ghost) (pin began value : ℕ) (f : ViewFacts o c n s g pin began) (may : MayStoreOwnPin s g.marks value) where
+module _ (o : Origin) (c : Core) (n : ℕ) (s : Seat) (g : Ghost) (pin began value : ℕ) (f : Knows o c n s g pin began) (may : MayStoreOwnPin s g.marks value) where
   walk_pinned : WalkHolds (around o c) s.hold s.walk → WalkHolds (around o c) (pinned_at s value).hold (pinned_at s value).walk
   walk_pinned w = record {
     unwalked = w.unwalked;
@@ -41,7 +41,7 @@ module _ (o : Origin) (c : Core) (n : ℕ) (s : Seat) (g : Ghost) (pin began val
   notes_none : s.calling.job ≡ Sync → notes_of n c.memory.notes ≡ []
   notes_none sync = no_notes (mark_of (λ word. cell c.memory word) c.memory.past) (notes_of n c.memory.notes) (sym (may.no_marks sync) ∙ f.marks)
 
-  pub store_facts : ViewFacts o c n (pinned_at s value) g value began
+  pub store_facts : Knows o c n (pinned_at s value) g value began
   store_facts = record {
     fits = λ some. (let r = f.fits some in record { number = r.number; seats = r.seats; geometry = r.geometry; first = r.first; found = r.found; named = r.named; map = r.map });
     kept = λ place valid same. cc;
