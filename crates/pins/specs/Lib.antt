@@ -1,0 +1,4 @@
+pub mod Pinning
+pub mod Scanning
+pub mod Steps
+pub mod Unpinning
