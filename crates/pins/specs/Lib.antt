@@ -1,3 +1,4 @@
+pub mod Endings
 pub mod Pinning
 pub mod Scanning
 pub mod Steps

@@ -1,11 +1,15 @@
 //! How a seat takes and gives up its pin of a generation, and which pin of all seats keeps the blocks of one.
 #![tactic(auto)]
 
+pub mod alone;
 pub mod pin;
 pub mod scan;
 pub mod steps;
+#[cfg(test)]
+mod tests;
 pub mod unpin;
 
+pub use alone::{pin_alone, scan_alone, unpin_alone};
 pub use pin::Pin;
 pub use scan::{Scan, Scanned};
 pub use unpin::Unpin;
