@@ -13,8 +13,8 @@ pub enum Scanned {
     Held(Held),
 }
 
-/// Loads the pin words of all seats in order, the own one too, until one is not 0 and at most `generation`. It needs at
-/// least one seat and at most 16.
+/// Loads the pin words of all seats in order, the own one too, until one is not 0 and at most `generation`. There have to
+/// be 1 to 16 seats. A seat gives its own pin up before it scans, else the scan may answer that the seat itself holds.
 #[derive(Clone, Copy, Debug, PartialEq, Eq)]
 pub struct Scan {
     /// The generation whose blocks a pin may need.
