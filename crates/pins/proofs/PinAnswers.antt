@@ -6,7 +6,9 @@ use Rattle.log_entry.specs.declared.words.Head.{Head}
 use Rattle.seat_state.specs.Seats.{Seat}
 use Rattle.pmem_words.specs.Courses.{Course, over}
 use Rattle.pmem_words.specs.Drives.{Goes, Ends}
+use Rattle.pmem_words.specs.Leads.{Leads}
 use Rattle.pmem_words.specs.PlainWords.{PlainWords, plain}
+use Rattle.pmem_words.proofs.LeadsLemmas.{leads_with}
 use Rattle.pmem_words.specs.declared.asks.Turn.TheVariants.{Go, Done}
 use Rattle.pins.specs.declared.TheConstants.{HEAD_WORD}
 use Rattle.pins.specs.declared.pin.Pin.{Pin}
@@ -32,6 +34,15 @@ pin_ended Confirm s a out stop = confirmed (s.hold.pin == generation_in a) s a o
 -- what a caller learns from the end of a pin
 pub pin_heard : {W : Type 0} (course : Course Pin W) (m : Pin) (s : Seat) (w : W) (out : Head) (t : Seat) (v : W) → (e : Ends pin_script course m s w out t v) → HasPin e.last out t
 pin_heard {W} course m s w out t v e = subst (λ (x : Seat). HasPin e.last out x) e.leaves (pin_ended e.machine e.seat e.last out e.ends)
+
+-- and of its promise: each end of it is such a pin
+pub pin_leads : {W : Type 0} (course : Course Pin W) (Q : Head → Seat → W → Type 0) (m : Pin) (s : Seat) (w : W) → Leads pin_script course Q m s w
+    → Leads pin_script course (λ out t v. Q out t v × HasPin t.hold.head out t) m s w
+pin_leads {W} course Q m s w h =
+    leads_with pin_script course (λ m s w. Unit {0}) Q (λ out t v. HasPin t.hold.head out t)
+    (λ m s w a v k ready st go. tt)
+    (λ m s w a v out k ready st stop. let is : HasPin a out (pin_after m s a).seat = pin_ended m s a out stop in subst (λ (x : ℕ). HasPin x out (pin_after m s a).seat) (sym is.found) is)
+    tt h
 
 not_again : (b : Bool) (s : Seat) (a : ℕ) → b ≡ true → (confirm_after b s a).turn ≡ Go → ⊥
 not_again true s a e go = cc

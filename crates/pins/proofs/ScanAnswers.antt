@@ -1,17 +1,18 @@
 -- A scan in any course, whatever others do between its steps: what it ends with is found in its answers.
-use Rattle.std.proofs.Common.{ℕ, suc, ◌≡◌, ◌+◌, ◌<◌, List, [], ◌∷◌, ◌++◌, length, slice_index, refl, subst, sym, ap, ◌∙◌, arith}
-use Rattle.std.proofs.lemmas.List.{length_push, ext_get_or}
+use Rattle.std.proofs.Common.{ℕ, suc, ◌≡◌, ◌+◌, ◌<◌, List, [], ◌∷◌, ◌++◌, length, take, slice_index, refl, subst, sym, ap, ◌∙◌, arith}
+use Rattle.std.proofs.lemmas.List.{length_push, ext_get_or, take_all, get_or_append_left, get_or_push}
 use Rattle.seat_state.specs.Seats.{Seat}
 use Rattle.pmem_words.specs.Courses.{Course}
 use Rattle.pmem_words.specs.Drives.{Goes, Ends}
+use Rattle.pmem_words.specs.Leads.{Leads}
+use Rattle.pmem_words.proofs.LeadsLemmas.{leads_with}
 use Rattle.pmem_words.specs.declared.asks.Turn.TheVariants.{Go, Done}
 use Rattle.pins.specs.declared.scan.Scan.{Scan}
 use Rattle.pins.specs.declared.scan.Scanned.{Scanned}
 use Rattle.pins.specs.Steps.{with_seen, seen_after}
-use Rattle.pins.specs.Scanning.{needs, scan_of, scan_after, scan_script}
+use Rattle.pins.specs.Scanning.{needs, scan_at, scan_of, scan_after, scan_script}
 use Rattle.pins.specs.Endings.{IsFree, IsScan, IsFirst, IsHeard, loads}
 use Rattle.pins.proofs.ScanLemmas.{SoFar, none_yet, one_more, more_seen, goes_free, ends_found}
-use Rattle.pins.proofs.ScanOverPlain.{scan_at}
 
 -- it ended after so many answers in all, the first ones of these words
 record IsFound (generation : ℕ) (s : Seat) (words : List ℕ) (total : ℕ) (out : Scanned) (t : Seat) : Type 0 where
@@ -23,11 +24,11 @@ record IsFound (generation : ℕ) (s : Seat) (words : List ℕ) (total : ℕ) (o
 
 module _ {W : Type 0} (course : Course Scan W) (generation : ℕ) (s : Seat) (words : List ℕ) (last : ℕ) (out : Scanned) (t : Seat) where
   found_now : (n total : ℕ) (seen : List ℕ) → n + 1 ≡ total → n < s.seats → SoFar generation n words seen → slice_index words n ≡ last
-      → (scan_after (record { generation = generation; next = n }) (with_seen s seen) last).turn ≡ Done out
-      → (scan_after (record { generation = generation; next = n }) (with_seen s seen) last).seat ≡ t
+      → (scan_after (scan_at generation n) (with_seen s seen) last).turn ≡ Done out
+      → (scan_after (scan_at generation n) (with_seen s seen) last).seat ≡ t
       → IsFound generation s words total out t
   found_now n total seen all left far here stop leaves =
-      let found : IsScan generation s.seats words out × (loads s.seats out ≡ n + 1) = ends_found (record { generation = generation; next = n }) (with_seen s seen) last words out left here far.free (needs generation last) refl stop in
+      let found : IsScan generation s.seats words out × (loads s.seats out ≡ n + 1) = ends_found (scan_at generation n) (with_seen s seen) last words out left here far.free (needs generation last) refl stop in
       record {
         scan = found.0;
         count = found.1 ∙ all;
@@ -38,7 +39,7 @@ module _ {W : Type 0} (course : Course Scan W) (generation : ℕ) (s : Seat) (wo
 
   found_from : (answers : List ℕ) (n total : ℕ) (seen : List ℕ) (w : W) (m : Scan) (u : Seat) (v : W) → n + length answers + 1 ≡ total → n < s.seats → SoFar generation n words seen
       → ((k : ℕ) → slice_index words (n + k) ≡ slice_index (answers ++ last ∷ []) k)
-      → Goes scan_script course (record { generation = generation; next = n }) (with_seen s seen) w answers m u v
+      → Goes scan_script course (scan_at generation n) (with_seen s seen) w answers m u v
       → (scan_after m u last).turn ≡ Done out → (scan_after m u last).seat ≡ t
       → IsFound generation s words total out t
   found_from [] n total seen w m u v all left far at goes stop leaves =
@@ -50,7 +51,7 @@ module _ {W : Type 0} (course : Course Scan W) (generation : ℕ) (s : Seat) (wo
       (subst (λ (x : Seat). (scan_after m x last).seat ≡ t) (sym goes.1) leaves))
   found_from (a ∷ answers) n total seen w m u v all left far at goes stop leaves =
       let here : slice_index words n ≡ a = subst (λ (k : ℕ). slice_index words k ≡ a) (omega arith) (at 0) in
-      let on : IsFree generation a × (n + 1 < s.seats) = goes_free (needs generation a) (record { generation = generation; next = n }) (with_seen s seen) a refl goes.2 in
+      let on : IsFree generation a × (n + 1 < s.seats) = goes_free (needs generation a) (scan_at generation n) (with_seen s seen) a refl goes.2 in
       found_from answers (n + 1) total (seen_after n seen a) goes.0 m u v (omega arith) on.1 (one_more generation n words seen a far here on.0)
       (λ k. subst (λ (x : ℕ). slice_index words x ≡ slice_index (answers ++ last ∷ []) k) (omega arith) (at (suc k)))
       goes.3 stop leaves
@@ -73,3 +74,63 @@ scan_heard {W} course generation s w out t v some e =
       count = long ∙ sym found.count;
       seat = found.seat ∙ ap (λ (x : List ℕ). with_seen s x) same;
     }
+
+-- along the way: at seat n, with the words seen so far, all of them free
+record IsAlong (generation : ℕ) (s : Seat) (m : Scan) (t : Seat) : Type 0 where
+  pub next : ℕ
+  pub seen : List ℕ
+  pub machine : scan_at generation next ≡ m
+  pub seat : with_seen s seen ≡ t
+  pub left : next < s.seats
+  pub far : SoFar generation next (take next seen) seen
+
+-- the words seen so far, as the first of those with one more
+lifted : (generation n : ℕ) (seen : List ℕ) (a : ℕ) → SoFar generation n (take n seen) seen → SoFar generation n (seen_after n seen a) seen
+lifted generation n seen a far =
+    let long : length (take n seen) ≡ n = far.first.count in
+    record {
+      in_order = far.in_order;
+      first = record { count = long; each = λ k below. sym (get_or_append_left (take n seen) (a ∷ []) 0 k (omega arith)) };
+      free = λ k below. subst (λ (x : ℕ). IsFree generation x) (sym (get_or_append_left (take n seen) (a ∷ []) 0 k (omega arith))) (far.free k below);
+    }
+
+module _ (generation : ℕ) (s : Seat) where
+  goes_along : (n : ℕ) (seen : List ℕ) (a : ℕ) → n < s.seats → SoFar generation n (take n seen) seen
+      → (scan_after (scan_at generation n) (with_seen s seen) a).turn ≡ Go
+      → IsAlong generation s (scan_after (scan_at generation n) (with_seen s seen) a).machine (scan_after (scan_at generation n) (with_seen s seen) a).seat
+  goes_along n seen a left far go =
+      let on : IsFree generation a × (n + 1 < s.seats) = goes_free (needs generation a) (scan_at generation n) (with_seen s seen) a refl go in
+      let more : SoFar generation (n + 1) (seen_after n seen a) (seen_after n seen a) =
+      one_more generation n (seen_after n seen a) seen a (lifted generation n seen a far) (get_or_push (take n seen) a 0 n far.first.count) on.0 in
+      let long : length (seen_after n seen a) ≡ n + 1 = length_push (take n seen) a ∙ ap (λ (x : ℕ). x + 1) far.first.count in
+      record {
+        next = n + 1;
+        seen = seen_after n seen a;
+        machine = refl;
+        seat = refl;
+        left = on.1;
+        far = subst (λ (x : List ℕ). SoFar generation (n + 1) x (seen_after n seen a)) (sym (take_all (n + 1) (seen_after n seen a) (omega arith))) more;
+      }
+
+  ends_along : (n : ℕ) (seen : List ℕ) (a : ℕ) (out : Scanned) → n < s.seats → SoFar generation n (take n seen) seen
+      → (scan_after (scan_at generation n) (with_seen s seen) a).turn ≡ Done out
+      → IsHeard generation s (seen_after n seen a) out (with_seen s (seen_after n seen a))
+  ends_along n seen a out left far stop =
+      let found : IsScan generation s.seats (seen_after n seen a) out × (loads s.seats out ≡ n + 1) =
+      ends_found (scan_at generation n) (with_seen s seen) a (seen_after n seen a) out left (get_or_push (take n seen) a 0 n far.first.count) (lifted generation n seen a far).free (needs generation a) refl stop in
+      record { scan = found.0; count = length_push (take n seen) a ∙ ap (λ (x : ℕ). x + 1) far.first.count ∙ sym found.1; seat = refl }
+
+  -- and of its promise: at each end of it the answers are the pin words that the seat has seen
+  pub scan_leads : {W : Type 0} (course : Course Scan W) (Q : Scanned → Seat → W → Type 0) (w : W) → 0 < s.seats → Leads scan_script course Q (scan_of generation) s w
+      → Leads scan_script course (λ out t v. Q out t v × IsHeard generation s t.giving.pins_seen out t) (scan_of generation) s w
+  scan_leads {W} course Q w some h =
+      leads_with scan_script course (λ m t v. IsAlong generation s m t) Q (λ out t v. IsHeard generation s t.giving.pins_seen out t)
+      (λ m t w' a v k ready st go.
+      subst (λ (x : Scan). (scan_after x t a).turn ≡ Go → IsAlong generation s (scan_after x t a).machine (scan_after x t a).seat) k.machine
+      (subst (λ (x : Seat). (scan_after (scan_at generation k.next) x a).turn ≡ Go → IsAlong generation s (scan_after (scan_at generation k.next) x a).machine (scan_after (scan_at generation k.next) x a).seat) k.seat
+      (goes_along k.next k.seen a k.left k.far)) go)
+      (λ m t w' a v out k ready st stop.
+      subst (λ (x : Scan). (scan_after x t a).turn ≡ Done out → IsHeard generation s (scan_after x t a).seat.giving.pins_seen out (scan_after x t a).seat) k.machine
+      (subst (λ (x : Seat). (scan_after (scan_at generation k.next) x a).turn ≡ Done out → IsHeard generation s (scan_after (scan_at generation k.next) x a).seat.giving.pins_seen out (scan_after (scan_at generation k.next) x a).seat) k.seat
+      (ends_along k.next k.seen a out k.left k.far)) stop)
+      (record { next = 0; seen = s.giving.pins_seen; machine = refl; seat = refl; left = some; far = none_yet generation [] s.giving.pins_seen }) h

@@ -8,16 +8,11 @@ use Rattle.pmem_words.specs.PlainWords.{PlainWords, plain}
 use Rattle.pmem_words.proofs.PlainLemmas.{leads_plain_kept}
 use Rattle.pmem_words.specs.declared.asks.Turn.{Turn}
 use Rattle.pmem_words.specs.declared.asks.Turn.TheVariants.{Go, Done}
-use Rattle.pins.specs.declared.scan.Scan.{Scan}
 use Rattle.pins.specs.declared.scan.Scanned.{Scanned}
 use Rattle.pins.specs.Steps.{with_seen, seen_after}
-use Rattle.pins.specs.Scanning.{needs, scan_of, scan_turn, scan_script}
+use Rattle.pins.specs.Scanning.{needs, scan_at, scan_of, scan_turn, scan_script}
 use Rattle.pins.specs.Endings.{IsFree, IsScan, IsFirst, loads}
 use Rattle.pins.proofs.ScanLemmas.{SoFar, none_yet, one_more, more_seen, goes_free, ends_found}
-
--- a scan at seat n
-abbrev pub scan_at : ℕ → ℕ → Scan
-scan_at generation n = record { generation = generation; next = n }
 
 module _ (Q : Scanned → Seat → PlainWords → Type 0) (generation : ℕ) (s : Seat) (w : PlainWords) (few : s.seats ≤ SEATS)
     (then : (out : Scanned) (seen : List ℕ) → IsScan generation s.seats w.pins out → IsFirst (loads s.seats out) w.pins seen → Q out (with_seen s seen) w) where

@@ -13,9 +13,13 @@ use Rattle.pins.specs.declared.scan.Scanned.{Scanned}
 use Rattle.pins.specs.declared.scan.Scanned.TheVariants.{Clear, Held}
 use Rattle.pins.specs.Steps.{pin_found}
 
+-- a scan that comes to the pin word of seat n
+abbrev pub scan_at : ℕ → ℕ → Scan
+scan_at generation n = record { generation = generation; next = n }
+
 -- a scan that has not begun
 abbrev pub scan_of : ℕ → Scan
-scan_of generation = record { generation = generation; next = 0 }
+scan_of generation = scan_at generation 0
 
 -- whether a pin word may need the blocks of a generation: it is not 0, and at most the generation
 abbrev pub needs : ℕ → ℕ → Bool
