@@ -2,6 +2,7 @@
 #![tactic(auto)]
 
 pub mod alone;
+pub mod driven;
 pub mod pin;
 pub mod scan;
 pub mod steps;
@@ -10,6 +11,7 @@ mod tests;
 pub mod unpin;
 
 pub use alone::{pin_alone, scan_alone, unpin_alone};
+pub use driven::{pin_over, scan_over};
 pub use pin::Pin;
 pub use scan::{Scan, Scanned};
 pub use unpin::Unpin;

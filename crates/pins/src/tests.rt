@@ -95,3 +95,17 @@ fn a_scan_finds_the_first_pin_that_needs_a_generation(rt: HostRuntime) -> Result
     assert_eq!(rt; seat.pins_seen(), [1, 2].as_slice());
     Ok(())
 }
+
+#[test]
+fn the_machines_run_over_any_memory(rt: HostRuntime) -> Result<(), Fail> {
+    let Ok(geometry) = Geometry::new(40, 4, 64) else {
+        return Ok(());
+    };
+    let mut seat = SeatState::new(rt.alloc(), geometry, 0, 1, 0)?;
+    let mut unpinned = Plain::new(rt.alloc(), Vec::new(rt.alloc()), Vec::new(rt.alloc()))?;
+    assert_eq!(rt; scan_over(&mut seat, &mut unpinned, 0), Scanned::Clear);
+    let words = vec![in rt.alloc(); 0, 0, 0, 4_294_967_299]?;
+    let mut plain = Plain::new(rt.alloc(), words, Vec::new(rt.alloc()))?;
+    assert_eq!(rt; pin_over(&mut seat, &mut plain).block, 3);
+    Ok(())
+}
