@@ -1,5 +1,5 @@
 -- A pin in any course, whatever others do between its steps; and how many steps it takes where nobody else does any.
-use Rattle.std.proofs.Common.{ℕ, ◌≡◌, ◌+◌, ◌==◌, Bool, true, false, List, [], ◌∷◌, length, slice_index, slice_set, refl, subst, sym, ap, ◌∙◌}
+use Rattle.std.proofs.Common.{ℕ, ◌≡◌, ◌+◌, ◌==◌, Bool, true, false, List, [], ◌∷◌, length, slice_index, refl, subst, sym, ap, ◌∙◌}
 use Rattle.std.proofs.lemmas.Bool.{eq-eqb, eqb-true}
 use Rattle.std.proofs.lemmas.List.{set-get_or}
 use Rattle.log_entry.specs.declared.words.Head.{Head}

@@ -1,5 +1,5 @@
 -- One answer of a scan, and what is known after some.
-use Rattle.std.proofs.Common.{ℕ, ◌≡◌, ◌≢◌, ◌+◌, ◌<◌, ◌≤◌, ◌⊎◌, inl, inr, nat_lt, nat_le, ◌&&◌, Bool, true, false, List, [], ◌∷◌, ◌++◌, length, take, slice_index, refl, sym, ap, subst, ◌∙◌, arith}
+use Rattle.std.proofs.Common.{ℕ, ◌≡◌, ◌≢◌, ◌+◌, ◌<◌, ◌≤◌, ◌⊎◌, inl, inr, nat_lt, nat_le, Bool, true, false, List, [], ◌∷◌, ◌++◌, length, take, slice_index, refl, sym, ap, subst, ◌∙◌, arith}
 use Rattle.std.proofs.lemmas.Bool.{ltb-true, ltb-false, leb-true, leb-false, and_parts, and_cases}
 use Rattle.std.proofs.lemmas.List.{length_push, take_all, get_or_append_left, get_or_push}
 use borrow.Author.Count.{below_more}
@@ -10,7 +10,7 @@ use Rattle.pins.specs.declared.scan.Scanned.{Scanned}
 use Rattle.pins.specs.declared.scan.Scanned.TheVariants.{Clear, Held}
 use Rattle.pins.specs.Steps.{seen_after}
 use Rattle.pins.specs.Scanning.{needs, if_left, scan_turn}
-use Rattle.pins.specs.Endings.{IsFree, AreFree, IsHeld, IsScan, IsFirst, loads}
+use Rattle.pins.specs.Endings.{IsFree, AreFree, IsScan, IsFirst, loads}
 
 free_at : (generation word : ℕ) → (nat_lt 0 word ≡ false) ⊎ (nat_le word generation ≡ false) → IsFree generation word
 free_at generation word (inl none) = inl (let h : word ≤ 0 = ltb-false 0 word none in omega arith)

@@ -1,5 +1,5 @@
 -- A scan over a plain memory, for whatever is to hold afterwards.
-use Rattle.std.proofs.Common.{ℕ, zero, suc, ◌≡◌, ◌+◌, ◌<◌, ◌≤◌, Bool, List, take, slice_index, refl, subst, sym, arith}
+use Rattle.std.proofs.Common.{ℕ, zero, suc, ◌≡◌, ◌+◌, ◌<◌, ◌≤◌, List, slice_index, refl, subst, sym, arith}
 use Rattle.seat_state.specs.Seats.{Seat}
 use Rattle.seat_state.specs.declared.TheConstants.{SEATS}
 use Rattle.pmem_words.specs.Courses.{over}

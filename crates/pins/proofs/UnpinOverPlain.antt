@@ -1,5 +1,5 @@
 -- Giving a pin up over a plain memory, for whatever is to hold afterwards.
-use Rattle.std.proofs.Common.{ℕ, ◌≡◌, ◌<◌, refl}
+use Rattle.std.proofs.Common.{◌≡◌, ◌<◌, refl}
 use Rattle.seat_state.specs.Seats.{Seat}
 use Rattle.seat_state.specs.declared.TheConstants.{SEATS}
 use Rattle.pmem_words.specs.Courses.{over}

@@ -1,5 +1,5 @@
 -- What a scan of the pins means.
-use Rattle.std.specs.Prelude.{ℕ, ◌≡◌, ◌≢◌, ◌+◌, ◌-◌, ◌<◌, ◌≤◌, ◌&&◌, nat_lt, nat_le, Bool, true, false, List, length}
+use Rattle.std.specs.Prelude.{ℕ, ◌≡◌, ◌≢◌, ◌+◌, ◌-◌, ◌<◌, ◌≤◌, ◌&&◌, nat_lt, nat_le, Bool, true, false, length}
 use Rattle.std.proofs.Common.{arith}
 use Rattle.seat_state.specs.Seats.{Seat}
 use Rattle.seat_state.specs.declared.TheConstants.{SEATS}

@@ -1,7 +1,7 @@
 -- What giving a pin up means.
 use Rattle.std.specs.Prelude.{ℕ, ◌≡◌}
 use Rattle.seat_state.specs.Seats.{Seat}
-use Rattle.pmem_words.specs.Scripts.{After, Script, Lowers}
+use Rattle.pmem_words.specs.Scripts.{Script, Lowers}
 use Rattle.pmem_words.specs.declared.asks.Ask.TheVariants.{Store}
 use Rattle.pmem_words.specs.declared.asks.Place.TheVariants.{Pin as PinWord}
 use Rattle.pmem_words.specs.declared.asks.Turn.TheVariants.{Go, Done}

@@ -1,10 +1,8 @@
-use Rattle.std.proofs.Common.{ℕ, ◌≡◌, ◌<◌, ◌≤◌, length, refl, ap, ◌∙◌, arith}
+use Rattle.std.proofs.Common.{◌≡◌, length, ap, ◌∙◌, arith}
 use Rattle.seat_state.specs.Seats.{Seat}
-use Rattle.seat_state.specs.declared.TheConstants.{SEATS}
 use Rattle.pmem_words.specs.Courses.{over}
 use Rattle.pmem_words.specs.PlainWords.{PlainWords, plain}
 use Rattle.pmem_words.proofs.LeadsLemmas.{safe_by}
-use Rattle.pins.specs.declared.TheConstants.{HEAD_WORD}
 use Rattle.pins.specs.Pinning.{pin_script}
 use Rattle.pins.specs.Scanning.{scan_script}
 use Rattle.pins.proofs.PinOverPlain.{pinned_alone}
