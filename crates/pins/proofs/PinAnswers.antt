@@ -14,7 +14,7 @@ use Rattle.pins.specs.declared.TheConstants.{HEAD_WORD}
 use Rattle.pins.specs.declared.pin.Pin.{Pin}
 use Rattle.pins.specs.declared.pin.Pin.TheVariants.{Begin, Publish, Confirm}
 use Rattle.pins.specs.Steps.{generation_in, head_of, head_found_if}
-use Rattle.pins.specs.Pinning.{pin_script, pin_after, confirm_after}
+use Rattle.pins.specs.Pinning.{pin_script, pin_after, confirm_after, confirm_turn}
 use Rattle.pins.specs.Endings.{HasPin}
 
 confirmed : (b : Bool) (s : Seat) (a : ℕ) (out : Head) → s.hold.pin == generation_in a ≡ b → (confirm_after b s a).turn ≡ Done out → HasPin a out (confirm_after b s a).seat
@@ -44,9 +44,9 @@ pin_leads {W} course Q m s w h =
     (λ m s w a v out k ready st stop. let is : HasPin a out (pin_after m s a).seat = pin_ended m s a out stop in subst (λ (x : ℕ). HasPin x out (pin_after m s a).seat) (sym is.found) is)
     tt h
 
-not_again : (b : Bool) (s : Seat) (a : ℕ) → b ≡ true → (confirm_after b s a).turn ≡ Go → ⊥
-not_again true s a e go = cc
-not_again false s a e go = cc
+not_again : (b : Bool) (a : ℕ) → b ≡ true → confirm_turn b a ≡ Go → ⊥
+not_again true a e go = cc
+not_again false a e go = cc
 
 module _ (s : Seat) (w : PlainWords) (out : Head) where
   steps_of : (answers : List ℕ) (m : Pin) (t : Seat) (v : PlainWords) (last : ℕ) → Goes pin_script (over pin_script plain) Begin s w answers m t v → (pin_after m t last).turn ≡ Done out → length answers + 1 ≡ 3
@@ -57,7 +57,7 @@ module _ (s : Seat) (w : PlainWords) (out : Head) where
       let first : goes.0.words ≡ w.words = ap (λ (x : PlainWords). x.words) goes.1.left ∙ set-get_or w.words HEAD_WORD 0 in
       let second : goes.3.0.words ≡ goes.0.words = ap (λ (x : PlainWords). x.words) goes.3.1.left in
       let again : c ≡ a = goes.3.3.1.answered ∙ ap (λ (x : List ℕ). slice_index x HEAD_WORD) (second ∙ first) ∙ sym goes.1.answered in
-      absurd (not_again (generation_in a == generation_in c) _ c (eq-eqb (generation_in a) (generation_in c) (ap generation_in (sym again))) goes.3.3.2)
+      absurd (not_again (generation_in a == generation_in c) c (eq-eqb (generation_in a) (generation_in c) (ap generation_in (sym again))) goes.3.3.2)
 
 -- alone it takes three
 pub pin_steps : (s : Seat) (w : PlainWords) (out : Head) (t : Seat) (v : PlainWords) → (e : Ends pin_script (over pin_script plain) Begin s w out t v) → length e.answers + 1 ≡ 3

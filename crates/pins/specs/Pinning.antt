@@ -9,6 +9,7 @@ use Rattle.pmem_words.specs.declared.asks.Ask.{Ask}
 use Rattle.pmem_words.specs.declared.asks.Ask.TheVariants.{Load, Store}
 use Rattle.pmem_words.specs.declared.asks.Place.TheVariants.{Image}
 use Rattle.pmem_words.specs.declared.asks.Place.TheVariants.{Pin as PinWord}
+use Rattle.pmem_words.specs.declared.asks.Turn.{Turn}
 use Rattle.pmem_words.specs.declared.asks.Turn.TheVariants.{Go, Done}
 use Rattle.pins.specs.declared.TheConstants.{HEAD_WORD}
 use Rattle.pins.specs.declared.pin.Pin.{Pin}
@@ -28,9 +29,16 @@ pin_admits Publish s a = Unit {0}
 pin_admits Confirm s a = s.hold.pin ≤ generation_in a
 
 -- by whether the head found again is of the generation stored: it ends, or stores that of the head found
+abbrev pub confirm_machine : Bool → Pin
+confirm_machine true = Confirm
+confirm_machine false = Publish
+
+abbrev pub confirm_turn : Bool → ℕ → Turn Head
+confirm_turn true a = Done (head_of a)
+confirm_turn false a = Go
+
 abbrev pub confirm_after : Bool → Seat → ℕ → After Pin Head
-confirm_after true s a = record { machine = Confirm; seat = head_found s a; turn = Done (head_of a) }
-confirm_after false s a = record { machine = Publish; seat = head_found s a; turn = Go }
+confirm_after same s a = record { machine = confirm_machine same; seat = head_found s a; turn = confirm_turn same a }
 
 abbrev pub pin_after : Pin → Seat → ℕ → After Pin Head
 pin_after Begin s a = record { machine = Publish; seat = head_found s a; turn = Go }
