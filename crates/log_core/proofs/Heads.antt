@@ -21,33 +21,6 @@ use Rattle.log_core.specs.Invariant.{Invariant, KeptIn}
 pub last_value : (c : Cell) → value_at c (length c.past) ≡ c.present
 last_value c = get_or_push c.past c.present 0 (length c.past) refl
 
--- the first log block from one on is among them
-log_among : (logs : List LogBlock) (cut : ℕ) → cut < length logs → has (log_blocks (drop cut logs)) (nth_log logs cut).block ≡ true
-log_among [] cut inside = absurd (omega (arith, inside))
-log_among (log ∷ logs) zero inside = rw (eq-eqb log.block log.block refl) refl
-log_among (log ∷ logs) (suc cut) inside = log_among logs cut (omega (arith, inside))
-
-either_right : (a b : Bool) → b ≡ true → (a || b) ≡ true
-either_right true b e = refl
-either_right false b e = e
-
--- what is in a list is in it after another
-pub has_right : (front back : List ℕ) (block : ℕ) → has back block ≡ true → has (front ++ back) block ≡ true
-has_right [] back block in_back = in_back
-has_right (x ∷ front) back block in_back = either_right (x == block) (has (front ++ back) block) (has_right front back block in_back)
-
--- the first of the snapshot blocks, or of the log blocks, is among the blocks of the chain
-front_among : (snapshots : List ℕ) (logs : List LogBlock) (cut : ℕ) → cut < length logs → has (snapshots ++ log_blocks (drop cut logs)) (first_or snapshots (nth_log logs cut).block) ≡ true
-front_among [] logs cut inside = log_among logs cut inside
-front_among (block ∷ snapshots) logs cut inside = rw (eq-eqb block block refl) refl
-
-both : (a b : Bool) → (a && b) ≡ true → b ≡ true
-both true b e = e
-both false b e = cc
-
-in_image : (image : Shape) (block : ℕ) → is_in_log image block ≡ true → block < total image
-in_image image block inside = ltb-true block (total image) (both (nat_lt image.data_blocks block) (nat_lt block (total image)) inside)
-
 generation_field : (generation block : ℕ) → generation < 2 ^ 32 → block < 2 ^ 16 → field HEAD_GENERATION (head_word (record { generation = generation; block = block })) ≡ generation
 generation_field generation block few small = omega (arith, few, small)
 
@@ -66,12 +39,7 @@ module _ (o : Origin) (c : Core) (inv : Invariant o c) where
   current_kept = record { inside = (let e = last_place in omega (arith, e)); why = inl inv.order.heads.floor }
 
   front_small : front_of c.logs (nth_generation c.generations (length head.past)) < 2 ^ 16
-  front_small =
-      (let inside = inv.order.generations_rise.cut_inside (length head.past) current_kept.inside in
-      let among = front_among (nth_generation c.generations (length head.past)).snapshots c.logs (nth_generation c.generations (length head.past)).cut inside in
-      let low = in_image (shape o) (front_of c.logs (nth_generation c.generations (length head.past))) ((inv.owners.once (length head.past) current_kept).chain_area _ among) in
-      let few = o.geometry.few_blocks in
-      omega (arith, low, few))
+  front_small = inv.order.heads.small (length head.past) current_kept.inside
 
   -- the head word has the present generation
   pub head_generation : field HEAD_GENERATION head.present ≡ current o c.generations
@@ -94,3 +62,16 @@ module _ (o : Origin) (c : Core) (inv : Invariant o c) where
   -- each head that a crash may leave is of the present generation at most
   pub floor_low : first_generation o + head_floor c.memory ≤ current o c.generations
   floor_low = (let floor = inv.order.heads.floor in let is = current_is in omega (arith, floor, is))
+
+  -- a word that the head was is not 0, and of the present generation at most
+  pub was_low : (word : ℕ) → WasHead head word → field HEAD_GENERATION word ≤ current o c.generations
+  was_low word was =
+      (let inside : was.place < length c.generations = (let e = last_place in let low = was.inside in omega (arith, e, low)) in
+      let e = sym was.same ∙ inv.order.heads.each was.place inside in
+      let few = inv.order.heads.few in
+      let is = current_is in
+      let low = was.inside in
+      let count = last_place in
+      let generation : field HEAD_GENERATION word ≡ first_generation o + was.place =
+          ap (field HEAD_GENERATION) e ∙ generation_field (first_generation o + was.place) (front_of c.logs (nth_generation c.generations was.place)) (omega (arith, few, low, count)) (inv.order.heads.small was.place inside) in
+      omega (arith, generation, is, low))

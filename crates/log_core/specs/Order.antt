@@ -19,13 +19,15 @@ nth_generation generations place = slice_index_or generations place no_generatio
 abbrev pub front_of : List LogBlock → Generation → ℕ
 front_of logs g = first_or g.snapshots (nth_log logs g.cut).block
 
--- the head's values are the heads of the generations, in order, and the first three words of the header stay
+-- the head's values are the heads of the generations, in order, each of a block that a head can name; and the first three words of
+-- the header stay
 pub record HeadsInOrder (o : Origin) (cells : ℕ → Cell) (generations : List Generation) (logs : List LogBlock) : Type 0 where
   pub header : (word : ℕ) → word < 3 → IsCertain (cells word) (slice_index o.words word)
   pub some : 0 < first_generation o
   pub few : first_generation o + length generations ≤ 2 ^ 32
   pub count : length generations ≡ length (cells head_place).past + 1
   pub floor : (cells head_place).floor ≤ length (cells head_place).past
+  pub small : (place : ℕ) → place < length generations → front_of logs (nth_generation generations place) < 2 ^ 16
   pub each : (place : ℕ) → place < length generations →
       value_at (cells head_place) place ≡ head_word (record { generation = first_generation o + place; block = front_of logs (nth_generation generations place) })
 

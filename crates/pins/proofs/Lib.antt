@@ -6,3 +6,4 @@ pub mod ScanAnswers
 pub mod ScanLemmas
 pub mod ScanOverPlain
 pub mod UnpinOverPlain
+pub mod PinWithin

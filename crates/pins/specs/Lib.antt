@@ -3,3 +3,4 @@ pub mod Pinning
 pub mod Scanning
 pub mod Steps
 pub mod Unpinning
+pub mod Within
