@@ -56,6 +56,7 @@ module _ (o : Origin) (c : Core) (n : ℕ) (s : Seat) (g : Ghost) (pins began : 
   sizes : Sizes o new.memory views began
   sizes = record {
     seats = inv.sizes.seats;
+    image = inv.sizes.image;
     words = record {
       words = inv.sizes.words.words;
       taken = inv.sizes.words.taken;

@@ -8,7 +8,7 @@ use Rattle.persistence.specs.Memory.{Cell}
 use Rattle.persistence.specs.Survivors.{value_at}
 use Rattle.log_core.specs.Entries.{LogEntry, no_entry, place_in, head_place}
 use Rattle.log_core.specs.Origin.{Origin, shape, first_base, first_generation, LogBlock, Generation, no_generation}
-use Rattle.log_core.specs.Cores.{nth_log, entry_count, is_full}
+use Rattle.log_core.specs.Cores.{nth_log, entry_count, is_sealed, is_full}
 use Rattle.log_core.specs.Snapshots.{first_or}
 use Rattle.log_core.specs.Certain.{IsCertain, IsGrowing}
 
@@ -55,12 +55,14 @@ pub record LogInOrder (o : Origin) (es : List LogEntry) (end : ℕ) (logs : List
   pub entries : (number k : ℕ) → k < length (nth_log logs number).slots → slice_index (nth_log logs number).slots k ≢ SEAL →
       slice_index (nth_log logs number).slots k ≡ (slice_index_or es ((nth_log logs number).base + k - first_base o) no_entry).word
 
--- a log block in the image, with the block that follows it, 0 for none
+-- a log block in the image, with the block that follows it, 0 for none. Of the slots behind a seal the first one alone is said to be
+-- empty: nobody comes to the others, and the image that a run starts from may have anything there
 pub record LogStands (image : Shape) (cells : ℕ → Cell) (log : LogBlock) (following : ℕ) : Type 0 where
   pub base : IsCertain (cells (place_in image log.block 1)) (block_word (record { kind = Log; base = log.base }))
   pub zero : IsCertain (cells (place_in image log.block 2)) 0
   pub link : IsGrowing (cells (place_in image log.block 0)) following
-  pub slots : (k : ℕ) → k + 3 < words_in image → IsGrowing (cells (place_in image log.block (k + 3))) (slice_index log.slots k)
+  pub slots : (k : ℕ) → k + 3 < words_in image → (is_sealed log.slots ≡ true → k ≤ length log.slots) →
+      IsGrowing (cells (place_in image log.block (k + 3))) (slice_index log.slots k)
 
 -- the log blocks from one on
 abbrev pub LogsStand : Shape → (ℕ → Cell) → List LogBlock → ℕ → Type 0

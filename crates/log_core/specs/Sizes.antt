@@ -1,17 +1,24 @@
 -- The parts of a core fit one another: their lengths, and what each view has of the start.
-use Rattle.std.specs.Prelude.{ℕ, ◌+◌, ◌<◌, ◌≤◌, ◌≡◌, ◌≢◌, ◌⊎◌, List, [], length}
+use Rattle.std.specs.Prelude.{ℕ, ◌*◌, ◌<◌, ◌≤◌, ◌≡◌, ◌≢◌, ◌⊎◌, List, [], length}
 use Rattle.std.specs.List.{AllByRecursion}
+use Rattle.log_image.specs.Image.{words_in, total}
 use Rattle.seat_state.specs.Seats.{Seat, bitmap_words, q_of as words_in_block, owned_room, kept_room}
 use Rattle.seat_state.specs.declared.TheConstants.{SEATS}
 use Rattle.persistence.specs.Memory.{Memory, Noted}
 use Rattle.log_core.specs.Views.{View, view_of}
-use Rattle.log_core.specs.Origin.{Origin, first_position}
+use Rattle.log_core.specs.Origin.{Origin, shape, first_position}
 
 -- as many seats as there may be, of which one or all were made at first
 pub record HasSeats (o : Origin) : Type 0 where
   pub some : 0 < o.seats
   pub few : o.seats ≤ SEATS
   pub made : (o.made ≡ 1) ⊎ (o.made ≡ o.seats)
+
+-- the words are those of an image of the shape, and the bitmap has a bit for each block of it
+pub record HasImage (o : Origin) : Type 0 where
+  pub whole : length o.words ≡ total (shape o) * words_in (shape o)
+  pub bitmap : total (shape o) ≤ 64 * length o.taken
+  pub wide : 8 ≤ words_in (shape o)
 
 -- the memory has the words of the image, of its bitmap and of the pins; floors and marks are within the values that were replaced
 pub record MemoryFits (o : Origin) (memory : Memory) (views : ℕ) : Type 0 where
@@ -34,6 +41,7 @@ pub record SeatFits (o : Origin) (place : ℕ) (v : View) : Type 0 where
 -- there is a view for each seat made, and the end at a call's first step for each
 pub record Sizes (o : Origin) (memory : Memory) (views : List View) (began : List ℕ) : Type 0 where
   pub seats : HasSeats o
+  pub image : HasImage o
   pub words : MemoryFits o memory (length views)
   pub some : 0 < length views
   pub few : length views ≤ o.seats
