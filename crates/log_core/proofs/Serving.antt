@@ -94,10 +94,10 @@ module _ (o : Origin) (start : Invariant o (first_core o)) (seat number : ℕ) w
               number = linked.number_is;
               may = laws.may c (slice_index c.memory.now.pins seat) (slice_index (began_if (is_begun (op_in (view_of c.views seat).seat) (op_in s)) c.began seat (end_of o c.history)) seat) inv
                   (knows_here c s inv here linked.begins linked.offered linked.number_is);
-              enters = laws.enters f admits;
+              enters = (laws.enters f admits).enters;
             };
           };
-          offered = record { kind = laws.offered; before = linked.offered; later = laws.works_offered f admits; no_record = laws.none_added f admits };
+          offered = record { kind = laws.offered; before = linked.offered; later = (laws.enters f admits).offered; no_record = laws.none_added f admits };
         })
 
     linked_to : (m : M) (s : Seat) (v : View) (c : Core) → view_of c.views seat ≡ v → IsLinked number rest (P m) s v → IsLinked number rest (P m) s (view_of c.views seat)

@@ -60,6 +60,11 @@ within o seat number script rec = record {
   step = λ m s v f w. Did o seat v (script.asks m s) (note_of script rec number m s) f w;
 }
 
+-- what enters after a step, by computations that are offered
+pub record EntersOffered (g : Ghost) (e t : Seat) (adds : List Call) : Type 0 where
+  pub enters : Enters g e t adds
+  pub offered : list_all is_offered_work enters.computed.works ≡ true
+
 -- what a machine owes at one machine, seat and ghost part, whoever drives it: its ask may be made, in each core that knows the seat
 -- so; it admits what may be found there; what it makes of the seat is what the step does, and what a call may compute after it;
 -- and it goes on to what holds on the way, or ends in what holds at the end
@@ -69,9 +74,8 @@ pub record Lawful {M Out : Type 0} (o : Origin) (seat : ℕ) (script : Script M 
   pub offered : is_offered (kind_of (q_of o) seat (script.asks m s)) ≡ true
   pub admitted : (c : Core) (pin began : ℕ) → Invariant o c → Knows o c seat s g pin began → script.admits m s (found_answer c.memory (script.asks m s))
   pub enters : (f : ℕ) → script.admits m s f →
-      Enters (ghost_after g s (effect g.marks s (kind_of (q_of o) seat (script.asks m s)) f) (kind_of (q_of o) seat (script.asks m s)) f)
+      EntersOffered (ghost_after g s (effect g.marks s (kind_of (q_of o) seat (script.asks m s)) f) (kind_of (q_of o) seat (script.asks m s)) f)
       (effect g.marks s (kind_of (q_of o) seat (script.asks m s)) f) (script.after m s f).seat (adds_at rec (script.after m s f).seat (script.after m s f).turn)
-  pub works_offered : (f : ℕ) (admitted : script.admits m s f) → list_all is_offered_work (enters f admitted).computed.works ≡ true
   pub none_added : (f : ℕ) → script.admits m s f → adds_at rec (script.after m s f).seat (script.after m s f).turn ≡ []
   pub goes : (f : ℕ) → script.admits m s f → (script.after m s f).turn ≡ Go →
       P (script.after m s f).machine (script.after m s f).seat (ghost_after g s (effect g.marks s (kind_of (q_of o) seat (script.asks m s)) f) (kind_of (q_of o) seat (script.asks m s)) f)

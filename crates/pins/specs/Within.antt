@@ -25,11 +25,11 @@ pub record MayPin (seat : ℕ) (s : Seat) (g : Ghost) : Type 0 where
   pub number : s.number ≡ seat
   pub no_marks : s.calling.job ≡ Sync → g.marks ≡ []
 
--- where taking a pin stands: after the first load there is a head, and after the store its generation is in the pin word
+-- where taking a pin stands: after the store the pin word has the generation of the head found
 abbrev pub PinStands : ℕ → Pin → Seat → Ghost → Type 0
 PinStands seat Begin s g = MayPin seat s g
-PinStands seat Publish s g = MayPin seat s g × (s.hold.head ≢ 0)
-PinStands seat Confirm s g = MayPin seat s g × (s.hold.head ≢ 0) × (s.hold.pin ≡ generation_in s.hold.head)
+PinStands seat Publish s g = MayPin seat s g
+PinStands seat Confirm s g = MayPin seat s g × (s.hold.pin ≡ generation_in s.hold.head)
 
 -- the pin is valid, and names the generation of the head found last, which is the outcome
 pub record IsPinned (seat : ℕ) (out : Head) (s : Seat) (g : Ghost) : Type 0 where
