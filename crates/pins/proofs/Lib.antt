@@ -7,3 +7,4 @@ pub mod ScanLemmas
 pub mod ScanOverPlain
 pub mod UnpinOverPlain
 pub mod PinWithin
+pub mod ScanWithin

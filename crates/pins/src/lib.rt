@@ -3,6 +3,7 @@
 
 pub mod alone;
 pub mod driven;
+pub mod laws;
 pub mod pin;
 pub mod scan;
 pub mod steps;
