@@ -1,2 +1,4 @@
+pub mod Cells
+pub mod Choices
 pub mod Memory
 pub mod Survivors

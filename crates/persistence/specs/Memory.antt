@@ -1,8 +1,8 @@
 -- The persistence model. A memory has the present words and, of each image word, the values that it held before, in their order.
 -- Each image word has a floor among its values: a crash leaves one of those from the floor on. A mark by a seat notes which value
 -- is the present one; the seat's fence raises the floors to what the seat has noted. Pin words and bitmap words outlast no crash.
-use Rattle.std.specs.Prelude.{ℕ, zero, suc, ◌+◌, ◌==◌, max, Bool, true, false, not, if◌then◌else◌, List, [], ◌∷◌, ◌++◌, length, map, filter, take, slice_index, slice_set}
-use Rattle.pmem_words.specs.Asks.{place, becomes, answer}
+use Rattle.std.specs.Prelude.{ℕ, ◌==◌, max, Bool, true, false, not, if◌then◌else◌, List, [], ◌∷◌, ◌++◌, length, map, filter, take, slice_index, slice_set}
+use Rattle.pmem_words.specs.Asks.{place, answer}
 use Rattle.pmem_words.specs.PlainWords.{PlainWords, found_by, plain_after}
 use Rattle.pmem_words.specs.declared.asks.Place.{Place}
 use Rattle.pmem_words.specs.declared.asks.Place.TheVariants.{Image, Pin, Map, FenceOf}

@@ -1,2 +1,8 @@
 //! Decides which values a crash may leave in the words of an image.
 #![tactic(auto)]
+
+pub mod cells;
+pub mod survivors;
+
+pub use cells::Cells;
+pub use survivors::Choice;
