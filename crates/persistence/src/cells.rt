@@ -1,6 +1,6 @@
 //! The words of an image with what they held before, and the pin and bitmap words beside them.
 
-ghost use Rattle.std.specs.Prelude.{◌≡◌, ◌<◌, ◌∷◌, ◌++◌, [], ◌-◌, max, length, true, IfOk, IsErr, ◌≤◌, ◌==◌, not, filter, vec_len, vec_capacity};
+ghost use Rattle.std.specs.Prelude.{◌≡◌, ◌<◌, ◌∷◌, ◌++◌, [], ◌-◌, max, length, true, All, IfOk, IsErr, ◌≤◌, ◌==◌, not, filter, vec_len, vec_capacity};
 ghost use Rattle.persistence.specs.Memory.{raised};
 
 use pmem_words::{Ask, Place};
@@ -57,7 +57,7 @@ pub struct Cells {
 }
 
 impl Model for Cells {
-    ghost use Rattle.std.specs.Prelude.{◌+◌, ◌≤◌, ◌≡◌, vec_len, vec_capacity};
+    ghost use Rattle.std.specs.Prelude.{◌+◌, ◌<◌, ◌≤◌, ◌≡◌, All, vec_len, vec_capacity};
     ghost use Rattle.persistence.specs.Cells.{CellsNow};
 
     ghost Value = { CellsNow };
@@ -75,11 +75,14 @@ impl Model for Cells {
     ghost invariant = { λ c.
         (vec_len c.past + c.room ≤ vec_capacity c.past)
         × (vec_len c.notes + c.room ≤ vec_capacity c.notes)
-        × (vec_len c.floors ≡ vec_len c.words) };
+        × (vec_len c.floors ≡ vec_len c.words)
+        × All (λ r. r.word < vec_len c.words) c.past.items
+        × All (λ n. n.word < vec_len c.words) c.notes.items };
 }
 
 impl Cells {
     ghost use Rattle.pmem_words.specs.PlainWords.{word_at, with_word};
+    ghost use Rattle.pmem_words.specs.declared.asks.Place.TheVariants.{Image};
     ghost use Rattle.pmem_words.specs.declared.asks.Ask.TheVariants.{Fence};
     ghost use Rattle.persistence.specs.Memory.{Noted, found_answer, memory_after, replaced_at, notes_after};
     ghost use Rattle.persistence.specs.Cells.{CellsNow, HasPlace, CanLoad, TakesAsk, fresh_memory, cells_after};
@@ -164,7 +167,8 @@ impl Cells {
     /// Notes the present value of an image word for the seat's next fence.
     #[inline(always)]
     fn note(&mut self, seat: u8, word: u32)
-        requires { 0 < self.old.room }
+        requires room { 0 < self.old.room }
+        requires word { HasPlace self.old.memory (Image word) }
         ensures { self.new ≡ record {
           memory = record self.old.memory {
             notes = self.old.memory.notes ++ record { seat = seat; word = word; time = length self.old.memory.past } ∷ [];
@@ -243,11 +247,12 @@ impl Cells {
 
 /// Raises each floor to the time of the seat's marks of its word.
 fn raise(floors: &mut [u64], notes: &[Noted], seat: u8)
+    requires { All (λ note. note.word < length floors.old) notes.now }
     ensures floors { floors.new ≡ raised seat notes.now floors.old }
     ensures len { length floors.new ≡ length floors.old }
 {
     for note in notes {
-        if note.seat == seat && (note.word as usize) < floors.len() {
+        if note.seat == seat {
             let floor = &mut floors[note.word as usize];
             *floor = (*floor).max(note.time);
         }
