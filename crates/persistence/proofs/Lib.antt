@@ -1,2 +1,4 @@
+pub mod CellLaws
 pub mod ChoiceLemmas
+pub mod FenceLaws
 pub mod ValueLemmas

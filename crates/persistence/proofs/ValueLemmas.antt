@@ -1,8 +1,9 @@
 -- The values of a word among the first ones replaced.
-use Rattle.std.proofs.Common.{◌≡◌, ◌≢◌, ℕ, ◌+◌, ◌<◌, ◌≤◌, ◌==◌, Bool, true, false, if◌then◌else◌, min, List, [], ◌∷◌, ◌++◌, length, take, drop, map, not, cond, inl, inr, All, subst, filter, get_or, slice_index, slice_set, refl, sym, ap, ◌∙◌, append-nil, length-append, arith}
+use Rattle.std.proofs.Common.{◌≡◌, ◌≢◌, ℕ, ◌+◌, ◌<◌, ◌≤◌, ◌==◌, Bool, true, false, if◌then◌else◌, min, List, [], ◌∷◌, ◌++◌, length, take, drop, map, not, cond, inl, inr, All, subst, filter, get_or, slice_index, slice_set, refl, sym, ap, ◌∙◌, append-nil, length-append, eq-eqb, arith}
+use Rattle.std.proofs.lemmas.Bool.{ne_eqb}
 use Rattle.std.proofs.lemmas.Bool.Decides.{eqb_tells, leb_tells}
 use Rattle.std.proofs.Math.Seq.{get_or-append_seam}
-use Rattle.std.proofs.lemmas.List.{length-map, length-take, map-append, take_all, take-append-drop, get_or-set_same, get_or-set_other, get_or_append_left, get_or_past}
+use Rattle.std.proofs.lemmas.List.{length-map, length-take, map-append, take_all, take-append-drop, take-take, take-append-le, get_or-set_same, get_or-set_other, get_or_append_left, get_or_past}
 use Rattle.std.proofs.lemmas.List.Filters.{length-filter_both}
 use Rattle.std.proofs.lemmas.List.Elements.{filter-append, filter_more}
 use Rattle.persistence.specs.Memory.{Replaced, values_of, index_at}
@@ -168,3 +169,29 @@ index_at-cut past floor word =
           let same : min (length past) floor ≡ length past = omega (arith, h.1) in
           rw (same, take_all (length past) past (omega arith), take_all floor past (omega (arith, h.1))) refl
     ]
+
+-- a later time has as many values or more
+pub index_at-later : (past : List Replaced) (early late word : ℕ) → early ≤ late → index_at past early word ≤ index_at past late word
+index_at-later past early late word order =
+    let cut : take early (take late past) ≡ take early past = take-take early late past order in
+    rw cut at (index_at-most (take late past) early word)
+
+-- what is replaced later does not change the numbers of a time before
+pub index_at-grown : (past more : List Replaced) (time word : ℕ) → time ≤ length past → index_at (past ++ more) time word ≡ index_at past time word
+index_at-grown past more time word before = ap (λ (rs : List Replaced). length (values_of rs word)) (take-append-le time past more before)
+
+-- the present value has the number of the values before it
+pub index_at-now : (past : List Replaced) (word : ℕ) → index_at past (length past) word ≡ length (values_of past word)
+index_at-now past word = ap (λ (rs : List Replaced). length (values_of rs word)) (take_all (length past) past (omega arith))
+
+-- one more behind the others: of this word, and of another
+pub values_of-push_same : (past : List Replaced) (e : Replaced) → values_of (past ++ e ∷ []) e.word ≡ values_of past e.word ++ e.value ∷ []
+values_of-push_same past e =
+    values_of-append past (e ∷ []) e.word
+    ∙ ap (λ (xs : List ℕ). values_of past e.word ++ xs) (value_kept (e.word == e.word) e ∙ ap (λ (b : Bool). if b then e.value ∷ [] else []) (eq-eqb e.word e.word refl))
+
+pub values_of-push_other : (past : List Replaced) (e : Replaced) (word : ℕ) → word ≢ e.word → values_of (past ++ e ∷ []) word ≡ values_of past word
+values_of-push_other past e word other =
+    values_of-append past (e ∷ []) word
+    ∙ ap (λ (xs : List ℕ). values_of past word ++ xs) (value_kept (e.word == word) e ∙ ap (λ (b : Bool). if b then e.value ∷ [] else []) (ne_eqb e.word word (λ same. other (sym same))))
+    ∙ append-nil (values_of past word)

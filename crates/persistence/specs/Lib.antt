@@ -1,4 +1,5 @@
 pub mod Cells
 pub mod Choices
 pub mod Memory
+pub mod Steps
 pub mod Survivors
