@@ -1,6 +1,6 @@
 -- What a fence does to the floors, and what every memory of a run keeps.
-use Rattle.std.proofs.Common.{◌≡◌, ◌≢◌, ℕ, zero, suc, ◌<◌, ◌≤◌, ◌==◌, ◌⊎◌, max, not, Bool, true, false, if◌then◌else◌, Contains, List, [], ◌∷◌, length, length-append, get_or, slice_index, slice_set, inl, inr, refl, sym, ap, ◌∙◌, eq-eqb, arith}
-use Rattle.std.proofs.lemmas.Bool.{eqb-true}
+use Rattle.std.proofs.Common.{◌≡◌, ◌≢◌, ℕ, zero, suc, ◌<◌, ◌≤◌, ◌==◌, ◌⊎◌, max, not, Bool, true, false, if◌then◌else◌, Contains, List, [], ◌∷◌, length, length-append, filter, get_or, slice_index, slice_set, inl, inr, refl, sym, ap, ◌∙◌, eq-eqb, arith}
+use Rattle.std.proofs.lemmas.Bool.{eqb-true, ne_eqb}
 use Rattle.std.proofs.lemmas.Bool.Decides.{eqb_tells, leb_tells}
 use Rattle.std.proofs.lemmas.List.{length-set, get_or-set_same, get_or-set_other, set_past}
 use Rattle.std.proofs.lemmas.List.Elements.{All-push, All-weaker, All-filter}
@@ -10,7 +10,7 @@ use Rattle.pmem_words.specs.declared.asks.Place.{Place}
 use Rattle.pmem_words.specs.declared.asks.Place.TheVariants.{Image, Pin, Map, FenceOf}
 use Rattle.pmem_words.specs.declared.asks.Ask.TheVariants.{Load, Store, Exchange, SetBits, ClearBits, Mark, Fence}
 use Rattle.persistence.specs.Memory.{Memory, Noted, Replaced, index_at, raised, replaced_at, memory_after}
-use Rattle.persistence.specs.Steps.{IsOrderly, StepsKeepOrder, FencesRaiseFloors}
+use Rattle.persistence.specs.Steps.{IsOrderly, StepsKeepOrder, FencesRaiseFloors, FencesForgetOwnMarks}
 use Rattle.persistence.proofs.ValueLemmas.{index_at-later}
 
 -- the floors after one mark
@@ -169,3 +169,31 @@ steps_keep_order memory seat (SetBits p bits) order = order_at memory p (becomes
 steps_keep_order memory seat (ClearBits p bits) order = order_at memory p (becomes (ClearBits p bits) (word_at memory.now p)) true order
 steps_keep_order memory seat (Mark marked) order = order_marked memory seat marked order
 steps_keep_order memory seat Fence order = order_fenced memory seat order
+
+-- the marks that a fence leaves
+forget_own : (seat : ℕ) (notes : List Noted) → filter (λ (note : Noted). note.seat == seat) (filter (λ (note : Noted). not (note.seat == seat)) notes) ≡ []
+forget_own seat [] = refl
+forget_own seat (note ∷ notes) =
+    elim (eqb_tells note.seat seat) [
+      | inl h ↦ rw h.0 (forget_own seat notes)
+      | inr h ↦ rw (h.0, h.0) (forget_own seat notes)
+    ]
+
+forget_none : (seat other : ℕ) (notes : List Noted) → other ≢ seat
+    → filter (λ (note : Noted). note.seat == other) (filter (λ (note : Noted). not (note.seat == seat)) notes) ≡ filter (λ (note : Noted). note.seat == other) notes
+forget_none seat other [] different = refl
+forget_none seat other (note ∷ notes) different =
+    elim (eqb_tells note.seat seat) [
+      | inl h ↦ rw (h.0, ne_eqb note.seat other (λ same. different (sym same ∙ h.1))) (forget_none seat other notes different)
+      | inr h ↦
+          elim (eqb_tells note.seat other) [
+            | inl own ↦ rw (h.0, own.0) (ap (λ (l : List Noted). note ∷ l) (forget_none seat other notes different))
+            | inr away ↦ rw (h.0, away.0) (forget_none seat other notes different)
+          ]
+    ]
+
+pub fences_forget_own_marks : FencesForgetOwnMarks
+fences_forget_own_marks memory seat = (
+  forget_own seat memory.notes,
+  λ other different. forget_none seat other memory.notes different,
+)

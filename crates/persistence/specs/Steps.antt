@@ -4,7 +4,7 @@ use Rattle.pmem_words.specs.Asks.{place, becomes}
 use Rattle.pmem_words.specs.declared.asks.Place.TheVariants.{Image}
 use Rattle.pmem_words.specs.declared.asks.Ask.{Ask}
 use Rattle.pmem_words.specs.declared.asks.Ask.TheVariants.{Load, Store, Exchange, SetBits, ClearBits, Mark, Fence}
-use Rattle.persistence.specs.Memory.{Memory, Noted, Cell, cell, index_at, stores, found, memory_after}
+use Rattle.persistence.specs.Memory.{Memory, Noted, Cell, cell, index_at, notes_of, stores, found, memory_after}
 use Rattle.persistence.specs.Cells.{fresh_memory}
 
 -- each image word has a floor, and no floor and no mark names a time that is still to come
@@ -55,3 +55,9 @@ FencesRaiseFloors = (memory : Memory) (seat word : ℕ) → IsOrderly memory →
     → ((cell (memory_after memory seat Fence) word).present ≡ (cell memory word).present)
     × ((cell (memory_after memory seat Fence) word).past ≡ (cell memory word).past)
     × IsRaised memory seat word (cell (memory_after memory seat Fence) word).floor
+
+-- a fence forgets the marks of its seat, and those alone
+abbrev pub FencesForgetOwnMarks : Type 0
+FencesForgetOwnMarks = (memory : Memory) (seat : ℕ)
+    → (notes_of seat (memory_after memory seat Fence).notes ≡ [])
+    × ((other : ℕ) → other ≢ seat → notes_of other (memory_after memory seat Fence).notes ≡ notes_of other memory.notes)

@@ -4,6 +4,8 @@
 pub mod cells;
 pub mod laws;
 pub mod survivors;
+#[cfg(test)]
+mod tests;
 
 pub use cells::Cells;
 pub use survivors::Choice;
