@@ -125,7 +125,7 @@ past_grows true (Pin i) value past = omega arith
 past_grows true (Map v) value past = omega arith
 past_grows true (FenceOf i) value past = omega arith
 
-words_stay : (now : PlainWords) (at : Place) (value : ℕ) → length (with_word now at value).words ≡ length now.words
+pub words_stay : (now : PlainWords) (at : Place) (value : ℕ) → length (with_word now at value).words ≡ length now.words
 words_stay now (Image v) value = length-set now.words v value
 words_stay now (Pin i) value = refl
 words_stay now (Map v) value = refl

@@ -5,7 +5,7 @@ use Rattle.pmem_words.specs.declared.asks.Ask.{Ask}
 use Rattle.pmem_words.specs.declared.asks.Ask.TheVariants.{Store, Exchange, Mark, Fence}
 use Rattle.persistence.specs.Memory.{Memory, cell, found_answer, memory_after}
 use Rattle.persistence.specs.Cells.{fresh_memory}
-use Rattle.persistence.specs.Survivors.{Survives}
+use Rattle.persistence.specs.Survivors.{Survives, value_at}
 use Rattle.persistence.specs.Choices.{chosen}
 use Rattle.persistence.specs.declared.survivors.Choice.TheVariants.{Oldest, Newest, Drawn}
 
@@ -28,6 +28,10 @@ fenced = memory_after marked 0 Fence
 
 abbrev pub MarkThenFence : Type 0
 MarkThenFence = cell fenced 0 ≡ record { present = 12; past = 10 ∷ 11 ∷ []; floor = 1 }
+
+-- the value at the floor of word 0 is then this one
+abbrev pub FloorIsAt : ℕ → Type 0
+FloorIsAt value = value_at (cell fenced 0) (cell fenced 0).floor ≡ value
 
 -- where seat 1 fences, nothing rises, and seat 0's fence after it does the same as before
 abbrev pub FenceOfAnotherSeat : Type 0
@@ -52,14 +56,15 @@ WonExchange = (found_answer three_words (Exchange (Image 1) 20 25) ≡ 20)
 abbrev pub mixed : Memory
 mixed = after_asks ((1, Store (Image 1) 21) ∷ (1, Mark 1) ∷ (1, Store (Image 1) 22) ∷ []) fenced
 
-abbrev pub LeftByCrash : Type 0
-LeftByCrash = (chosen Oldest mixed ≡ 11 ∷ 20 ∷ 30 ∷ [])
-    × (chosen Newest mixed ≡ 12 ∷ 22 ∷ 30 ∷ [])
-    × Survives mixed (11 ∷ 21 ∷ 30 ∷ [])
+abbrev pub OldestAndNewest : Type 0
+OldestAndNewest = (chosen Oldest mixed ≡ 11 ∷ 20 ∷ 30 ∷ []) × (chosen Newest mixed ≡ 12 ∷ 22 ∷ 30 ∷ [])
+
+abbrev pub MayBeLeft : ℕ → ℕ → Type 0
+MayBeLeft first second = Survives mixed (first ∷ second ∷ 30 ∷ [])
 
 -- the value before the floor, one that the word never held, and a word too few are never left
-abbrev pub NotLeftByCrash : Type 0
-NotLeftByCrash = (Survives mixed (10 ∷ 22 ∷ 30 ∷ []) → ⊥)
+abbrev pub NeverLeft : Type 0
+NeverLeft = (Survives mixed (10 ∷ 22 ∷ 30 ∷ []) → ⊥)
     × (Survives mixed (12 ∷ 22 ∷ 31 ∷ []) → ⊥)
     × (Survives mixed (12 ∷ 22 ∷ []) → ⊥)
 

@@ -4,18 +4,20 @@ ghost use Rattle.persistence.specs.Memory.{Memory};
 ghost use Rattle.persistence.specs.Survivors.{Survives};
 ghost use Rattle.persistence.specs.Choices.{chosen};
 ghost use Rattle.persistence.specs.Steps.{FreshIsOrderly, StepsKeepOrder, StoresGrowCells, OthersLeaveCells, FencesRaiseFloors, FencesForgetOwnMarks};
-ghost use Rattle.persistence.specs.Rows.{MarkThenFence, FenceOfAnotherSeat, LaterMark, LostExchange, WonExchange, LeftByCrash, NotLeftByCrash, DrawnOfSeed};
+ghost use Rattle.persistence.specs.Rows.{MarkThenFence, FenceOfAnotherSeat, LaterMark, LostExchange, WonExchange, FloorIsAt, OldestAndNewest, MayBeLeft, NeverLeft, DrawnOfSeed};
 ghost use Rattle.persistence.specs.declared.survivors.Choice.{Choice};
 
 /// Worked memories of three words: their cells, and what a crash may leave of them.
 pub fn law_rows()
     ensures mark_then_fence { MarkThenFence }
+    ensures floor { FloorIsAt 11 }
     ensures fence_of_another_seat { FenceOfAnotherSeat }
     ensures later_mark { LaterMark }
     ensures lost_exchange { LostExchange }
     ensures won_exchange { WonExchange }
-    ensures left_by_crash { LeftByCrash }
-    ensures not_left_by_crash { NotLeftByCrash }
+    ensures oldest_and_newest { OldestAndNewest }
+    ensures left { MayBeLeft 11 21 }
+    ensures never_left { NeverLeft }
     ensures drawn_of_seed { DrawnOfSeed }
 {}
 

@@ -17,11 +17,17 @@ returns-clause-lost_exchange c = (refl, refl)
 pub returns-clause-won_exchange : goal.returns-clause-won_exchange
 returns-clause-won_exchange c = (refl, refl)
 
-pub returns-clause-left_by_crash : goal.returns-clause-left_by_crash
-returns-clause-left_by_crash c = (refl, refl, left_at)
+pub returns-clause-floor : goal.returns-clause-floor
+returns-clause-floor c = refl
 
-pub returns-clause-not_left_by_crash : goal.returns-clause-not_left_by_crash
-returns-clause-not_left_by_crash c = (not_before, not_other, not_shorter)
+pub returns-clause-oldest_and_newest : goal.returns-clause-oldest_and_newest
+returns-clause-oldest_and_newest c = (refl, refl)
+
+pub returns-clause-left : goal.returns-clause-left
+returns-clause-left c = left_at
+
+pub returns-clause-never_left : goal.returns-clause-never_left
+returns-clause-never_left c = (not_before, not_other, not_shorter)
 
 pub returns-clause-drawn_of_seed : goal.returns-clause-drawn_of_seed
 returns-clause-drawn_of_seed c = (refl, refl)
