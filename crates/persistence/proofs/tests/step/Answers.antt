@@ -1,7 +1,5 @@
-use Rattle.std.proofs.Common.{ap, ◌∙◌}
 use Rattle.pmem_words.specs.Asks.{place, becomes}
 use Rattle.persistence.specs.Memory.{found}
-use Rattle.persistence.specs.Cells.{CellsNow}
 use Rattle.persistence.proofs.FenceLaws.{words_stay}
 use Rattle.persistence.proofs.tests.step.Goals as goal
 
