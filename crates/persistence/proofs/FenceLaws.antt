@@ -1,15 +1,15 @@
 -- What a fence does to the floors, and what every memory of a run keeps.
-use Rattle.std.proofs.Common.{◌≡◌, ◌≢◌, ℕ, zero, suc, ◌<◌, ◌≤◌, ◌==◌, ◌⊎◌, max, not, Bool, true, false, if◌then◌else◌, Contains, List, [], ◌∷◌, length, length-append, filter, get_or, slice_index, slice_set, inl, inr, refl, sym, ap, ◌∙◌, eq-eqb, arith}
+use Rattle.std.proofs.Common.{◌++◌, append-nil, cond, ◌≡◌, ◌≢◌, ℕ, zero, suc, ◌<◌, ◌≤◌, ◌==◌, ◌⊎◌, max, not, Bool, true, false, if◌then◌else◌, Contains, List, [], ◌∷◌, length, length-append, filter, get_or, slice_index, slice_set, inl, inr, refl, sym, ap, ◌∙◌, eq-eqb, arith}
 use Rattle.std.proofs.lemmas.Bool.{eqb-true, ne_eqb}
 use Rattle.std.proofs.lemmas.Bool.Decides.{eqb_tells, leb_tells}
 use Rattle.std.proofs.lemmas.List.{length-set, get_or-set_same, get_or-set_other, set_past}
-use Rattle.std.proofs.lemmas.List.Elements.{All-push, All-weaker, All-filter}
+use Rattle.std.proofs.lemmas.List.Elements.{All-push, All-weaker, All-filter, filter-append}
 use Rattle.pmem_words.specs.Asks.{becomes}
 use Rattle.pmem_words.specs.PlainWords.{PlainWords, word_at, with_word}
 use Rattle.pmem_words.specs.declared.asks.Place.{Place}
 use Rattle.pmem_words.specs.declared.asks.Place.TheVariants.{Image, Pin, Map, FenceOf}
 use Rattle.pmem_words.specs.declared.asks.Ask.TheVariants.{Load, Store, Exchange, SetBits, ClearBits, Mark, Fence}
-use Rattle.persistence.specs.Memory.{Memory, Noted, Replaced, index_at, raised, replaced_at, memory_after}
+use Rattle.persistence.specs.Memory.{Memory, Noted, Replaced, index_at, raised, replaced_at, memory_after, notes_of}
 use Rattle.persistence.specs.Steps.{IsOrderly, StepsKeepOrder, FencesRaiseFloors, FencesForgetOwnMarks}
 use Rattle.persistence.proofs.ValueLemmas.{index_at-later}
 
@@ -197,3 +197,15 @@ fences_forget_own_marks memory seat = (
   forget_own seat memory.notes,
   λ other different. forget_none seat other memory.notes different,
 )
+
+-- one mark more: of the seat, and of another
+pub notes_of-push_own : (notes : List Noted) (note : Noted) → notes_of note.seat (notes ++ note ∷ []) ≡ notes_of note.seat notes ++ note ∷ []
+notes_of-push_own notes note =
+    filter-append (λ (n : Noted). n.seat == note.seat) notes (note ∷ [])
+    ∙ ap (λ (b : Bool). notes_of note.seat notes ++ cond b (note ∷ []) []) (eq-eqb note.seat note.seat refl)
+
+pub notes_of-push_other : (seat : ℕ) (notes : List Noted) (note : Noted) → seat ≢ note.seat → notes_of seat (notes ++ note ∷ []) ≡ notes_of seat notes
+notes_of-push_other seat notes note other =
+    filter-append (λ (n : Noted). n.seat == seat) notes (note ∷ [])
+    ∙ ap (λ (b : Bool). notes_of seat notes ++ cond b (note ∷ []) []) (ne_eqb note.seat seat (λ same. other (sym same)))
+    ∙ append-nil (notes_of seat notes)
