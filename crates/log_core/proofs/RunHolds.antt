@@ -21,7 +21,7 @@ use Rattle.log_core.specs.Laws.{StepKeeps}
 use Rattle.log_core.proofs.StepHolds.{head_holds, pin_holds, seen_holds}
 
 -- an exchange is of no offered kind
-no_exchange : (q word before next : ℕ) → is_offered (exchange_kind q word before next) ≡ true → ⊥
+pub no_exchange : (q word before next : ℕ) → is_offered (exchange_kind q word before next) ≡ true → ⊥
 no_exchange q word before next = by (word == head_place) (not (before == 0)) (word % q == 0)
   where
     by : (head some link : Bool) → is_offered (if head then Rattle.log_core.specs.Steps.ExchangesHead before next else if some then NoKind else if link then Rattle.log_core.specs.Steps.ExchangesLink word next else Rattle.log_core.specs.Steps.ExchangesSlot word next) ≡ true → ⊥

@@ -1,0 +1,180 @@
+-- What a world stands for, after each of its calls.
+use Rattle.std.proofs.Common.{◌≡◌, ◌≢◌, ◌<◌, ◌≤◌, ◌+◌, ◌*◌, ◌^◌, ◌==◌, ◌&&◌, not, ℕ, zero, suc, Bool, true, false, if◌then◌else◌, List, [], ◌∷◌, ◌++◌, length, max, refl, sym, ◌∙◌, ap, subst, arith, length-append, slice_index, Option, Some, None}
+use Rattle.std.proofs.Math.Logic.{∥∥₁_elim, ∥∥₁_map}
+use Rattle.std.proofs.Math.Nat.{mul-le-mul_right}
+use Rattle.std.proofs.lemmas.Bool.{eqb-true}
+use Rattle.log_entry.specs.declared.layouts.TheConstants.{SEAL}
+use Rattle.log_image.specs.Image.{Shape, words_in, total}
+use Rattle.seat_state.specs.Seats.{Seat, q_of}
+use Rattle.seat_state.specs.declared.TheConstants.{SEATS}
+use Rattle.pmem_words.specs.Asks.{answer}
+use Rattle.pmem_words.specs.declared.asks.Place.TheVariants.{Image, Pin, Map, FenceOf}
+use Rattle.pmem_words.specs.declared.asks.Ask.{Ask}
+use Rattle.pmem_words.specs.declared.asks.Ask.TheVariants.{Load, Store, Exchange, SetBits, ClearBits, Mark, Fence}
+use Rattle.persistence.specs.Memory.{Memory, found, found_answer, memory_after}
+use Rattle.persistence.specs.Cells.{CellsNow, TakesAsk, cells_after}
+use Rattle.log_core.specs.Entries.{head_place}
+use Rattle.log_core.specs.Origin.{Origin, shape, first_position}
+use Rattle.log_core.specs.Origin.{q_of as words_in_block}
+use Rattle.log_core.specs.Files.{Write, end_of}
+use Rattle.log_core.specs.Cores.{Core}
+use Rattle.log_core.specs.Steps.{Note, Step, Does, Kind, LoadsHead, StoresOwnPin, LoadsPinWord, LoadsImageWord, LoadsBitmapWord, SetsBits, ClearsBits, StoresWord, ExchangesSlot, ExchangesLink, ExchangesHead, MarksWord, Fences, NoKind, kind_of, exchange_kind}
+use Rattle.log_core.specs.After.{after, history_after, history_if, write_of, synced_after}
+use Rattle.log_core.specs.May.{is_offered}
+use Rattle.log_core.specs.Runs.{Allowed, IsReached, MayStep, IsRun, end}
+use Rattle.log_core.specs.Invariant.{Invariant}
+use Rattle.log_core.specs.Views.{view_of}
+use Rattle.log_core.proofs.Serving.{reached_keeps}
+use Rattle.log_core.proofs.StartMeets.{start_meets}
+use Rattle.log_core.proofs.RunHolds.{no_exchange}
+use Rattle.crash_model.specs.Worlds.{WorldNow, Stands, StandsForSome, FitsCore, HasFitting, StandsAfter, seat_of, rises, rise_if, synced_by, kind_in, world_after}
+
+-- room is no part of what a world stands for
+with_room : (w : WorldNow) (room : ℕ) → ((o : Origin) × (c : Core) × Stands w o c) → (o : Origin) × (c : Core) × Stands (record w { cells = record (w.cells) { room = room } }) o c
+with_room w room s = (s.0, s.1, record { start = s.2.start; geometry = s.2.geometry; seats = s.2.seats; reached = s.2.reached; memory = s.2.memory; position = s.2.position; synced = s.2.synced })
+
+pub room_stands : (w : WorldNow) (cells : CellsNow) (room : ℕ) → cells ≡ record (w.cells) { room = room } → StandsForSome w → StandsForSome (record w { cells = cells })
+room_stands w cells room e some = subst (λ (x : CellsNow). StandsForSome (record w { cells = x })) (sym e) (∥∥₁_map some (with_room w room))
+
+-- the history grows as the position rises
+long_if : (won : Bool) (history : List Write) (w : Write) → length (history_if won history w) ≡ length history + rise_if won
+long_if true history w = length-append history (w ∷ [])
+long_if false history w = omega arith
+
+history_long : (history : List Write) (seat : ℕ) (note : Note) (kind : Kind) (f : ℕ) → length (history_after history seat note kind f) ≡ length history + rises kind f
+history_long history seat note (ExchangesSlot word entry) f = long_if ((f == 0) && not (entry == SEAL)) history (write_of seat note entry)
+history_long history seat note LoadsHead f = omega arith
+history_long history seat note (StoresOwnPin value) f = omega arith
+history_long history seat note (LoadsPinWord other) f = omega arith
+history_long history seat note (LoadsImageWord word) f = omega arith
+history_long history seat note (LoadsBitmapWord word) f = omega arith
+history_long history seat note (SetsBits word bits) f = omega arith
+history_long history seat note (ClearsBits word bits) f = omega arith
+history_long history seat note (StoresWord word value) f = omega arith
+history_long history seat note (ExchangesLink word block) f = omega arith
+history_long history seat note (ExchangesHead before next) f = omega arith
+history_long history seat note (MarksWord word) f = omega arith
+history_long history seat note Fences f = omega arith
+history_long history seat note NoKind f = omega arith
+
+-- and so does the synced position
+synced_same : (synced : ℕ) (note : Note) (kind : Kind) → synced_after synced note kind ≡ synced_by synced note.before kind
+synced_same synced note Fences = refl
+synced_same synced note LoadsHead = refl
+synced_same synced note (StoresOwnPin value) = refl
+synced_same synced note (LoadsPinWord other) = refl
+synced_same synced note (LoadsImageWord word) = refl
+synced_same synced note (LoadsBitmapWord word) = refl
+synced_same synced note (SetsBits word bits) = refl
+synced_same synced note (ClearsBits word bits) = refl
+synced_same synced note (StoresWord word value) = refl
+synced_same synced note (ExchangesSlot word entry) = refl
+synced_same synced note (ExchangesLink word block) = refl
+synced_same synced note (ExchangesHead before next) = refl
+synced_same synced note (MarksWord word) = refl
+synced_same synced note NoKind = refl
+
+module _ (w : WorldNow) (seat : ℕ) (ask : Ask) (o : Origin) (c : Core) (note : Note) (fits : FitsCore w seat ask o c note) where
+  kind_same : kind_of (words_in_block o) seat ask ≡ kind_in w seat ask
+  kind_same = ap (λ (g : Rattle.log_entry.specs.declared.shapes.Geometry.Geometry). kind_of (q_of g) seat ask) fits.stands.geometry
+
+  found_same : found c.memory ask ≡ found w.cells.memory ask
+  found_same = ap (λ (m : Memory). found m ask) fits.stands.memory
+
+  pub reached_after : IsReached o (after o c (Does seat ask note))
+  reached_after = (let r = fits.stands.reached in record {
+    steps = Does seat ask note ∷ r.steps;
+    is_run = (r.is_run, subst (λ (x : Core). Allowed o x (Does seat ask note)) (sym r.ends) fits.step);
+    ends = ap (λ (x : Core). after o x (Does seat ask note)) r.ends;
+  })
+
+  -- the world after the step stands for the core after it
+  pub stands_after : Stands (world_after w seat ask) o (after o c (Does seat ask note))
+  stands_after = record {
+    start = fits.stands.start;
+    geometry = fits.stands.geometry;
+    seats = fits.stands.seats;
+    reached = reached_after;
+    memory = ap (λ (m : Memory). memory_after m seat ask) fits.stands.memory;
+    position = position;
+    synced = synced_same c.synced note (kind_of (words_in_block o) seat ask)
+        ∙ (ap (λ (kind : Kind). synced_by c.synced note.before kind) kind_same
+        ∙ (ap (λ (s : Seat). synced_by c.synced s (kind_in w seat ask)) fits.before ∙ ap (λ (d : ℕ). synced_by d (seat_of w seat) (kind_in w seat ask)) fits.stands.synced));
+  }
+    where
+      position : first_position o + length (history_after c.history seat note (kind_of (words_in_block o) seat ask) (found c.memory ask)) ≡ w.position + rises (kind_in w seat ask) (found w.cells.memory ask)
+      position =
+          (let long = history_long c.history seat note (kind_of (words_in_block o) seat ask) (found c.memory ask) in
+          let same : rises (kind_of (words_in_block o) seat ask) (found c.memory ask) ≡ rises (kind_in w seat ask) (found w.cells.memory ask) =
+              ap (λ (kind : Kind). rises kind (found c.memory ask)) kind_same ∙ ap (rises (kind_in w seat ask)) found_same in
+          let before = fits.stands.position in
+          omega (arith, long, same, before))
+
+  -- the core's invariant
+  inv : Invariant o c
+  inv = reached_keeps o (start_meets o fits.stands.start) c fits.stands.reached
+
+  -- the position is below its limit
+  pub low : w.position < 2 ^ 40
+  low = (let limit = inv.order.log.limit in let is = fits.stands.position in omega (arith, limit, is))
+
+  wide_enough : (q blocks : ℕ) → 8 ≤ q → 1 ≤ blocks → 8 ≤ blocks * q
+  wide_enough q blocks wide some = (let times : 1 * q ≤ blocks * q = mul-le-mul_right q some in omega (arith, times, wide))
+
+  head_inside : head_place < length c.memory.now.words
+  head_inside =
+      (let image = inv.sizes.image in
+      let many = inv.sizes.words.words in
+      let long : 8 ≤ total (shape o) * words_in (shape o) = wide_enough (words_in (shape o)) (total (shape o)) image.wide (omega arith) in
+      let whole = image.whole in
+      omega (arith, long, whole, many))
+
+  pins_inside : (other : ℕ) → other < o.seats → other < length c.memory.now.pins
+  pins_inside other inside = (let many = inv.sizes.words.pins in omega (arith, inside, many))
+
+  -- each ask of an offered kind is on a word that the memory has
+  by_head : (word : ℕ) (b : Bool) → (word == head_place) ≡ b → is_offered (if b then LoadsHead else LoadsImageWord word) ≡ true → word < length c.memory.now.words
+  by_head word true e offered = subst (λ (k : ℕ). k < length c.memory.now.words) (sym (eqb-true word head_place e)) head_inside
+  by_head word false e offered = cc
+
+  by_own : (other value : ℕ) (b : Bool) → (other == seat) ≡ b → is_offered (if b then StoresOwnPin value else NoKind) ≡ true → other < length c.memory.now.pins
+  by_own other value true e offered = (let same = eqb-true other seat e in let made = fits.step.fits.made in let few = inv.sizes.few in pins_inside other (omega (arith, same, made, few)))
+  by_own other value false e offered = cc
+
+  takes_by : (ask : Ask) → is_offered (kind_of (words_in_block o) seat ask) ≡ true →
+      (fits : MayStep o c (view_of c.views seat) (kind_of (words_in_block o) seat ask) note (found_answer c.memory ask)) → TakesAsk c.memory ask
+  takes_by (Load (Image word)) offered may = by_head word (word == head_place) refl offered
+  takes_by (Load (Pin other)) offered may = pins_inside other may.may.inside
+  takes_by (Load (Map word)) offered may = cc
+  takes_by (Load (FenceOf other)) offered may = cc
+  takes_by (Store (Image word) value) offered may = cc
+  takes_by (Store (Pin other) value) offered may = by_own other value (other == seat) refl offered
+  takes_by (Store (Map word) value) offered may = cc
+  takes_by (Store (FenceOf other) value) offered may = cc
+  takes_by (Exchange (Image word) before next) offered may = absurd (no_exchange (words_in_block o) word before next offered)
+  takes_by (Exchange (Pin other) before next) offered may = cc
+  takes_by (Exchange (Map word) before next) offered may = cc
+  takes_by (Exchange (FenceOf other) before next) offered may = cc
+  takes_by (SetBits (Image word) bits) offered may = cc
+  takes_by (SetBits (Pin other) bits) offered may = cc
+  takes_by (SetBits (Map word) bits) offered may = cc
+  takes_by (SetBits (FenceOf other) bits) offered may = cc
+  takes_by (ClearBits (Image word) bits) offered may = cc
+  takes_by (ClearBits (Pin other) bits) offered may = cc
+  takes_by (ClearBits (Map word) bits) offered may = cc
+  takes_by (ClearBits (FenceOf other) bits) offered may = cc
+  takes_by (Mark word) offered may = cc
+  takes_by Fence offered may = tt
+
+  pub takes : TakesAsk w.cells.memory ask
+  takes = subst (λ (m : Memory). TakesAsk m ask) fits.stands.memory (takes_by ask fits.step.offered.kind fits.step.fits.step)
+
+  pub seat_made : seat < length w.seats
+  seat_made = (let made = fits.step.fits.made in let few = inv.sizes.few in let many = fits.stands.seats in omega (arith, made, few, many))
+
+  pub stands_some : StandsForSome (world_after w seat ask)
+  stands_some = ∣ (o, after o c (Does seat ask note), stands_after) ∣₁
+
+-- each fitting core state is answered so, and stood for afterwards
+pub stands_each : (w : WorldNow) (seat : ℕ) (ask : Ask) → StandsAfter w seat ask (found_answer w.cells.memory ask) (world_after w seat ask)
+stands_each w seat ask o c note fits = (ap (λ (m : Memory). found_answer m ask) fits.stands.memory, stands_after w seat ask o c note fits)

@@ -1,0 +1,157 @@
+//! Several seats on one image whose words remember what a crash may leave.
+
+ghost use Rattle.std.specs.Prelude.{◌≡◌, ◌<◌, ◌≤◌, max, length, IfOk, IsErr, map};
+ghost use Rattle.std.specs.List.{range_with_len};
+ghost use Rattle.seat_state.specs.Seats.{new_seat};
+
+use log_entry::layouts::SEAL;
+use log_entry::Geometry;
+use log_image::Start;
+use persistence::{Cells, Choice};
+use pmem_words::{Ask, Place, SeatState, Task};
+use std::alloc::{AllocError, Global};
+use std::marker::Model;
+
+/// The image word that is the head.
+const HEAD_WORD: u32 = 3;
+
+/// The memory of several seats and their states. The positions are that of the log's last entry, and the one up to which no crash
+/// loses an entry.
+#[derive(Drop)]
+pub struct World {
+    geometry: Geometry,
+    cells: Cells,
+    seats: Vec<SeatState>,
+    position: u64,
+    synced: u64,
+}
+
+impl Model for World {
+    ghost use Rattle.crash_model.specs.Worlds.{WorldNow, StandsForSome};
+
+    ghost Value = { WorldNow };
+
+    ghost view = { λ w. record { geometry = w.geometry; cells = w.cells; seats = w.seats.items; position = w.position; synced = w.synced } };
+
+    ghost invariant = { λ w. StandsForSome (record { geometry = w.geometry; cells = w.cells; seats = w.seats.items; position = w.position; synced = w.synced }) };
+}
+
+impl World {
+    ghost use Rattle.persistence.specs.Choices.{chosen};
+    ghost use Rattle.persistence.specs.Survivors.{Survives};
+    ghost use Rattle.seat_state.specs.declared.TheConstants.{SEATS};
+    ghost use Rattle.std.specs.Borrow.{sem};
+    ghost use Rattle.persistence.specs.Memory.{found_answer};
+    ghost use Rattle.crash_model.specs.Worlds.{new_world, world_after, HasFitting, StandsAfter, seat_of};
+    ghost use Rattle.crash_model.specs.Lending.{LendsSeat};
+
+    /// The position of the last entry of the log.
+    pub fn position(&self) -> u64
+        ensures { result ≡ self.now.position }
+    {
+        self.position
+    }
+
+    /// The position up to which no crash loses an entry.
+    pub fn synced(&self) -> u64
+        ensures { result ≡ self.now.synced }
+    {
+        self.synced
+    }
+
+    /// Makes room for at least `steps` further steps. Only want of memory refuses it, and then nothing is changed.
+    pub fn reserve(&mut self, steps: u64) -> Result<(), AllocError>
+        ensures ok { IfOk result (λ _. self.new ≡ record self.old { cells = record self.old.cells { room = max self.old.cells.room steps } }) }
+        ensures err { IsErr result → self.new ≡ self.old }
+    {
+        self.cells.reserve(steps)
+    }
+
+    /// The words of the image as one crash may leave them, by a choice of the value of each word. Only want of memory refuses it.
+    pub fn survivors(&self, alloc: Global, choice: Choice) -> Result<Vec<u64>, AllocError>
+        ensures chosen { IfOk result (λ words. words.items ≡ chosen choice self.now.cells.memory) }
+        ensures survives { IfOk result (λ words. Survives self.now.cells.memory words.items) }
+    {
+        self.cells.survivors(alloc, choice)
+    }
+
+    /// A world in which nothing was done on this image, with this many seats, from 1 to 16. Only want of memory refuses it.
+    pub fn new(alloc: Global, start: Start, seats: u8) -> Result<World, AllocError>
+        requires some { 0 < seats }
+        requires few { seats ≤ SEATS }
+        ensures { IfOk result (λ world. world ≡ new_world start.geometry start.words.items start.taken.items start.position seats) }
+    {
+        let geometry = *start.geometry();
+        let position = start.position();
+        let (words, taken) = start.into_parts();
+        let states = new_seats(alloc, geometry, seats, position)?;
+        let cells = Cells::new(alloc, words, taken, seats)?;
+        Ok(World {
+            geometry,
+            cells,
+            seats: states,
+            position,
+            synced: position,
+        })
+    }
+
+    /// Performs one step of a seat, and gives its answer. It needs room for a step. It also needs that there is a fitting core state:
+    /// one that a run from the start of the image reaches and that the world stands for, in which the ask is a step of that seat,
+    /// whose view with what was computed since its last step is the seat's state. For each of these the world afterwards stands for
+    /// the core state after the step. It takes no memory.
+    pub fn perform(&mut self, seat: u8, ask: Ask) -> u64
+        requires room { 0 < self.old.cells.room }
+        requires fits { HasFitting self.old seat ask }
+        ensures answer { result ≡ found_answer self.old.cells.memory ask }
+        ensures same { self.new ≡ world_after self.old seat ask }
+        ensures stands { StandsAfter self.old seat ask result self.new }
+    {
+        let found = self.cells.perform(seat, ask);
+        match ask {
+            Ask::Exchange {
+                place: Place::Image(word),
+                old: 0,
+                new,
+            } if word != HEAD_WORD
+                && word % self.geometry.q() != 0
+                && new != SEAL
+                && found == 0 =>
+            {
+                self.position += 1;
+            }
+            Ask::Fence => {
+                let state = &self.seats[seat as usize];
+                if state.job() == Task::Sync && state.at_tail() && state.sync_to().is_none() {
+                    self.synced = self.synced.max(state.position());
+                }
+            }
+            _ => {}
+        }
+        found
+    }
+
+    /// A seat's state, by its number.
+    pub fn seat(&mut self, number: u8) -> &mut SeatState
+        requires { number < length self.old.seats }
+        ensures* writes_back { sem 𝓛 (LendsSeat self.entry number result) }
+        ensures value { result.now ≡ seat_of self.old number }
+    {
+        &mut self.seats[number as usize]
+    }
+}
+
+/// As many seats that have made no step.
+fn new_seats(
+    alloc: Global,
+    geometry: Geometry,
+    seats: u8,
+    position: u64,
+) -> Result<Vec<SeatState>, AllocError>
+    ensures { IfOk result (λ states. states.items ≡ map (λ number. new_seat geometry number seats position) (range_with_len 0 seats)) }
+{
+    let mut states = Vec::with_capacity(alloc, seats as usize)?;
+    for number in 0..seats {
+        states.push(SeatState::new(alloc, geometry, number, seats, position)?)?;
+    }
+    Ok(states)
+}
