@@ -1,23 +1,29 @@
 -- What a world stands for, after each of its calls.
-use Rattle.std.proofs.Common.{◌≡◌, ◌≢◌, ◌<◌, ◌≤◌, ◌+◌, ◌*◌, ◌^◌, ◌==◌, ◌&&◌, not, ℕ, zero, suc, Bool, true, false, if◌then◌else◌, List, [], ◌∷◌, ◌++◌, length, max, refl, sym, ◌∙◌, ap, subst, arith, length-append, slice_index, Option, Some, None}
+use Rattle.std.proofs.Common.{◌≡◌, ◌≢◌, ◌<◌, ◌≤◌, ◌+◌, ◌*◌, ◌^◌, ◌==◌, ◌&&◌, not, ℕ, zero, suc, Bool, true, false, if◌then◌else◌, List, [], ◌∷◌, ◌++◌, length, map, max, inl, inr, refl, sym, ◌∙◌, ap, subst, arith, length-append, slice_index, slice_set, Option, Some, None, Result, Ok, Err, IfOk, IsErr}
 use Rattle.std.proofs.Math.Logic.{∥∥₁_elim, ∥∥₁_map}
 use Rattle.std.proofs.Math.Nat.{mul-le-mul_right}
 use Rattle.std.proofs.lemmas.Bool.{eqb-true}
+use Rattle.std.proofs.lemmas.List.{length-set}
+use Rattle.std.specs.List.{AllByRecursion, range_with_len}
+use Rattle.std.proofs.lemmas.List.FromFn.{map-range_with_len_more, length-map-range_with_len}
+use Rattle.log_image.specs.Keeps.{Keeps}
+use Rattle.log_core.specs.Starts.{origin_of}
+use Rattle.log_core.proofs.StartKept.{kept_start, same_position}
 use Rattle.log_entry.specs.declared.layouts.TheConstants.{SEAL}
 use Rattle.log_image.specs.Image.{Shape, words_in, total}
-use Rattle.seat_state.specs.Seats.{Seat, q_of}
+use Rattle.seat_state.specs.Seats.{Seat, q_of, new_seat}
 use Rattle.seat_state.specs.declared.TheConstants.{SEATS}
 use Rattle.pmem_words.specs.Asks.{answer}
 use Rattle.pmem_words.specs.declared.asks.Place.TheVariants.{Image, Pin, Map, FenceOf}
 use Rattle.pmem_words.specs.declared.asks.Ask.{Ask}
 use Rattle.pmem_words.specs.declared.asks.Ask.TheVariants.{Load, Store, Exchange, SetBits, ClearBits, Mark, Fence}
 use Rattle.persistence.specs.Memory.{Memory, found, found_answer, memory_after}
-use Rattle.persistence.specs.Cells.{CellsNow, TakesAsk, cells_after}
+use Rattle.persistence.specs.Cells.{CellsNow, TakesAsk, cells_after, fresh_memory}
 use Rattle.log_core.specs.Entries.{head_place}
 use Rattle.log_core.specs.Origin.{Origin, shape, first_position}
 use Rattle.log_core.specs.Origin.{q_of as words_in_block}
 use Rattle.log_core.specs.Files.{Write, end_of}
-use Rattle.log_core.specs.Cores.{Core}
+use Rattle.log_core.specs.Cores.{Core, first_core}
 use Rattle.log_core.specs.Steps.{Note, Step, Does, Kind, LoadsHead, StoresOwnPin, LoadsPinWord, LoadsImageWord, LoadsBitmapWord, SetsBits, ClearsBits, StoresWord, ExchangesSlot, ExchangesLink, ExchangesHead, MarksWord, Fences, NoKind, kind_of, exchange_kind}
 use Rattle.log_core.specs.After.{after, history_after, history_if, write_of, synced_after}
 use Rattle.log_core.specs.May.{is_offered}
@@ -27,7 +33,7 @@ use Rattle.log_core.specs.Views.{view_of}
 use Rattle.log_core.proofs.Serving.{reached_keeps}
 use Rattle.log_core.proofs.StartMeets.{start_meets}
 use Rattle.log_core.proofs.RunHolds.{no_exchange}
-use Rattle.crash_model.specs.Worlds.{WorldNow, Stands, StandsForSome, FitsCore, HasFitting, StandsAfter, seat_of, rises, rise_if, synced_by, kind_in, world_after}
+use Rattle.crash_model.specs.Worlds.{WorldNow, Stands, StandsForSome, FitsCore, HasFitting, StandsAfter, seat_of, rises, rise_if, synced_by, kind_in, world_after, new_world}
 
 -- room is no part of what a world stands for
 with_room : (w : WorldNow) (room : ℕ) → ((o : Origin) × (c : Core) × Stands w o c) → (o : Origin) × (c : Core) × Stands (record w { cells = record (w.cells) { room = room } }) o c
@@ -74,12 +80,26 @@ synced_same synced note (ExchangesHead before next) = refl
 synced_same synced note (MarksWord word) = refl
 synced_same synced note NoKind = refl
 
+-- what rises is told by the answer
+rises_pin : (b : Bool) (value f g : ℕ) → rises (if b then StoresOwnPin value else NoKind) f ≡ rises (if b then StoresOwnPin value else NoKind) g
+rises_pin true value f g = refl
+rises_pin false value f g = refl
+
+rises_answer : (q seat : ℕ) (ask : Ask) (f : ℕ) → rises (kind_of q seat ask) f ≡ rises (kind_of q seat ask) (answer ask f)
+rises_answer q seat (Load p) f = refl
+rises_answer q seat (Store (Image word) value) f = refl
+rises_answer q seat (Store (Pin other) value) f = rises_pin (other == seat) value f 0
+rises_answer q seat (Store (Map word) value) f = refl
+rises_answer q seat (Store (FenceOf other) value) f = refl
+rises_answer q seat (Exchange p before next) f = refl
+rises_answer q seat (SetBits p bits) f = refl
+rises_answer q seat (ClearBits p bits) f = refl
+rises_answer q seat (Mark word) f = refl
+rises_answer q seat Fence f = refl
+
 module _ (w : WorldNow) (seat : ℕ) (ask : Ask) (o : Origin) (c : Core) (note : Note) (fits : FitsCore w seat ask o c note) where
   kind_same : kind_of (words_in_block o) seat ask ≡ kind_in w seat ask
   kind_same = ap (λ (g : Rattle.log_entry.specs.declared.shapes.Geometry.Geometry). kind_of (q_of g) seat ask) fits.stands.geometry
-
-  found_same : found c.memory ask ≡ found w.cells.memory ask
-  found_same = ap (λ (m : Memory). found m ask) fits.stands.memory
 
   pub reached_after : IsReached o (after o c (Does seat ask note))
   reached_after = (let r = fits.stands.reached in record {
@@ -102,11 +122,12 @@ module _ (w : WorldNow) (seat : ℕ) (ask : Ask) (o : Origin) (c : Core) (note :
         ∙ (ap (λ (s : Seat). synced_by c.synced s (kind_in w seat ask)) fits.before ∙ ap (λ (d : ℕ). synced_by d (seat_of w seat) (kind_in w seat ask)) fits.stands.synced));
   }
     where
-      position : first_position o + length (history_after c.history seat note (kind_of (words_in_block o) seat ask) (found c.memory ask)) ≡ w.position + rises (kind_in w seat ask) (found w.cells.memory ask)
+      position : first_position o + length (history_after c.history seat note (kind_of (words_in_block o) seat ask) (found c.memory ask)) ≡ w.position + rises (kind_in w seat ask) (found_answer w.cells.memory ask)
       position =
           (let long = history_long c.history seat note (kind_of (words_in_block o) seat ask) (found c.memory ask) in
-          let same : rises (kind_of (words_in_block o) seat ask) (found c.memory ask) ≡ rises (kind_in w seat ask) (found w.cells.memory ask) =
-              ap (λ (kind : Kind). rises kind (found c.memory ask)) kind_same ∙ ap (rises (kind_in w seat ask)) found_same in
+          let same : rises (kind_of (words_in_block o) seat ask) (found c.memory ask) ≡ rises (kind_in w seat ask) (found_answer w.cells.memory ask) =
+              rises_answer (words_in_block o) seat ask (found c.memory ask)
+              ∙ (ap (λ (kind : Kind). rises kind (found_answer c.memory ask)) kind_same ∙ ap (λ (m : Memory). rises (kind_in w seat ask) (found_answer m ask)) fits.stands.memory) in
           let before = fits.stands.position in
           omega (arith, long, same, before))
 
@@ -178,3 +199,58 @@ module _ (w : WorldNow) (seat : ℕ) (ask : Ask) (o : Origin) (c : Core) (note :
 -- each fitting core state is answered so, and stood for afterwards
 pub stands_each : (w : WorldNow) (seat : ℕ) (ask : Ask) → StandsAfter w seat ask (found_answer w.cells.memory ask) (world_after w seat ask)
 stands_each w seat ask o c note fits = (ap (λ (m : Memory). found_answer m ask) fits.stands.memory, stands_after w seat ask o c note fits)
+
+-- room that was made, or not
+pub room_stands_by : {E : Type 0} (w : WorldNow) (cells : CellsNow) (steps : ℕ) (result : Result (Unit {0}) E) → IfOk result (λ _. cells ≡ record (w.cells) { room = max w.cells.room steps }) → (IsErr result → cells ≡ w.cells) →
+    StandsForSome w → StandsForSome (record w { cells = cells })
+room_stands_by w cells steps (Ok value) ok err some = room_stands w cells (max w.cells.room steps) ok some
+room_stands_by w cells steps (Err e) ok err some = room_stands w cells w.cells.room (err refl) some
+
+-- a state of a seat that is lent back changes nothing that a world stands for
+with_seat : (w : WorldNow) (seats : List Seat) → length seats ≡ length w.seats → ((o : Origin) × (c : Core) × Stands w o c) → (o : Origin) × (c : Core) × Stands (record w { seats = seats }) o c
+with_seat w seats same s = (s.0, s.1, record { start = s.2.start; geometry = s.2.geometry; seats = s.2.seats ∙ sym same; reached = s.2.reached; memory = s.2.memory; position = s.2.position; synced = s.2.synced })
+
+pub lent_stands : (w : WorldNow) (number : ℕ) (s : Seat) → StandsForSome w → StandsForSome (record w { seats = slice_set w.seats number s })
+lent_stands w number s some = ∥∥₁_map some (with_seat w (slice_set w.seats number s) (length-set w.seats number s))
+
+-- the world after a step is the one that the step makes
+pub world_is : (w : WorldNow) (seat : ℕ) (ask : Ask) (cells : CellsNow) (answered q rise synced : ℕ) (s : Seat) → cells ≡ cells_after w.cells seat ask → answered ≡ found_answer w.cells.memory ask → q ≡ q_of w.geometry →
+    rise ≡ rises (kind_of q seat ask) answered → s ≡ seat_of w seat → synced ≡ synced_by w.synced s (kind_of q seat ask) →
+    record w { cells = cells; position = w.position + rise; synced = synced } ≡ world_after w seat ask
+world_is w seat ask cells answered q rise synced s cells_is answered_is q_is rise_is s_is synced_is = rw (cells_is, rise_is, synced_is, s_is, answered_is, q_is) refl
+
+-- one seat more
+pub seats_more : (geometry : Rattle.log_entry.specs.declared.shapes.Geometry.Geometry) (seats position number : ℕ) (states more : List Seat) (s : Seat) → states ≡ map (λ (n : ℕ). new_seat geometry n seats position) (range_with_len 0 number) →
+    s ≡ new_seat geometry number seats position → more ≡ states ++ s ∷ [] → more ≡ map (λ (n : ℕ). new_seat geometry n seats position) (range_with_len 0 (number + 1))
+seats_more geometry seats position number states more s states_is s_is more_is =
+    more_is ∙ (ap (λ (xs : List Seat). xs ++ s ∷ []) states_is ∙ (ap (λ (x : Seat). map (λ (n : ℕ). new_seat geometry n seats position) (range_with_len 0 number) ++ x ∷ []) s_is
+    ∙ sym (map-range_with_len_more (λ (n : ℕ). new_seat geometry n seats position) 0 number number (omega arith))))
+
+each_small : (words : List ℕ) → ((place : ℕ) → slice_index words place < 2 ^ 64) → AllByRecursion (λ (word : ℕ). word < 2 ^ 64) words
+each_small [] small = tt
+each_small (word ∷ words) small = (small 0, each_small words (λ place. subst (λ (k : ℕ). slice_index (word ∷ words) k < 2 ^ 64) (let e : place + 1 ≡ suc place = omega arith in e) (small (place + 1))))
+
+-- a world in which nothing was done stands for the core that a run of all seats starts with
+pub new_stands : (geometry : Rattle.log_entry.specs.declared.shapes.Geometry.Geometry) (words taken : List ℕ) (generation position size seats : ℕ) → ((place : ℕ) → slice_index words place < 2 ^ 64) → 0 < seats → seats ≤ SEATS →
+    ∥ Keeps geometry words taken generation position size ∥₁ → StandsForSome (new_world geometry words taken position seats)
+new_stands geometry words taken generation position size seats small some few kept = ∥∥₁_map kept by
+  where
+    by : (k : Keeps geometry words taken generation position size) → (o : Origin) × (c : Core) × Stands (new_world geometry words taken position seats) o c
+    by k =
+        (let o : Origin = origin_of geometry seats seats words taken k.chain k.file in
+        (o, first_core o, record {
+          start = kept_start geometry words taken generation position size seats seats k (each_small words small) (record { some = some; few = few; made = inr refl });
+          geometry = refl;
+          seats = sym (length-map-range_with_len (λ (n : ℕ). new_seat geometry n seats position) 0 seats);
+          reached = record { steps = []; is_run = tt; ends = refl };
+          memory = refl;
+          position = (let e = same_position geometry words taken generation position size seats seats k in omega (arith, e));
+          synced = same_position geometry words taken generation position size seats seats k;
+        }))
+
+pub made_stands : (geometry : Rattle.log_entry.specs.declared.shapes.Geometry.Geometry) (words taken : List ℕ) (generation position size seats : ℕ) → ((place : ℕ) → slice_index words place < 2 ^ 64) → 0 < seats → seats ≤ SEATS →
+    ∥ Keeps geometry words taken generation position size ∥₁ → (g : Rattle.log_entry.specs.declared.shapes.Geometry.Geometry) (p : ℕ) (cells : CellsNow) (states : List Seat) → g ≡ geometry → p ≡ position →
+    cells ≡ record { memory = fresh_memory words taken seats; room = 0 } → states ≡ map (λ (n : ℕ). new_seat g n seats p) (range_with_len 0 seats) →
+    StandsForSome (record { geometry = g; cells = cells; seats = states; position = p; synced = p })
+made_stands geometry words taken generation position size seats small some few kept g p cells states g_is p_is cells_is states_is =
+    rw (states_is, cells_is, g_is, p_is) (new_stands geometry words taken generation position size seats small some few kept)

@@ -5,7 +5,7 @@ use Rattle.log_entry.specs.declared.layouts.TheConstants.{SEAL}
 use Rattle.log_entry.specs.declared.shapes.Geometry.{Geometry}
 use Rattle.seat_state.specs.Seats.{Seat, new_seat, q_of}
 use Rattle.pmem_words.specs.declared.asks.Ask.{Ask}
-use Rattle.persistence.specs.Memory.{found, found_answer}
+use Rattle.persistence.specs.Memory.{found_answer}
 use Rattle.persistence.specs.Cells.{CellsNow, cells_after, fresh_memory}
 use Rattle.log_core.specs.Views.{no_geometry}
 use Rattle.log_core.specs.Origin.{Origin}
@@ -53,7 +53,7 @@ pub record Stands (w : WorldNow) (o : Origin) (c : Core) : Type 0 where
   pub position : end_of o c.history ≡ w.position
   pub synced : c.synced ≡ w.synced
 
--- how far the position rises with a step: by an exchange that puts an entry in
+-- how far the position rises with a step that has this answer: by an exchange that puts an entry in
 abbrev pub rise_if : Bool → ℕ
 rise_if true = 1
 rise_if false = 0
@@ -74,7 +74,7 @@ kind_in w seat ask = kind_of (q_of w.geometry) seat ask
 abbrev pub world_after : WorldNow → ℕ → Ask → WorldNow
 world_after w seat ask = record w {
   cells = cells_after w.cells seat ask;
-  position = w.position + rises (kind_in w seat ask) (found w.cells.memory ask);
+  position = w.position + rises (kind_in w seat ask) (found_answer w.cells.memory ask);
   synced = synced_by w.synced (seat_of w seat) (kind_in w seat ask);
 }
 

@@ -1,8 +1,10 @@
 //! Several seats on one image whose words remember what a crash may leave.
 
-ghost use Rattle.std.specs.Prelude.{◌≡◌, ◌<◌, ◌≤◌, max, length, IfOk, IsErr, map};
+ghost use Rattle.std.specs.Prelude.{◌≡◌, ◌<◌, ◌≤◌, ◌^◌, ℕ, slice_index, max, length, IfOk, IsErr, map};
 ghost use Rattle.std.specs.List.{range_with_len};
 ghost use Rattle.seat_state.specs.Seats.{new_seat};
+ghost use Rattle.log_core.specs.Steps.{kind_of};
+ghost use Rattle.crash_model.specs.Worlds.{rises, synced_by};
 
 use log_entry::layouts::SEAL;
 use log_entry::Geometry;
@@ -84,6 +86,7 @@ impl World {
         let geometry = *start.geometry();
         let position = start.position();
         let (words, taken) = start.into_parts();
+        bound(&words);
         let states = new_seats(alloc, geometry, seats, position)?;
         let cells = Cells::new(alloc, words, taken, seats)?;
         Ok(World {
@@ -106,28 +109,10 @@ impl World {
         ensures same { self.new ≡ world_after self.old seat ask }
         ensures stands { StandsAfter self.old seat ask result self.new }
     {
-        let found = self.cells.perform(seat, ask);
-        match ask {
-            Ask::Exchange {
-                place: Place::Image(word),
-                old: 0,
-                new,
-            } if word != HEAD_WORD
-                && word % self.geometry.q() != 0
-                && new != SEAL
-                && found == 0 =>
-            {
-                self.position += 1;
-            }
-            Ask::Fence => {
-                let state = &self.seats[seat as usize];
-                if state.job() == Task::Sync && state.at_tail() && state.sync_to().is_none() {
-                    self.synced = self.synced.max(state.position());
-                }
-            }
-            _ => {}
-        }
-        found
+        let answer = self.cells.perform(seat, ask);
+        self.position += rise(self.geometry.q(), seat, ask, answer);
+        self.synced = synced_by(self.synced, &self.seats[seat as usize], ask);
+        answer
     }
 
     /// A seat's state, by its number.
@@ -154,4 +139,49 @@ fn new_seats(
         states.push(SeatState::new(alloc, geometry, number, seats, position)?)?;
     }
     Ok(states)
+}
+
+/// How far the position rises with a step: by 1 where an exchange put an entry in a slot. `q` is the words of a block.
+fn rise(q: u32, seat: u8, ask: Ask, answer: u64) -> u64
+    requires { 0 < q }
+    ensures { result ≡ rises (kind_of q seat ask) answer }
+{
+    match ask {
+        Ask::Exchange {
+            place: Place::Image(word),
+            old,
+            new,
+        } => {
+            if word == HEAD_WORD || old != 0 || word % q == 0 {
+                0
+            } else if answer == 0 && new != SEAL {
+                1
+            } else {
+                0
+            }
+        }
+        _ => 0,
+    }
+}
+
+/// The synced position after a step of a seat: it rises with the fence that a sync makes at its tail.
+fn synced_by(synced: u64, state: &SeatState, ask: Ask) -> u64
+    ensures { (q seat : ℕ) → result ≡ synced_by synced state.now (kind_of q seat ask) }
+{
+    match ask {
+        Ask::Fence => {
+            if state.job() == Task::Sync && state.at_tail() && state.sync_to().is_none() {
+                synced.max(state.position())
+            } else {
+                synced
+            }
+        }
+        _ => synced,
+    }
+}
+
+/// Does nothing: its contract says of words that they have 64 bits, which a contract over a list of numbers has to be told.
+fn bound(words: &[u64])
+    ensures { (place : ℕ) → slice_index words.now place < 2 ^ 64 }
+{
 }
