@@ -1,6 +1,7 @@
 -- What a world stands for, after each of its calls.
 use Rattle.std.proofs.Common.{◌≡◌, ◌≢◌, ◌<◌, ◌≤◌, ◌+◌, ◌*◌, ◌^◌, ◌==◌, ◌&&◌, not, ℕ, zero, suc, Bool, true, false, if◌then◌else◌, List, [], ◌∷◌, ◌++◌, length, map, max, inl, inr, refl, sym, ◌∙◌, ap, subst, arith, length-append, slice_index, slice_set, Option, Some, None, Result, Ok, Err, IfOk, IsErr}
 use Rattle.std.proofs.Math.Logic.{∥∥₁_elim, ∥∥₁_map}
+use Rattle.std.proofs.Math.Bridge.{le_prop}
 use Rattle.std.proofs.Math.Nat.{mul-le-mul_right}
 use Rattle.std.proofs.lemmas.Bool.{eqb-true}
 use Rattle.std.proofs.lemmas.List.{length-set}
@@ -136,8 +137,8 @@ module _ (w : WorldNow) (seat : ℕ) (ask : Ask) (o : Origin) (c : Core) (note :
   inv = reached_keeps o (start_meets o fits.stands.start) c fits.stands.reached
 
   -- the position is below its limit
-  pub low : w.position < 2 ^ 40
-  low = (let limit = inv.order.log.limit in let is = fits.stands.position in omega (arith, limit, is))
+  low_one : w.position < 2 ^ 40
+  low_one = (let limit = inv.order.log.limit in let is = fits.stands.position in omega (arith, limit, is))
 
   wide_enough : (q blocks : ℕ) → 8 ≤ q → 1 ≤ blocks → 8 ≤ blocks * q
   wide_enough q blocks wide some = (let times : 1 * q ≤ blocks * q = mul-le-mul_right q some in omega (arith, times, wide))
@@ -187,14 +188,52 @@ module _ (w : WorldNow) (seat : ℕ) (ask : Ask) (o : Origin) (c : Core) (note :
   takes_by (Mark word) offered may = cc
   takes_by Fence offered may = tt
 
+  takes_one : TakesAsk w.cells.memory ask
+  takes_one = subst (λ (m : Memory). TakesAsk m ask) fits.stands.memory (takes_by ask fits.step.offered.kind fits.step.fits.step)
+
+  made_one : seat < length w.seats
+  made_one = (let made = fits.step.fits.made in let few = inv.sizes.few in let many = fits.stands.seats in omega (arith, made, few, many))
+
+  stands_one : (p : Origin) × (d : Core) × Stands (world_after w seat ask) p d
+  stands_one = (o, after o c (Does seat ask note), stands_after)
+
+takes_prop : (m : Memory) (ask : Ask) → IsProp (TakesAsk m ask)
+takes_prop m (Load (Image word)) = le_prop
+takes_prop m (Load (Pin seat)) = le_prop
+takes_prop m (Load (Map word)) = le_prop
+takes_prop m (Load (FenceOf seat)) = λ x y. refl
+takes_prop m (Store (Image word) value) = le_prop
+takes_prop m (Store (Pin seat) value) = le_prop
+takes_prop m (Store (Map word) value) = le_prop
+takes_prop m (Store (FenceOf seat) value) = λ x y. absurd x
+takes_prop m (Exchange (Image word) before next) = le_prop
+takes_prop m (Exchange (Pin seat) before next) = le_prop
+takes_prop m (Exchange (Map word) before next) = le_prop
+takes_prop m (Exchange (FenceOf seat) before next) = λ x y. absurd x
+takes_prop m (SetBits (Image word) bits) = le_prop
+takes_prop m (SetBits (Pin seat) bits) = le_prop
+takes_prop m (SetBits (Map word) bits) = le_prop
+takes_prop m (SetBits (FenceOf seat) bits) = λ x y. absurd x
+takes_prop m (ClearBits (Image word) bits) = le_prop
+takes_prop m (ClearBits (Pin seat) bits) = le_prop
+takes_prop m (ClearBits (Map word) bits) = le_prop
+takes_prop m (ClearBits (FenceOf seat) bits) = λ x y. absurd x
+takes_prop m (Mark word) = le_prop
+takes_prop m Fence = λ x y. refl
+
+-- what a fitting core state, of whatever run, says of the world
+module _ (w : WorldNow) (seat : ℕ) (ask : Ask) (fitting : HasFitting w seat ask) where
   pub takes : TakesAsk w.cells.memory ask
-  takes = subst (λ (m : Memory). TakesAsk m ask) fits.stands.memory (takes_by ask fits.step.offered.kind fits.step.fits.step)
+  takes = ∥∥₁_elim fitting (takes_prop w.cells.memory ask) (λ f. takes_one w seat ask f.0 f.1 f.2 f.3)
 
   pub seat_made : seat < length w.seats
-  seat_made = (let made = fits.step.fits.made in let few = inv.sizes.few in let many = fits.stands.seats in omega (arith, made, few, many))
+  seat_made = ∥∥₁_elim fitting le_prop (λ f. made_one w seat ask f.0 f.1 f.2 f.3)
+
+  pub low : w.position < 2 ^ 40
+  low = ∥∥₁_elim fitting le_prop (λ f. low_one w seat ask f.0 f.1 f.2 f.3)
 
   pub stands_some : StandsForSome (world_after w seat ask)
-  stands_some = ∣ (o, after o c (Does seat ask note), stands_after) ∣₁
+  stands_some = ∥∥₁_map fitting (λ f. stands_one w seat ask f.0 f.1 f.2 f.3)
 
 -- each fitting core state is answered so, and stood for afterwards
 pub stands_each : (w : WorldNow) (seat : ℕ) (ask : Ask) → StandsAfter w seat ask (found_answer w.cells.memory ask) (world_after w seat ask)
@@ -254,3 +293,24 @@ pub made_stands : (geometry : Rattle.log_entry.specs.declared.shapes.Geometry.Ge
     StandsForSome (record { geometry = g; cells = cells; seats = states; position = p; synced = p })
 made_stands geometry words taken generation position size seats small some few kept g p cells states g_is p_is cells_is states_is =
     rw (states_is, cells_is, g_is, p_is) (new_stands geometry words taken generation position size seats small some few kept)
+
+-- a step raises the position by 1 at most
+rise_small : (b : Bool) → rise_if b ≤ 1
+rise_small true = omega arith
+rise_small false = omega arith
+
+pub rises_small : (kind : Kind) (f : ℕ) → rises kind f ≤ 1
+rises_small (ExchangesSlot word entry) f = rise_small ((f == 0) && not (entry == SEAL))
+rises_small LoadsHead f = omega arith
+rises_small (StoresOwnPin value) f = omega arith
+rises_small (LoadsPinWord other) f = omega arith
+rises_small (LoadsImageWord word) f = omega arith
+rises_small (LoadsBitmapWord word) f = omega arith
+rises_small (SetsBits word bits) f = omega arith
+rises_small (ClearsBits word bits) f = omega arith
+rises_small (StoresWord word value) f = omega arith
+rises_small (ExchangesLink word block) f = omega arith
+rises_small (ExchangesHead before next) f = omega arith
+rises_small (MarksWord word) f = omega arith
+rises_small Fences f = omega arith
+rises_small NoKind f = omega arith

@@ -87,7 +87,7 @@ pub record FitsCore (w : WorldNow) (seat : ℕ) (ask : Ask) (o : Origin) (c : Co
 
 -- there is one
 abbrev pub HasFitting : WorldNow → ℕ → Ask → Type 0
-HasFitting w seat ask = (o : Origin) × (c : Core) × (note : Note) × FitsCore w seat ask o c note
+HasFitting w seat ask = ∥ ((o : Origin) × (c : Core) × (note : Note) × FitsCore w seat ask o c note) ∥₁
 
 -- for each, the answer is the one that comes there, and the world afterwards stands for the core state after the step
 abbrev pub StandsAfter : WorldNow → ℕ → Ask → ℕ → WorldNow → Type 0
