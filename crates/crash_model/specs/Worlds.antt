@@ -4,6 +4,7 @@ use Rattle.std.specs.List.{range_with_len}
 use Rattle.log_entry.specs.declared.layouts.TheConstants.{SEAL}
 use Rattle.log_entry.specs.declared.shapes.Geometry.{Geometry}
 use Rattle.seat_state.specs.Seats.{Seat, new_seat, q_of}
+use Rattle.pmem_words.specs.Scripts.{After, Script}
 use Rattle.pmem_words.specs.declared.asks.Ask.{Ask}
 use Rattle.persistence.specs.Memory.{found_answer}
 use Rattle.persistence.specs.Cells.{CellsNow, cells_after, fresh_memory}
@@ -97,3 +98,13 @@ StandsAfter w seat ask answered later =
 -- a run from some start reaches a core state that the world stands for
 abbrev pub StandsForSome : WorldNow → Type 0
 StandsForSome w = ∥ ((o : Origin) × (c : Core) × Stands w o c) ∥₁
+
+-- a turn of a seat with a machine: what its ask finds, and the world after the machine was told
+abbrev pub answer_in : {M Out : Type 0} → Script M Out → WorldNow → ℕ → M → ℕ
+answer_in script w seat m = found_answer w.cells.memory (script.asks m (seat_of w seat))
+
+abbrev pub told_in : {M Out : Type 0} → Script M Out → WorldNow → ℕ → M → After M Out
+told_in script w seat m = script.after m (seat_of w seat) (answer_in script w seat m)
+
+abbrev pub turned : {M Out : Type 0} → Script M Out → WorldNow → ℕ → M → WorldNow
+turned script w seat m = set_seat (world_after w seat (script.asks m (seat_of w seat))) seat (told_in script w seat m).seat

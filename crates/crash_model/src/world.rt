@@ -10,7 +10,7 @@ use log_entry::layouts::SEAL;
 use log_entry::Geometry;
 use log_image::Start;
 use persistence::{Cells, Choice};
-use pmem_words::{Ask, Place, SeatState, Task};
+use pmem_words::{Ask, Machine, Place, SeatState, Task, Turn};
 use std::alloc::{AllocError, Global};
 use std::marker::Model;
 
@@ -44,7 +44,7 @@ impl World {
     ghost use Rattle.seat_state.specs.declared.TheConstants.{SEATS};
     ghost use Rattle.std.specs.Borrow.{sem};
     ghost use Rattle.persistence.specs.Memory.{found_answer};
-    ghost use Rattle.crash_model.specs.Worlds.{new_world, world_after, HasFitting, StandsAfter, seat_of};
+    ghost use Rattle.crash_model.specs.Worlds.{new_world, world_after, HasFitting, StandsAfter, seat_of, set_seat, answer_in, told_in, turned};
     ghost use Rattle.crash_model.specs.Lending.{LendsSeat};
 
     /// The position of the last entry of the log.
@@ -113,6 +113,39 @@ impl World {
         self.position += rise(self.geometry.q(), seat, ask, answer);
         self.synced = synced_by(self.synced, &self.seats[seat as usize], ask);
         answer
+    }
+
+    /// One turn of a seat: its machine asks, the step is performed as by `perform`, and the machine is told the answer.
+    pub fn turn<M: Machine>(&mut self, seat: u8, machine: &mut M) -> Turn<M::Out>
+        requires room { 0 < self.old.cells.room }
+        requires fits { HasFitting self.old seat (M.script.asks machine.old (seat_of self.old seat)) }
+        requires admits { M.script.admits machine.old (seat_of self.old seat) (answer_in M.script self.old seat machine.old) }
+        ensures machine { machine.new ≡ (told_in M.script self.old seat machine.old).machine }
+        ensures world { self.new ≡ turned M.script self.old seat machine.old }
+        ensures turn { result ≡ (told_in M.script self.old seat machine.old).turn }
+    {
+        let ask = self.ask(seat, machine);
+        let answer = self.perform(seat, ask);
+        self.tell(seat, machine, answer)
+    }
+
+    /// What a seat's machine asks.
+    fn ask<M: Machine>(&self, seat: u8, machine: &M) -> Ask
+        requires { seat < length self.now.seats }
+        ensures { result ≡ M.script.asks machine.now (seat_of self.now seat) }
+    {
+        machine.ask(&self.seats[seat as usize])
+    }
+
+    /// Tells a seat's machine an answer.
+    fn tell<M: Machine>(&mut self, seat: u8, machine: &mut M, answer: u64) -> Turn<M::Out>
+        requires seat { seat < length self.old.seats }
+        requires admits { M.script.admits machine.old (seat_of self.old seat) answer }
+        ensures machine { machine.new ≡ (M.script.after machine.old (seat_of self.old seat) answer).machine }
+        ensures world { self.new ≡ set_seat self.old seat (M.script.after machine.old (seat_of self.old seat) answer).seat }
+        ensures turn { result ≡ (M.script.after machine.old (seat_of self.old seat) answer).turn }
+    {
+        machine.tell(&mut self.seats[seat as usize], answer)
     }
 
     /// A seat's state, by its number.
