@@ -246,11 +246,11 @@ room_stands_by w cells steps (Ok value) ok err some = room_stands w cells (max w
 room_stands_by w cells steps (Err e) ok err some = room_stands w cells w.cells.room (err refl) some
 
 -- a state of a seat that is lent back changes nothing that a world stands for
-with_seat : (w : WorldNow) (seats : List Seat) → length seats ≡ length w.seats → ((o : Origin) × (c : Core) × Stands w o c) → (o : Origin) × (c : Core) × Stands (record w { seats = seats }) o c
-with_seat w seats same s = (s.0, s.1, record { start = s.2.start; geometry = s.2.geometry; seats = s.2.seats ∙ sym same; reached = s.2.reached; memory = s.2.memory; position = s.2.position; synced = s.2.synced })
+pub stands_with : (w : WorldNow) (seats : List Seat) → length seats ≡ length w.seats → (o : Origin) (c : Core) → Stands w o c → Stands (record w { seats = seats }) o c
+stands_with w seats same o c s = record { start = s.start; geometry = s.geometry; seats = s.seats ∙ sym same; reached = s.reached; memory = s.memory; position = s.position; synced = s.synced }
 
 pub lent_stands : (w : WorldNow) (number : ℕ) (s : Seat) → StandsForSome w → StandsForSome (record w { seats = slice_set w.seats number s })
-lent_stands w number s some = ∥∥₁_map some (with_seat w (slice_set w.seats number s) (length-set w.seats number s))
+lent_stands w number s some = ∥∥₁_map some (λ st. (st.0, st.1, stands_with w (slice_set w.seats number s) (length-set w.seats number s) st.0 st.1 st.2))
 
 -- the world after a step is the one that the step makes
 pub world_is : (w : WorldNow) (seat : ℕ) (ask : Ask) (cells : CellsNow) (answered q rise synced : ℕ) (s : Seat) → cells ≡ cells_after w.cells seat ask → answered ≡ found_answer w.cells.memory ask → q ≡ q_of w.geometry →
