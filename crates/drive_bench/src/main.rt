@@ -1,10 +1,12 @@
-//! Drives a machine of many loads and stores, and makes seats, so that both can be timed and weighed.
+//! Drives a machine of many loads and stores, makes seats, and performs steps on cells, so that all can be timed or weighed.
 #![tactic(auto)]
 
 ghost use Rattle.std.specs.Prelude.{◌≡◌, IfOk, length};
 
+mod cells;
 mod closed;
 
+use cells::drawn_steps;
 use closed::{Closed, carry_closed};
 use log_entry::Geometry;
 use pmem_words::{Plain, SeatState};
@@ -91,7 +93,8 @@ fn seats(alloc: Global, count: u8) -> Result<u64, AllocError> {
     Ok(made.len() as u64)
 }
 
-/// Does what a line asks: `carry` or `closed` and a number of rounds, or `seats` and a number of seats. Another line comes to 0.
+/// Does what a line asks: `carry` or `closed` and a number of rounds, `cells` and a number of steps, or `seats` and a number of seats.
+/// Another line comes to 0.
 fn answer(alloc: Global, line: &str) -> Result<u64, AllocError> {
     match line.split_once(' ') {
         Some(("carry", rounds)) => match rounds.parse::<u32>() {
@@ -100,6 +103,10 @@ fn answer(alloc: Global, line: &str) -> Result<u64, AllocError> {
         },
         Some(("closed", rounds)) => match rounds.parse::<u32>() {
             Ok(rounds) => carry_by_calls(alloc, rounds),
+            Err(_) => Ok(0),
+        },
+        Some(("cells", steps)) => match steps.parse::<u32>() {
+            Ok(steps) => drawn_steps(alloc, steps),
             Err(_) => Ok(0),
         },
         Some(("seats", count)) => match count.parse::<u8>() {

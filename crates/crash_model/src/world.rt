@@ -1,0 +1,220 @@
+//! Several seats on one image whose words remember what a crash may leave.
+
+ghost use Rattle.std.specs.Prelude.{◌≡◌, ◌<◌, ◌≤◌, ◌^◌, ℕ, slice_index, max, length, IfOk, IsErr, map};
+ghost use Rattle.std.specs.List.{range_with_len};
+ghost use Rattle.seat_state.specs.Seats.{new_seat};
+ghost use Rattle.log_core.specs.Steps.{kind_of};
+ghost use Rattle.crash_model.specs.Worlds.{rises, synced_by};
+
+use log_entry::layouts::SEAL;
+use log_entry::Geometry;
+use log_image::Start;
+use persistence::{Cells, Choice};
+use pmem_words::{Ask, Machine, Place, SeatState, Task, Turn};
+use std::alloc::{AllocError, Global};
+use std::marker::Model;
+
+/// The image word that is the head.
+const HEAD_WORD: u32 = 3;
+
+/// The memory of several seats and their states. The positions are that of the log's last entry, and the one up to which no crash
+/// loses an entry.
+#[derive(Drop)]
+pub struct World {
+    geometry: Geometry,
+    cells: Cells,
+    seats: Vec<SeatState>,
+    position: u64,
+    synced: u64,
+}
+
+impl Model for World {
+    ghost use Rattle.crash_model.specs.Worlds.{WorldNow, StandsForSome};
+
+    ghost Value = { WorldNow };
+
+    ghost view = { λ w. record { geometry = w.geometry; cells = w.cells; seats = w.seats.items; position = w.position; synced = w.synced } };
+
+    ghost invariant = { λ w. StandsForSome (record { geometry = w.geometry; cells = w.cells; seats = w.seats.items; position = w.position; synced = w.synced }) };
+}
+
+impl World {
+    ghost use Rattle.persistence.specs.Choices.{chosen};
+    ghost use Rattle.persistence.specs.Survivors.{Survives};
+    ghost use Rattle.seat_state.specs.declared.TheConstants.{SEATS};
+    ghost use Rattle.std.specs.Borrow.{sem};
+    ghost use Rattle.persistence.specs.Memory.{found_answer};
+    ghost use Rattle.crash_model.specs.Worlds.{new_world, world_after, HasFitting, StandsAfter, seat_of, set_seat, answer_in, told_in, turned};
+    ghost use Rattle.crash_model.specs.Lending.{LendsSeat};
+
+    /// The position of the last entry of the log.
+    pub fn position(&self) -> u64
+        ensures { result ≡ self.now.position }
+    {
+        self.position
+    }
+
+    /// The position up to which no crash loses an entry.
+    pub fn synced(&self) -> u64
+        ensures { result ≡ self.now.synced }
+    {
+        self.synced
+    }
+
+    /// Makes room for at least `steps` further steps. Only want of memory refuses it, and then nothing is changed.
+    pub fn reserve(&mut self, steps: u64) -> Result<(), AllocError>
+        ensures ok { IfOk result (λ _. self.new ≡ record self.old { cells = record self.old.cells { room = max self.old.cells.room steps } }) }
+        ensures err { IsErr result → self.new ≡ self.old }
+    {
+        self.cells.reserve(steps)
+    }
+
+    /// The words of the image as one crash may leave them, by a choice of the value of each word. Only want of memory refuses it.
+    pub fn survivors(&self, alloc: Global, choice: Choice) -> Result<Vec<u64>, AllocError>
+        ensures chosen { IfOk result (λ words. words.items ≡ chosen choice self.now.cells.memory) }
+        ensures survives { IfOk result (λ words. Survives self.now.cells.memory words.items) }
+    {
+        self.cells.survivors(alloc, choice)
+    }
+
+    /// A world in which nothing was done on this image, with this many seats, from 1 to 16. Only want of memory refuses it.
+    pub fn new(alloc: Global, start: Start, seats: u8) -> Result<World, AllocError>
+        requires some { 0 < seats }
+        requires few { seats ≤ SEATS }
+        ensures { IfOk result (λ world. world ≡ new_world start.geometry start.words.items start.taken.items start.position seats) }
+    {
+        let geometry = *start.geometry();
+        let position = start.position();
+        let (words, taken) = start.into_parts();
+        bound(&words);
+        let states = new_seats(alloc, geometry, seats, position)?;
+        let cells = Cells::new(alloc, words, taken, seats)?;
+        Ok(World {
+            geometry,
+            cells,
+            seats: states,
+            position,
+            synced: position,
+        })
+    }
+
+    /// Performs one step of a seat, and gives its answer. It needs room for a step. It also needs that there is a fitting core state:
+    /// one that a run from the start of the image reaches and that the world stands for, in which the ask is a step of that seat,
+    /// whose view with what was computed since its last step is the seat's state. For each of these the world afterwards stands for
+    /// the core state after the step. It takes no memory.
+    pub fn perform(&mut self, seat: u8, ask: Ask) -> u64
+        requires room { 0 < self.old.cells.room }
+        requires fits { HasFitting self.old seat ask }
+        ensures answer { result ≡ found_answer self.old.cells.memory ask }
+        ensures same { self.new ≡ world_after self.old seat ask }
+        ensures stands { StandsAfter self.old seat ask result self.new }
+    {
+        let answer = self.cells.perform(seat, ask);
+        self.position += rise(self.geometry.q(), seat, ask, answer);
+        self.synced = synced_by(self.synced, &self.seats[seat as usize], ask);
+        answer
+    }
+
+    /// One turn of a seat: its machine asks, the step is performed as by `perform`, and the machine is told the answer.
+    pub fn turn<M: Machine>(&mut self, seat: u8, machine: &mut M) -> Turn<M::Out>
+        requires room { 0 < self.old.cells.room }
+        requires fits { HasFitting self.old seat (M.script.asks machine.old (seat_of self.old seat)) }
+        requires admits { M.script.admits machine.old (seat_of self.old seat) (answer_in M.script self.old seat machine.old) }
+        ensures machine { machine.new ≡ (told_in M.script self.old seat machine.old).machine }
+        ensures world { self.new ≡ turned M.script self.old seat machine.old }
+        ensures turn { result ≡ (told_in M.script self.old seat machine.old).turn }
+    {
+        let ask = self.ask(seat, machine);
+        let answer = self.perform(seat, ask);
+        self.tell(seat, machine, answer)
+    }
+
+    /// What a seat's machine asks.
+    fn ask<M: Machine>(&self, seat: u8, machine: &M) -> Ask
+        requires { seat < length self.now.seats }
+        ensures { result ≡ M.script.asks machine.now (seat_of self.now seat) }
+    {
+        machine.ask(&self.seats[seat as usize])
+    }
+
+    /// Tells a seat's machine an answer.
+    fn tell<M: Machine>(&mut self, seat: u8, machine: &mut M, answer: u64) -> Turn<M::Out>
+        requires seat { seat < length self.old.seats }
+        requires admits { M.script.admits machine.old (seat_of self.old seat) answer }
+        ensures machine { machine.new ≡ (M.script.after machine.old (seat_of self.old seat) answer).machine }
+        ensures world { self.new ≡ set_seat self.old seat (M.script.after machine.old (seat_of self.old seat) answer).seat }
+        ensures turn { result ≡ (M.script.after machine.old (seat_of self.old seat) answer).turn }
+    {
+        machine.tell(&mut self.seats[seat as usize], answer)
+    }
+
+    /// A seat's state, by its number.
+    pub fn seat(&mut self, number: u8) -> &mut SeatState
+        requires { number < length self.old.seats }
+        ensures* writes_back { sem 𝓛 (LendsSeat self.entry number result) }
+        ensures value { result.now ≡ seat_of self.old number }
+    {
+        &mut self.seats[number as usize]
+    }
+}
+
+/// As many seats that have made no step.
+fn new_seats(
+    alloc: Global,
+    geometry: Geometry,
+    seats: u8,
+    position: u64,
+) -> Result<Vec<SeatState>, AllocError>
+    ensures { IfOk result (λ states. states.items ≡ map (λ number. new_seat geometry number seats position) (range_with_len 0 seats)) }
+{
+    let mut states = Vec::with_capacity(alloc, seats as usize)?;
+    for number in 0..seats {
+        states.push(SeatState::new(alloc, geometry, number, seats, position)?)?;
+    }
+    Ok(states)
+}
+
+/// How far the position rises with a step: by 1 where an exchange put an entry in a slot. `q` is the words of a block.
+fn rise(q: u32, seat: u8, ask: Ask, answer: u64) -> u64
+    requires { 0 < q }
+    ensures { result ≡ rises (kind_of q seat ask) answer }
+{
+    match ask {
+        Ask::Exchange {
+            place: Place::Image(word),
+            old,
+            new,
+        } => {
+            if word == HEAD_WORD || old != 0 || word % q == 0 {
+                0
+            } else if answer == 0 && new != SEAL {
+                1
+            } else {
+                0
+            }
+        }
+        _ => 0,
+    }
+}
+
+/// The synced position after a step of a seat: it rises with the fence that a sync makes at its tail.
+fn synced_by(synced: u64, state: &SeatState, ask: Ask) -> u64
+    ensures { (q seat : ℕ) → result ≡ synced_by synced state.now (kind_of q seat ask) }
+{
+    match ask {
+        Ask::Fence => {
+            if state.job() == Task::Sync && state.at_tail() && state.sync_to().is_none() {
+                synced.max(state.position())
+            } else {
+                synced
+            }
+        }
+        _ => synced,
+    }
+}
+
+/// Does nothing: its contract says of words that they have 64 bits, which a contract over a list of numbers has to be told.
+fn bound(words: &[u64])
+    ensures { (place : ℕ) → slice_index words.now place < 2 ^ 64 }
+{
+}

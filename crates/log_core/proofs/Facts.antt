@@ -1,0 +1,107 @@
+-- What holds of a seat's state by the invariant; and it stays where the seat gives up its kept words.
+use Rattle.std.proofs.Common.{◌≡◌, ◌≢◌, ◌<◌, ◌≤◌, ◌+◌, ◌-◌, ◌==◌, ℕ, zero, suc, Bool, true, false, List, [], ◌∷◌, length, refl, sym, ◌∙◌, ap, subst, arith, ◌⊎◌, inl, inr, slice_index}
+use Rattle.seat_state.specs.Seats.{Seat}
+use Rattle.log_core.specs.Views.{View, Ghost, view_of}
+use Rattle.log_core.specs.Origin.{Origin, first_generation}
+use Rattle.log_core.specs.Cores.{Core, current, IsPinned}
+use Rattle.log_core.specs.Sizes.{SeatFits}
+use Rattle.log_core.specs.Walks.{WalkHolds}
+use Rattle.log_core.specs.Invariant.{Invariant, KeptIn, around}
+use Rattle.log_core.specs.Knows.{with_seat, Knows}
+
+-- a generation from the first to the present one has a place
+place_inside : (first place now count past : ℕ) → now ≡ first + count - 1 → count ≡ past + 1 → first + place ≤ now → place < count
+place_inside first place now count past e f h = omega (arith, e, f, h)
+
+module _ (o : Origin) (c : Core) (n : ℕ) (inv : Invariant o c) (here : n < length c.views) where
+  abbrev v : View
+  v = view_of c.views n
+
+  -- a pinned generation is kept
+  kept : (place : ℕ) → v.seat.hold.valid ≡ true → v.seat.hold.generation ≡ first_generation o + place → KeptIn o c place
+  kept place valid same = record {
+    inside = place_inside (first_generation o) place (current o c.generations) (length c.generations) _ refl inv.order.heads.count
+        (subst (λ (m : ℕ). m ≤ current o c.generations) same (((inv.pins.holds n).to_current) ((inv.pins.holds n).valid_some valid)));
+    why = inr (record { seat = n; valid = valid; same = same });
+  }
+
+  pub facts_of : Knows o c n v.seat v.ghost (slice_index c.memory.now.pins n) (slice_index c.began n)
+  facts_of = record {
+    fits = inv.sizes.each n here;
+    kept = kept;
+    owns = inv.owners.seats n;
+    pin_is = inv.pins.words n (let few = inv.sizes.few in let many = inv.sizes.words.pins in omega (arith, here, few, many));
+    pin_holds = inv.pins.holds n;
+    walk = inv.walks n;
+    owned = inv.owned n;
+    giving = inv.givings.lists n;
+    scan_others = λ k other. inv.givings.scans n k;
+    scan_self = inv.givings.scans n n;
+    scanned = λ k other. inv.givings.scans k n;
+    writes = inv.records.writes n;
+    writes_once = inv.records.writes_once n;
+    put = inv.records.put n;
+    same_put = refl;
+    calls = inv.records.calls n;
+    tail = inv.records.tails n;
+    marks = inv.records.marks n;
+    syncs = inv.syncs.views_hold n;
+  }
+
+-- the seat with no kept words
+abbrev pub forgotten : Seat → Seat
+forgotten s = record s { walk = record (s.walk) { kept = [] } }
+
+module _ (o : Origin) (c : Core) (n : ℕ) (s : Seat) (g : Ghost) (pin began : ℕ) (f : Knows o c n s g pin began) where
+  walk_forgotten : WalkHolds (around o c) s.hold s.walk → WalkHolds (around o c) s.hold (forgotten s).walk
+  walk_forgotten w = record {
+    unwalked = w.unwalked;
+    to_end = w.to_end;
+    from_first = w.from_first;
+    to_current = w.to_current;
+    read = λ reading kept. (let r = w.read reading kept in record { block = r.block; from = r.from; upto = r.upto; table = r.table; size_is = r.size_is; position_is = r.position_is });
+    kept_words = λ valid. tt;
+    unpinned = λ invalid. refl;
+    walked = λ some stopped. (let r = w.walked some stopped in record { table = r.table; size_is = r.size_is; base = r.base; block = r.block; from = r.from; upto = r.upto; inside = r.inside; at_end = r.at_end });
+    ready_walked = w.ready_walked;
+    ready_base = w.ready_base;
+    ready_tail = w.ready_tail;
+  }
+
+  pub forget_facts : Knows o c n (forgotten s) g pin began
+  forget_facts = record {
+    fits = λ some. (let r = f.fits some in record { number = r.number; seats = r.seats; geometry = r.geometry; first = r.first; found = r.found; named = r.named; map = r.map });
+    kept = f.kept;
+    owns = (let r = f.owns in record { owned = r.owned; left = r.left });
+    pin_is = f.pin_is;
+    pin_holds = f.pin_holds;
+    walk = λ some. walk_forgotten (f.walk some);
+    owned = (let r = f.owned in record {
+      contents = r.contents;
+      areas = r.areas;
+      stored = r.stored;
+      filled = λ place inside filled. (let q = r.filled place inside filled in record { owned = q.owned; each = q.each });
+      fenced = r.fenced;
+    });
+    giving = f.giving;
+    scan_others = f.scan_others;
+    scan_self = f.scan_self;
+    scanned = f.scanned;
+    writes = (let r = f.writes in record { recorded = r.recorded; running = r.running });
+    writes_once = f.writes_once;
+    put = f.put;
+    same_put = f.same_put;
+    calls = (let r = f.calls in record {
+      laid = r.laid;
+      base_words = r.base_words;
+      bases = r.bases;
+      reading = r.reading;
+      numbers = r.numbers;
+      runs = r.runs;
+      won_runs = r.won_runs;
+      put_runs = r.put_runs;
+    });
+    tail = (let r = f.tail in record { begun = r.begun; records = r.records });
+    marks = f.marks;
+    syncs = (let r = f.syncs in record { to = r.to; marks = r.marks; valid = r.valid; answered = r.answered });
+  }

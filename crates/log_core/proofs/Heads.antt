@@ -1,0 +1,77 @@
+-- The present head: it is the present generation's.
+use Rattle.std.proofs.Common.{◌≡◌, ◌≢◌, ◌<◌, ◌≤◌, ◌+◌, ◌-◌, ◌*◌, ◌/◌, ◌%◌, ◌^◌, ◌==◌, ◌&&◌, ◌||◌, nat_lt, ℕ, zero, suc, Bool, true, false, List, [], ◌∷◌, ◌++◌, length, map, drop, get_or, refl, sym, ◌∙◌, ap, subst, arith, ◌⊎◌, inl, inr, ⊎_elim, slice_index}
+use Rattle.std.specs.List.{list_any}
+use Rattle.std.proofs.lemmas.Bool.{ltb-true, eqb-true, eq-eqb}
+use Rattle.std.proofs.lemmas.List.{get_or_push}
+use Rattle.log_entry.specs.Fields.{field}
+use Rattle.log_entry.specs.Words.{head_word}
+use Rattle.log_entry.specs.declared.layouts.TheConstants.{HEAD_GENERATION}
+use Rattle.log_image.specs.Image.{Shape, total, is_in_log}
+use Rattle.persistence.specs.Memory.{Memory, Cell, cell}
+use Rattle.persistence.specs.Survivors.{value_at}
+use Rattle.log_core.specs.Entries.{has, head_place}
+use Rattle.log_core.specs.Origin.{Origin, shape, first_generation, LogBlock, no_log, Generation, no_generation}
+use Rattle.log_core.specs.Cores.{Core, nth_log, current, log_blocks, chain_names, head_floor}
+use Rattle.log_core.specs.Snapshots.{first_or}
+use Rattle.log_core.specs.Order.{nth_generation, front_of}
+use Rattle.log_core.specs.Pins.{WasHead}
+use Rattle.log_core.specs.Invariant.{Invariant, KeptIn}
+
+-- the present value is the last one
+pub last_value : (c : Cell) → value_at c (length c.past) ≡ c.present
+last_value c = get_or_push c.past c.present 0 (length c.past) refl
+
+generation_field : (generation block : ℕ) → generation < 2 ^ 32 → block < 2 ^ 16 → field HEAD_GENERATION (head_word (record { generation = generation; block = block })) ≡ generation
+generation_field generation block few small = omega (arith, few, small)
+
+module _ (o : Origin) (c : Core) (inv : Invariant o c) where
+  abbrev head : Cell
+  head = cell c.memory head_place
+
+  -- the present generation has the last place
+  pub last_place : length c.generations ≡ length head.past + 1
+  last_place = inv.order.heads.count
+
+  pub current_is : current o c.generations ≡ first_generation o + length head.past
+  current_is = (let e = last_place in omega (arith, e))
+
+  pub current_kept : KeptIn o c (length head.past)
+  current_kept = record { inside = (let e = last_place in omega (arith, e)); why = inl inv.order.heads.floor }
+
+  front_small : front_of c.logs (nth_generation c.generations (length head.past)) < 2 ^ 16
+  front_small = inv.order.heads.small (length head.past) current_kept.inside
+
+  -- the head word has the present generation
+  pub head_generation : field HEAD_GENERATION head.present ≡ current o c.generations
+  head_generation =
+      (let e = sym (last_value head) ∙ inv.order.heads.each (length head.past) current_kept.inside in
+      let few = inv.order.heads.few in
+      let count = last_place in
+      ap (field HEAD_GENERATION) e ∙ (generation_field (first_generation o + length head.past) _ (omega (arith, few, count)) front_small ∙ sym current_is))
+
+  pub was_head : WasHead head head.present
+  was_head = record { place = length head.past; inside = omega arith; same = last_value head }
+
+  pub some_generation : 0 < current o c.generations
+  some_generation = (let some = inv.order.heads.some in let e = current_is in omega (arith, some, e))
+
+  -- the place of the present generation is kept
+  pub kept_current : (place : ℕ) → current o c.generations ≡ first_generation o + place → KeptIn o c place
+  kept_current place e = subst (λ (k : ℕ). KeptIn o c k) (let is = current_is in omega (arith, e, is)) current_kept
+
+  -- each head that a crash may leave is of the present generation at most
+  pub floor_low : first_generation o + head_floor c.memory ≤ current o c.generations
+  floor_low = (let floor = inv.order.heads.floor in let is = current_is in omega (arith, floor, is))
+
+  -- a word that the head was is not 0, and of the present generation at most
+  pub was_low : (word : ℕ) → WasHead head word → field HEAD_GENERATION word ≤ current o c.generations
+  was_low word was =
+      (let inside : was.place < length c.generations = (let e = last_place in let low = was.inside in omega (arith, e, low)) in
+      let e = sym was.same ∙ inv.order.heads.each was.place inside in
+      let few = inv.order.heads.few in
+      let is = current_is in
+      let low = was.inside in
+      let count = last_place in
+      let generation : field HEAD_GENERATION word ≡ first_generation o + was.place =
+          ap (field HEAD_GENERATION) e ∙ generation_field (first_generation o + was.place) (front_of c.logs (nth_generation c.generations was.place)) (omega (arith, few, low, count)) (inv.order.heads.small was.place inside) in
+      omega (arith, generation, is, low))

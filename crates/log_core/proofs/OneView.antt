@@ -1,0 +1,70 @@
+-- One view is replaced by another: what has to hold of it, so that the invariant stays.
+use Rattle.std.proofs.Common.{◌≡◌, ◌≢◌, ◌<◌, ◌≤◌, ◌+◌, ◌-◌, ◌==◌, ℕ, zero, suc, Bool, true, false, List, [], ◌∷◌, length, set, get_or, refl, sym, ◌∙◌, ap, subst, arith, ◌⊎◌, inl, inr, slice_set, slice_index}
+use Rattle.std.specs.List.{AllByRecursion}
+use Rattle.std.proofs.lemmas.Bool.{eqb-true, eq-eqb}
+use Rattle.std.proofs.lemmas.List.{get_or-set_same, get_or-set_other, length-set}
+use Rattle.log_entry.specs.declared.calls.Call.{Call}
+use Rattle.seat_state.specs.Seats.{Seat, Hold}
+use Rattle.persistence.specs.Memory.{Memory, Noted, cell}
+use Rattle.log_core.specs.Entries.{has, head_place}
+use Rattle.log_core.specs.Views.{View, Ghost, view_of, spent_view}
+use Rattle.log_core.specs.Origin.{Origin, shape, first_generation, first_position}
+use Rattle.log_core.specs.Files.{entries, end_of}
+use Rattle.log_core.specs.Cores.{Core, generation_at, current, IsKept, IsPinned, head_floor}
+use Rattle.log_core.specs.Sizes.{Sizes, SeatFits, MemoryFits}
+use Rattle.log_core.specs.Owners.{SeatOwns}
+use Rattle.log_core.specs.Pins.{PinHolds, PinWordsFit}
+use Rattle.log_core.specs.Walks.{Around, WalkHolds}
+use Rattle.log_core.specs.Owned.{OwnedHold}
+use Rattle.log_core.specs.Giving.{GivingHolds, ScanHolds}
+use Rattle.log_core.specs.Records.{WritesFit, WritesOnce, SeatsOnce, PutFits, CallHolds, TailHolds, MarksFit, parts_with, count_in, collected_by, collected_in, putting, CollectedOnce}
+use Rattle.log_core.specs.Synced.{SyncHolds}
+use Rattle.log_core.specs.Invariant.{Invariant, KeptIn, around, names_by}
+use Rattle.log_core.specs.Knows.{with_seat, Knows}
+
+-- the core with another view at one place, other pin words, and another list of ends
+abbrev pub with_view : Core → ℕ → View → List ℕ → List ℕ → Core
+with_view c n w pins began = record c {
+  memory = record (c.memory) { now = record (c.memory.now) { pins = pins } };
+  views = slice_set c.views n w;
+  began = began;
+}
+
+-- a place is another one, or not
+pub same_or_other : {P : Type 0} (k n : ℕ) → (k ≡ n → P) → (k ≢ n → P) → P
+same_or_other {P} k n same other = by (k == n) refl
+  where
+    by : (b : Bool) → (k == n) ≡ b → P
+    by true e = same (eqb-true k n e)
+    by false e = other (λ q. (let never : true ≡ false = sym (eq-eqb k n q) ∙ e in cc))
+
+-- a fact of the view at each place, where one is written
+pub each_set : (P : ℕ → View → Type 0) (views : List View) (n : ℕ) (w : View) → n < length views → P n w → ((k : ℕ) → k ≢ n → P k (view_of views k)) → (k : ℕ) → P k (view_of (slice_set views n w) k)
+each_set P views n w here new old k = same_or_other k n
+    (λ same. subst (λ (j : ℕ). P j (view_of (slice_set views n w) j)) (sym same) (subst (λ (x : View). P n x) (sym (get_or-set_same views n w spent_view here)) new))
+    (λ other. subst (λ (x : View). P k x) (sym (get_or-set_other views n k w spent_view other)) (old k other))
+
+-- the parts of all views, where one is written that has the same ones
+pub parts_set : (views : List View) (n : ℕ) (w : View) (seat : ℕ) → w.parts ≡ (view_of views n).parts → n < length views → parts_with (slice_set views n w) seat ≡ parts_with views seat
+parts_set [] n w seat same here = refl
+parts_set (v ∷ views) zero w seat same here = ap (λ (parts : List ℕ). count_in parts seat + parts_with views seat) same
+parts_set (v ∷ views) (suc n) w seat same here = ap (λ (m : ℕ). count_in v.parts seat + m) (parts_set views n w seat same (omega (arith, here)))
+
+-- how often a generation was put in place, where a view is written with the same records and the same head put
+pub collected_set : (views : List View) (n : ℕ) (w : View) (generation : ℕ) → w.done ≡ (view_of views n).done → w.ghost.call.put ≡ (view_of views n).ghost.call.put → n < length views →
+    collected_by generation (slice_set views n w) ≡ collected_by generation views
+collected_set [] n w generation done put here = refl
+collected_set (v ∷ views) zero w generation done put here = rw (done, put) refl
+collected_set (v ∷ views) (suc n) w generation done put here =
+    ap (λ (m : ℕ). collected_in generation v.done + putting generation v.ghost.call.put + m) (collected_set views n w generation done put (omega (arith, here)))
+
+-- a fact of each view of the list, where one is written
+pub all_set : (P : View → Type 0) (views : List View) (n : ℕ) (w : View) → P w → AllByRecursion P views → AllByRecursion P (slice_set views n w)
+all_set P [] n w new all = all
+all_set P (v ∷ views) zero w new all = (new, all.1)
+all_set P (v ∷ views) (suc n) w new all = (all.0, all_set P views n w new all.1)
+
+pub all_at : (P : View → Type 0) (views : List View) (n : ℕ) → n < length views → AllByRecursion P views → P (view_of views n)
+all_at P [] n here all = absurd (omega (arith, here))
+all_at P (v ∷ views) zero here all = all.0
+all_at P (v ∷ views) (suc n) here all = all_at P views n (omega (arith, here)) all.1

@@ -1,0 +1,85 @@
+-- So does every run: each ask of an offered kind is one of the three.
+use Rattle.std.proofs.Common.{◌≡◌, ◌≢◌, ◌<◌, ◌==◌, ◌%◌, not, ℕ, Bool, true, false, if◌then◌else◌, List, [], ◌∷◌, length, refl, sym, subst, slice_index, arith}
+use Rattle.std.specs.List.{list_all}
+use Rattle.std.proofs.lemmas.Bool.{eqb-true}
+use Rattle.pmem_words.specs.declared.asks.Place.{Place}
+use Rattle.pmem_words.specs.declared.asks.Place.TheVariants.{Image, Pin, Map, FenceOf}
+use Rattle.pmem_words.specs.declared.asks.Ask.{Ask}
+use Rattle.pmem_words.specs.declared.asks.Ask.TheVariants.{Load, Store, Exchange, SetBits, ClearBits, Mark, Fence}
+use Rattle.persistence.specs.Memory.{found, found_answer}
+use Rattle.log_core.specs.Entries.{head_place}
+use Rattle.log_core.specs.Views.{View, view_of}
+use Rattle.log_core.specs.Origin.{Origin, q_of}
+use Rattle.log_core.specs.Cores.{Core, first_core}
+use Rattle.log_core.specs.Steps.{Note, Step, Does, Splits, Joins, Kind, LoadsHead, StoresOwnPin, LoadsPinWord, LoadsImageWord, NoKind, kind_of, exchange_kind}
+use Rattle.log_core.specs.After.{stepped, after}
+use Rattle.log_core.specs.May.{is_offered}
+use Rattle.log_core.specs.Runs.{MayStep, MayDo, DoesOffered, Allowed, IsRun, end, is_offered_work}
+use Rattle.log_core.specs.Starts.{IsStart}
+use Rattle.log_core.specs.Invariant.{Invariant}
+use Rattle.log_core.specs.Laws.{StepKeeps}
+use Rattle.log_core.proofs.StepHolds.{head_holds, pin_holds, seen_holds}
+
+-- an exchange is of no offered kind
+pub no_exchange : (q word before next : ℕ) → is_offered (exchange_kind q word before next) ≡ true → ⊥
+no_exchange q word before next = by (word == head_place) (not (before == 0)) (word % q == 0)
+  where
+    by : (head some link : Bool) → is_offered (if head then Rattle.log_core.specs.Steps.ExchangesHead before next else if some then NoKind else if link then Rattle.log_core.specs.Steps.ExchangesLink word next else Rattle.log_core.specs.Steps.ExchangesSlot word next) ≡ true → ⊥
+    by true some link e = cc
+    by false true link e = cc
+    by false false true e = cc
+    by false false false e = cc
+
+module _ (o : Origin) (c : Core) (n : ℕ) (inv : Invariant o c) (here : n < length c.views) (note : Note) where
+  abbrev mine : View
+  mine = view_of c.views n
+
+  -- what a step of this kind, with this ask and what it finds, has to keep
+  abbrev Keeps : Ask → Kind → ℕ → ℕ → Type 0
+  Keeps ask kind f answered = (step : MayStep o c mine kind note answered) → is_offered kind ≡ true → list_all is_offered_work step.begins.works ≡ true →
+      list_all is_offered_work step.enters.computed.works ≡ true → note.adds ≡ [] → Invariant o (stepped o c n ask note kind f)
+
+  by_head : (word : ℕ) (b : Bool) → (word == head_place) ≡ b → Keeps (Load (Image word)) (if b then LoadsHead else LoadsImageWord word) (slice_index c.memory.now.words word) (slice_index c.memory.now.words word)
+  by_head word true e = subst (λ (w : ℕ). Keeps (Load (Image w)) LoadsHead (slice_index c.memory.now.words w) (slice_index c.memory.now.words w)) (sym (eqb-true word head_place e))
+      (λ step offered before later no_record. head_holds o c n inv here note step before later no_record)
+  by_head word false e = λ step offered before later no_record. cc
+
+  by_own : (other value f : ℕ) (b : Bool) → (other == n) ≡ b → Keeps (Store (Pin other) value) (if b then StoresOwnPin value else NoKind) f 0
+  by_own other value f true e = subst (λ (k : ℕ). Keeps (Store (Pin k) value) (StoresOwnPin value) f 0) (sym (eqb-true other n e))
+      (λ step offered before later no_record. pin_holds o c n inv here note value step before later no_record f)
+  by_own other value f false e = λ step offered before later no_record. cc
+
+  each_ask : (ask : Ask) → Keeps ask (kind_of (q_of o) n ask) (found c.memory ask) (found_answer c.memory ask)
+  each_ask (Load (Image word)) = by_head word (word == head_place) refl
+  each_ask (Load (Pin other)) = λ step offered before later no_record. seen_holds o c n inv here note other step before later no_record
+  each_ask (Load (Map word)) = λ step offered before later no_record. cc
+  each_ask (Load (FenceOf other)) = λ step offered before later no_record. cc
+  each_ask (Store (Image word) value) = λ step offered before later no_record. cc
+  each_ask (Store (Pin other) value) = by_own other value (found c.memory (Store (Pin other) value)) (other == n) refl
+  each_ask (Store (Map word) value) = λ step offered before later no_record. cc
+  each_ask (Store (FenceOf other) value) = λ step offered before later no_record. cc
+  each_ask (Exchange (Image word) before next) = λ step offered works later no_record. absurd (no_exchange (q_of o) word before next offered)
+  each_ask (Exchange (Pin other) before next) = λ step offered works later no_record. cc
+  each_ask (Exchange (Map word) before next) = λ step offered works later no_record. cc
+  each_ask (Exchange (FenceOf other) before next) = λ step offered works later no_record. cc
+  each_ask (SetBits (Image word) bits) = λ step offered before later no_record. cc
+  each_ask (SetBits (Pin other) bits) = λ step offered before later no_record. cc
+  each_ask (SetBits (Map word) bits) = λ step offered before later no_record. cc
+  each_ask (SetBits (FenceOf other) bits) = λ step offered before later no_record. cc
+  each_ask (ClearBits (Image word) bits) = λ step offered before later no_record. cc
+  each_ask (ClearBits (Pin other) bits) = λ step offered before later no_record. cc
+  each_ask (ClearBits (Map word) bits) = λ step offered before later no_record. cc
+  each_ask (ClearBits (FenceOf other) bits) = λ step offered before later no_record. cc
+  each_ask (Mark word) = λ step offered before later no_record. cc
+  each_ask Fence = λ step offered before later no_record. cc
+
+pub step_keeps : StepKeeps
+step_keeps o c (Does seat ask note) inv allowed =
+    each_ask o c seat inv allowed.fits.made note ask allowed.fits.step allowed.offered.kind allowed.offered.before allowed.offered.later allowed.offered.no_record
+step_keeps o c (Splits seat) inv allowed = absurd allowed.offered
+step_keeps o c (Joins seat other) inv allowed = absurd allowed.offered
+
+-- and every run, from a core that meets the invariant
+pub run_from : (o : Origin) (steps : List Step) → Invariant o (first_core o) → IsRun o steps → Invariant o (end o steps)
+run_from o [] start run = start
+run_from o (step ∷ steps) start run = step_keeps o (end o steps) step (run_from o steps start run.0) run.1

@@ -1,0 +1,83 @@
+-- What a view's table, tail and kept words are.
+use Rattle.std.specs.Prelude.{ℕ, ◌+◌, ◌-◌, ◌≤◌, ◌<◌, ◌≡◌, ◌≢◌, ◌⊎◌, ◌==◌, true, false, Bool, if◌then◌else◌, List, [], ◌∷◌, ◌++◌, length, map, take, drop, slice_index}
+use Rattle.std.specs.List.{AllByRecursion}
+use Rattle.log_image.specs.Image.{Shape, words_in}
+use Rattle.log_image.specs.Entries.{Meaning, direct_meaning}
+use Rattle.log_image.specs.Maps.{map_of}
+use Rattle.log_image.specs.Blocks.{entry_count as snapshot_count, slots_of}
+use Rattle.seat_parts.specs.declared.keeps.KeptWord.{KeptWord}
+use Rattle.seat_state.specs.Seats.{Hold, Walk}
+use Rattle.seat_state.specs.Maps.{map_at as mapped_at}
+use Rattle.persistence.specs.Memory.{Memory}
+use Rattle.log_core.specs.Entries.{has, place_in, LogEntry}
+use Rattle.log_core.specs.Views.{View, view_of}
+use Rattle.log_core.specs.Origin.{Origin, shape, first_position, first_generation, LogBlock, Generation}
+use Rattle.log_core.specs.Files.{map_at, size_at}
+use Rattle.log_core.specs.Cores.{generation_at, is_named, log_at, log_blocks, entry_count, is_full}
+use Rattle.log_core.specs.After.{snapshot_meanings}
+
+-- the entries of a snapshot up to a slot of one of its blocks
+abbrev pub read_meanings : (ℕ → List ℕ) → List ℕ → ℕ → ℕ → List Meaning
+read_meanings content [] at slot = []
+read_meanings content (block ∷ blocks) at slot =
+    if block == at then map direct_meaning (take (slot - 3) (slots_of (content block)))
+    else map direct_meaning (take (snapshot_count (content block)) (slots_of (content block))) ++ read_meanings content blocks at slot
+
+-- a snapshot was read up to a slot of one of its blocks: the table has the map of the entries before it
+pub record HasRead (content : ℕ → List ℕ) (g : Generation) (w : Walk) : Type 0 where
+  pub block : has g.snapshots w.reading_block ≡ true
+  pub from : 3 ≤ w.reading_slot
+  pub upto : w.reading_slot ≤ 3 + snapshot_count (content w.reading_block)
+  pub table : (virt : ℕ) → mapped_at w.map virt ≡ map_of (read_meanings content g.snapshots w.reading_block w.reading_slot) virt
+  pub size_is : w.size ≡ g.size
+  pub position_is : w.position ≡ g.base
+
+-- a kept word is the present one, of a block that the generation names; but for a slot or link of its log blocks that was found 0
+pub record IsKeptWord (image : Shape) (words : List ℕ) (is_named : ℕ → Bool) (logs : List LogBlock) (kept : KeptWord) : Type 0 where
+  pub named : is_named kept.block ≡ true
+  pub inside : kept.slot < words_in image
+  pub word_is : (kept.word ≡ slice_index words (place_in image kept.block kept.slot)) ⊎ ((kept.word ≡ 0) × (has (log_blocks logs) kept.block ≡ true))
+
+-- a view that has walked: its table and size are those of its position, and its tail is a place of the log block with its tail's base
+pub record HasWalked (o : Origin) (es : List LogEntry) (logs : List LogBlock) (w : Walk) : Type 0 where
+  pub table : (virt : ℕ) → mapped_at w.map virt ≡ map_at o es w.position virt
+  pub size_is : w.size ≡ size_at o es w.position
+  pub base : (log_at logs w.tail_base).base ≡ w.tail_base
+  pub block : (log_at logs w.tail_base).block ≡ w.tail_block
+  pub from : 3 ≤ w.tail_slot
+  pub upto : w.tail_slot ≤ words_in (shape o)
+  pub inside : w.tail_slot ≢ words_in (shape o) → (w.position ≡ w.tail_base + (w.tail_slot - 3)) × (w.tail_slot - 3 ≤ entry_count (log_at logs w.tail_base))
+  pub at_end : w.tail_slot ≡ words_in (shape o) →
+      (is_full (shape o) (log_at logs w.tail_base).slots ≡ true) × (w.position ≡ w.tail_base + entry_count (log_at logs w.tail_base))
+
+-- the parts of a core that the clause reads beside the view; which generations are kept, by their places
+pub record Around : Type 1 where
+  pub origin : Origin
+  pub words : List ℕ
+  pub es : List LogEntry
+  pub end : ℕ
+  pub generations : List Generation
+  pub logs : List LogBlock
+  pub recorded : ℕ → List ℕ
+  pub kept : ℕ → Type 0
+
+-- a view that has not walked is at the start's position. What is read of a snapshot is as far as it goes, as long as that generation
+-- is kept. With a valid pin the kept words are those of the pinned chain, and without one there are none. A view that is ready has walked in the chain of its
+-- generation. No position is past the end
+pub record WalkHolds (a : Around) (h : Hold) (w : Walk) : Type 0 where
+  pub unwalked : w.tail_block ≡ 0 → w.reading ≡ false → w.position ≡ first_position a.origin
+  pub to_end : w.position ≤ a.end
+  pub from_first : w.reading ≡ true → first_generation a.origin ≤ w.reading_generation
+  pub to_current : w.reading ≡ true → w.reading_generation < first_generation a.origin + length a.generations
+  pub read : w.reading ≡ true → a.kept (w.reading_generation - first_generation a.origin) → HasRead a.recorded (generation_at a.origin a.generations w.reading_generation) w
+  pub kept_words : h.valid ≡ true →
+      AllByRecursion (IsKeptWord (shape a.origin) a.words (λ block. is_named a.origin a.logs a.es (generation_at a.origin a.generations h.generation) block)
+        (drop (generation_at a.origin a.generations h.generation).cut a.logs)) w.kept
+  pub unpinned : h.valid ≡ false → w.kept ≡ []
+  pub walked : w.tail_block ≢ 0 → w.reading ≡ false → HasWalked a.origin a.es a.logs w
+  pub ready_walked : w.ready ≡ true → (w.tail_block ≢ 0) × (w.reading ≡ false) × (h.generation ≢ 0)
+  pub ready_base : w.ready ≡ true → w.snapshot_base ≡ (generation_at a.origin a.generations h.generation).base
+  pub ready_tail : w.ready ≡ true → w.snapshot_base ≤ w.tail_base
+
+abbrev pub WalksHold : Around → List View → Type 0
+WalksHold a views = (seat : ℕ) → (view_of views seat).parts ≢ [] → WalkHolds a (view_of views seat).seat.hold (view_of views seat).seat.walk

@@ -1,0 +1,103 @@
+-- A machine within a core, at one seat, whatever other seats do between its steps; and what it owes there.
+use Rattle.std.specs.Prelude.{ℕ, ◌<◌, ◌≡◌, ◌≢◌, true, List, [], ◌++◌, length}
+use Rattle.std.specs.List.{list_all}
+use Rattle.log_entry.specs.declared.calls.Call.{Call}
+use Rattle.seat_state.specs.Seats.{Seat}
+use Rattle.pmem_words.specs.Scripts.{After, Script}
+use Rattle.pmem_words.specs.Courses.{Course}
+use Rattle.pmem_words.specs.Parts.{Next, Into, End}
+use Rattle.pmem_words.specs.declared.asks.Ask.{Ask}
+use Rattle.pmem_words.specs.declared.asks.Turn.{Turn}
+use Rattle.pmem_words.specs.declared.asks.Turn.TheVariants.{Go, Done}
+use Rattle.persistence.specs.Memory.{found_answer}
+use Rattle.log_core.specs.Views.{View, Ghost, view_of, op_in}
+use Rattle.log_core.specs.Origin.{Origin, q_of}
+use Rattle.log_core.specs.Cores.{Core}
+use Rattle.log_core.specs.Works.{Computes, is_going_on}
+use Rattle.log_core.specs.Steps.{Note, Does, Kind, kind_of, effect, is_begun, ghost_begun, ghost_after, ghost_ended, view_after}
+use Rattle.log_core.specs.May.{May, is_offered}
+use Rattle.log_core.specs.Answers.{Enters}
+use Rattle.log_core.specs.Runs.{MayNumber, Allowed, IsReached, is_offered_work}
+use Rattle.log_core.specs.Invariant.{Invariant}
+use Rattle.log_core.specs.Knows.{Knows}
+
+-- the records that a turn adds: a part of a call adds none
+abbrev pub adds_at : {Out : Type 0} → (Out → Seat → List Call) → Seat → Turn Out → List Call
+adds_at rec s Go = []
+adds_at rec s (Done out) = rec out s
+
+abbrev pub no_record : {Out : Type 0} → Out → Seat → List Call
+no_record out s = []
+
+-- what enters the view with the step that a machine asks, by the answer
+abbrev pub note_of : {M Out : Type 0} → Script M Out → (Out → Seat → List Call) → ℕ → M → Seat → ℕ → Note
+note_of script rec number m s f = record {
+  before = s;
+  seat = (script.after m s f).seat;
+  adds = adds_at rec (script.after m s f).seat (script.after m s f).turn;
+  number = number;
+}
+
+-- the ask was a step of the seat, from some core that a run reaches in which the seat has this view, and it left that one
+pub record Did (o : Origin) (seat : ℕ) (v : View) (ask : Ask) (note : ℕ → Note) (f : ℕ) (w : View) : Type 0 where
+  pub core : Core
+  pub reached : IsReached o core
+  pub made : seat < length core.views
+  pub at : view_of core.views seat ≡ v
+  pub answer : found_answer core.memory ask ≡ f
+  pub left : w ≡ view_after v (kind_of (q_of o) seat ask) (note f) f
+
+-- the ask is a step of the seat in each core that a run reaches in which the seat has this view, and each answer there is admitted
+pub record IsReadyIn {M Out : Type 0} (o : Origin) (seat number : ℕ) (script : Script M Out) (rec : Out → Seat → List Call) (m : M) (s : Seat) (v : View) : Type 0 where
+  pub can : (c : Core) → IsReached o c → seat < length c.views → view_of c.views seat ≡ v →
+      Allowed o c (Does seat (script.asks m s) (note_of script rec number m s (found_answer c.memory (script.asks m s))))
+  pub admitted : (f : ℕ) (w : View) → Did o seat v (script.asks m s) (note_of script rec number m s) f w → script.admits m s f
+
+-- a machine within the core: others may make any steps between two of its own
+abbrev pub within : {M Out : Type 0} → Origin → ℕ → ℕ → Script M Out → (Out → Seat → List Call) → Course M View
+within o seat number script rec = record {
+  ready = λ m s v. IsReadyIn o seat number script rec m s v;
+  step = λ m s v f w. Did o seat v (script.asks m s) (note_of script rec number m s) f w;
+}
+
+-- what enters after a step, by computations that are offered
+pub record EntersOffered (g : Ghost) (e t : Seat) (adds : List Call) : Type 0 where
+  pub enters : Enters g e t adds
+  pub offered : list_all is_offered_work enters.computed.works ≡ true
+
+-- what a machine owes at one machine, seat and ghost part, whoever drives it: its ask may be made, in each core that knows the seat
+-- so; it admits what may be found there; what it makes of the seat is what the step does, and what a call may compute after it;
+-- and it goes on to what holds on the way, or ends in what holds at the end
+pub record Lawful {M Out : Type 0} (o : Origin) (seat : ℕ) (script : Script M Out) (rec : Out → Seat → List Call)
+    (P : M → Seat → Ghost → Type 0) (R : Out → Seat → Ghost → Type 0) (m : M) (s : Seat) (g : Ghost) : Type 0 where
+  pub may : (c : Core) (pin began : ℕ) → Invariant o c → Knows o c seat s g pin began → May o c g s (kind_of (q_of o) seat (script.asks m s))
+  pub offered : is_offered (kind_of (q_of o) seat (script.asks m s)) ≡ true
+  pub admitted : (c : Core) (pin began : ℕ) → Invariant o c → Knows o c seat s g pin began → script.admits m s (found_answer c.memory (script.asks m s))
+  pub enters : (f : ℕ) → script.admits m s f →
+      EntersOffered (ghost_after g s (effect g.marks s (kind_of (q_of o) seat (script.asks m s)) f) (kind_of (q_of o) seat (script.asks m s)) f)
+      (effect g.marks s (kind_of (q_of o) seat (script.asks m s)) f) (script.after m s f).seat (adds_at rec (script.after m s f).seat (script.after m s f).turn)
+  pub none_added : (f : ℕ) → script.admits m s f → adds_at rec (script.after m s f).seat (script.after m s f).turn ≡ []
+  pub goes : (f : ℕ) → script.admits m s f → (script.after m s f).turn ≡ Go →
+      P (script.after m s f).machine (script.after m s f).seat (ghost_after g s (effect g.marks s (kind_of (q_of o) seat (script.asks m s)) f) (kind_of (q_of o) seat (script.asks m s)) f)
+  pub ends : (f : ℕ) (out : Out) → script.admits m s f → (script.after m s f).turn ≡ Done out →
+      R out (script.after m s f).seat (ghost_after g s (effect g.marks s (kind_of (q_of o) seat (script.asks m s)) f) (kind_of (q_of o) seat (script.asks m s)) f)
+
+-- wherever P holds the machine is lawful
+abbrev pub Serves : {M Out : Type 0} → Origin → ℕ → Script M Out → (Out → Seat → List Call) → (M → Seat → Ghost → Type 0) → (Out → Seat → Ghost → Type 0) → Type 0
+Serves {M} {Out} o seat script rec P R = (m : M) (s : Seat) (g : Ghost) → P m s g → Lawful o seat script rec P R m s g
+
+-- what holds between two steps of a seat: its state is the view's, or what is computed from that, and P holds
+pub record IsLinked (number : ℕ) (rest : List Call) (P : Seat → Ghost → Type 0) (s : Seat) (v : View) : Type 0 where
+  pub unspent : v.parts ≢ []
+  pub begins : Computes v.ghost v.seat s
+  pub offered : list_all is_offered_work begins.works ≡ true
+  pub number_is : MayNumber (is_begun (op_in v.seat) (op_in s)) v.ghost.call.number number
+  pub done : v.done ≡ rest
+  pub fits : P s (ghost_begun v.ghost v.seat s number)
+
+-- and at its end: the view has the seat's state, and the record
+pub record IsLeft {Out : Type 0} (rest : List Call) (rec : Out → Seat → List Call) (R : Out → Seat → Ghost → Type 0) (out : Out) (t : Seat) (w : View) : Type 0 where
+  pub unspent : w.parts ≢ []
+  pub seat : w.seat ≡ t
+  pub done : w.done ≡ rest
+  pub fits : R out t w.ghost

@@ -1,0 +1,5 @@
+pub mod CellLaws
+pub mod ChoiceLemmas
+pub mod FenceLaws
+mod RowLemmas
+pub mod ValueLemmas

@@ -1,0 +1,117 @@
+-- The persistence model. A memory has the present words and, of each image word, the values that it held before, in their order.
+-- Each image word has a floor among its values: a crash leaves one of those from the floor on. A mark by a seat notes which value
+-- is the present one; the seat's fence raises the floors to what the seat has noted. Pin words and bitmap words outlast no crash.
+use Rattle.std.specs.Prelude.{ℕ, ◌==◌, max, Bool, true, false, not, if◌then◌else◌, List, [], ◌∷◌, ◌++◌, length, map, filter, take, slice_index, slice_set}
+use Rattle.pmem_words.specs.Asks.{place, answer}
+use Rattle.pmem_words.specs.PlainWords.{PlainWords, found_by, plain_after}
+use Rattle.pmem_words.specs.declared.asks.Place.{Place}
+use Rattle.pmem_words.specs.declared.asks.Place.TheVariants.{Image, Pin, Map, FenceOf}
+use Rattle.pmem_words.specs.declared.asks.Ask.{Ask}
+use Rattle.pmem_words.specs.declared.asks.Ask.TheVariants.{Load, Store, Exchange, SetBits, ClearBits, Mark, Fence}
+
+-- a value that an image word held until another replaced it
+pub record Replaced : Type 0 where
+  pub word : ℕ
+  pub value : ℕ
+
+-- a mark: by which seat, of which image word, and how many values had been replaced by then, of all words together
+pub record Noted : Type 0 where
+  pub seat : ℕ
+  pub word : ℕ
+  pub time : ℕ
+
+-- the present words; the values replaced so far, the oldest first; for each image word the time of its floor, as a count of values
+-- replaced; and the marks that no fence of their seat has followed yet, the oldest first
+pub record Memory : Type 0 where
+  pub now : PlainWords
+  pub past : List Replaced
+  pub floors : List ℕ
+  pub notes : List Noted
+
+-- the values that a word held, the oldest first
+abbrev pub values_of : List Replaced → ℕ → List ℕ
+values_of past word = map (λ (r : Replaced). r.value) (filter (λ (r : Replaced). r.word == word) past)
+
+-- the number that a word's present value had at a time, among the word's values from 0 on
+abbrev pub index_at : List Replaced → ℕ → ℕ → ℕ
+index_at past time word = length (values_of (take time past) word)
+
+-- one image word: its present value, those before it, and which of them all is the least that a crash may leave
+pub record Cell : Type 0 where
+  pub present : ℕ
+  pub past : List ℕ
+  pub floor : ℕ
+
+abbrev pub cell : Memory → ℕ → Cell
+cell memory word = record {
+  present = slice_index memory.now.words word;
+  past = values_of memory.past word;
+  floor = index_at memory.past (slice_index memory.floors word) word;
+}
+
+-- whether an ask gives its word a value, by what is found there
+abbrev pub stores : Ask → ℕ → Bool
+stores (Load p) found = false
+stores (Store p value) found = true
+stores (Exchange p before after) found = found == before
+stores (SetBits p bits) found = true
+stores (ClearBits p bits) found = true
+stores (Mark word) found = false
+stores Fence found = false
+
+-- the values replaced so far, after one more at a place where there is one
+abbrev pub replaced_at : Bool → Place → ℕ → List Replaced → List Replaced
+replaced_at true (Image word) found past = past ++ record { word = word; value = found } ∷ []
+replaced_at true (Pin seat) found past = past
+replaced_at true (Map word) found past = past
+replaced_at true (FenceOf seat) found past = past
+replaced_at false p found past = past
+
+-- the values replaced after an ask
+abbrev pub past_after : List Replaced → Ask → ℕ → List Replaced
+past_after past ask found = replaced_at (stores ask found) (place 0 ask) found past
+
+-- the floors after a fence of this seat over these marks: each rises to the time of the seat's marks of its word
+abbrev pub raised : ℕ → List Noted → List ℕ → List ℕ
+raised seat [] floors = floors
+raised seat (note ∷ notes) floors =
+    raised seat notes (if note.seat == seat then slice_set floors note.word (max (slice_index floors note.word) note.time) else floors)
+
+abbrev pub floors_after : List ℕ → ℕ → Ask → List Noted → List ℕ
+floors_after floors seat Fence notes = raised seat notes floors
+floors_after floors seat (Load p) notes = floors
+floors_after floors seat (Store p value) notes = floors
+floors_after floors seat (Exchange p before after) notes = floors
+floors_after floors seat (SetBits p bits) notes = floors
+floors_after floors seat (ClearBits p bits) notes = floors
+floors_after floors seat (Mark word) notes = floors
+
+-- the marks after an ask of this seat: a mark is added, and a fence forgets those of its seat
+abbrev pub notes_after : List Noted → ℕ → Ask → ℕ → List Noted
+notes_after notes seat (Mark word) time = notes ++ record { seat = seat; word = word; time = time } ∷ []
+notes_after notes seat Fence time = filter (λ (note : Noted). not (note.seat == seat)) notes
+notes_after notes seat (Load p) time = notes
+notes_after notes seat (Store p value) time = notes
+notes_after notes seat (Exchange p before after) time = notes
+notes_after notes seat (SetBits p bits) time = notes
+notes_after notes seat (ClearBits p bits) time = notes
+
+-- the number that an ask finds, and its answer
+abbrev pub found : Memory → Ask → ℕ
+found memory ask = found_by memory.now ask
+
+abbrev pub found_answer : Memory → Ask → ℕ
+found_answer memory ask = answer ask (found memory ask)
+
+-- the memory after an ask: of memory, seat and ask alone
+abbrev pub memory_after : Memory → ℕ → Ask → Memory
+memory_after memory seat ask = record {
+  now = plain_after memory.now ask;
+  past = past_after memory.past ask (found memory ask);
+  floors = floors_after memory.floors seat ask memory.notes;
+  notes = notes_after memory.notes seat ask (length memory.past);
+}
+
+-- the marks of one seat, the oldest first
+abbrev pub notes_of : ℕ → List Noted → List Noted
+notes_of seat notes = filter (λ (note : Noted). note.seat == seat) notes

@@ -1,0 +1,11 @@
+//! Decides which values a crash may leave in the words of an image.
+#![tactic(auto)]
+
+pub mod cells;
+pub mod laws;
+pub mod survivors;
+#[cfg(test)]
+mod tests;
+
+pub use cells::Cells;
+pub use survivors::Choice;

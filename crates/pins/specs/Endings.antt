@@ -1,0 +1,68 @@
+-- How the machines end.
+use Rattle.std.specs.Prelude.{ℕ, ◌≡◌, ◌+◌, ◌<◌, ◌≤◌, ◌==◌, ◌&&◌, ◌⊎◌, List, [], length, slice_index, true}
+use Rattle.log_entry.specs.declared.calls.Held.{Held}
+use Rattle.log_entry.specs.declared.words.Head.{Head}
+use Rattle.seat_state.specs.Seats.{Seat}
+use Rattle.pmem_words.specs.Scripts.{Script}
+use Rattle.pmem_words.specs.Courses.{Course}
+use Rattle.pmem_words.specs.Drives.{Ends}
+use Rattle.pins.specs.declared.scan.Scanned.{Scanned}
+use Rattle.pins.specs.declared.scan.Scanned.TheVariants.{Clear}
+use Rattle.pins.specs.declared.scan.Scanned.TheVariants.{Held as HeldBy}
+use Rattle.pins.specs.Steps.{generation_in, head_of, with_seen}
+
+-- the machine ended so, after this many steps
+abbrev pub EndsIn : {M W Out : Type 0} → ℕ → Script M Out → Course M W → M → Seat → W → Out → Seat → W → Type 0
+EndsIn steps script course m s w out t v = (e : Ends script course m s w out t v) × (length e.answers + 1 ≡ steps)
+
+-- the seat with a valid pin of the generation of this head word; a map of another generation is not ready, and no word is kept
+abbrev pub pinned : Seat → ℕ → Seat
+pinned s word = record s {
+  hold = record { head = word; pin = generation_in word; generation = generation_in word; valid = true };
+  walk = record s.walk { ready = s.hold.generation == generation_in word && s.walk.ready; kept = [] };
+}
+
+-- the seat has a valid pin of the generation of this head, whose word it found last
+pub record HasPin (word : ℕ) (head : Head) (t : Seat) : Type 0 where
+  pub is : head ≡ head_of word
+  pub found : t.hold.head ≡ word
+  pub pin : t.hold.pin ≡ head.generation
+  pub generation : t.hold.generation ≡ head.generation
+  pub valid : t.hold.valid ≡ true
+
+-- a pin word that needs no block of a generation: it is 0, or greater
+abbrev pub IsFree : ℕ → ℕ → Type 0
+IsFree generation word = (word ≡ 0) ⊎ (generation < word)
+
+-- the first n of these pin words
+abbrev pub AreFree : ℕ → ℕ → List ℕ → Type 0
+AreFree generation n words = (k : ℕ) → k < n → IsFree generation (slice_index words k)
+
+-- the first of these pin words that is not free, of the seats below `seats`
+pub record IsHeld (generation seats : ℕ) (words : List ℕ) (held : Held) : Type 0 where
+  pub seat : held.seat < seats
+  pub before : AreFree generation held.seat words
+  pub word : slice_index words held.seat ≡ held.generation
+  pub some : 0 < held.generation
+  pub most : held.generation ≤ generation
+
+-- what is found in pin words, of which place k is seat k's
+abbrev pub IsScan : ℕ → ℕ → List ℕ → Scanned → Type 0
+IsScan generation seats words Clear = AreFree generation seats words
+IsScan generation seats words (HeldBy held) = IsHeld generation seats words held
+
+-- how many pin words are loaded for it
+abbrev pub loads : ℕ → Scanned → ℕ
+loads seats Clear = seats
+loads seats (HeldBy held) = held.seat + 1
+
+-- the list is the first n of these words
+pub record IsFirst (n : ℕ) (words seen : List ℕ) : Type 0 where
+  pub count : length seen ≡ n
+  pub each : (k : ℕ) → k < n → slice_index seen k ≡ slice_index words k
+
+-- a scan of answers: what it found is found in them, they are as many as it loads, and the seat has seen them
+pub record IsHeard (generation : ℕ) (s : Seat) (answers : List ℕ) (out : Scanned) (t : Seat) : Type 0 where
+  pub scan : IsScan generation s.seats answers out
+  pub count : length answers ≡ loads s.seats out
+  pub seat : t ≡ with_seen s answers

@@ -1,0 +1,12 @@
+//! What the machines promise within a core, as the contract of a function that does nothing.
+
+ghost use Rattle.pins.specs.Within.{PinsWithin, UnpinsWithin, ScansWithin};
+
+/// From every start, at every seat, and whatever other seats do between its steps: each ask of a machine is a step that the core
+/// allows, each answer that comes there is admitted, and it ends. A pin is then valid and names the generation of the head found
+/// last; after giving it up the pin word is 0; and a scan has found each pin word free of the generation, or the first that is not.
+pub fn law_within()
+    ensures pins { PinsWithin }
+    ensures unpins { UnpinsWithin }
+    ensures scans { ScansWithin }
+{}

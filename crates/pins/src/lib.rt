@@ -1,0 +1,21 @@
+//! How a seat takes and gives up its pin of a generation, and which pin of all seats keeps the blocks of one.
+#![tactic(auto)]
+
+pub mod alone;
+pub mod driven;
+pub mod laws;
+pub mod pin;
+pub mod scan;
+pub mod steps;
+#[cfg(test)]
+mod tests;
+pub mod unpin;
+
+pub use alone::{pin_alone, scan_alone, unpin_alone};
+pub use driven::{pin_over, scan_over};
+pub use pin::Pin;
+pub use scan::{Scan, Scanned};
+pub use unpin::Unpin;
+
+/// The image word that is the head.
+pub const HEAD_WORD: u32 = 3;
