@@ -270,22 +270,20 @@ each_small [] small = tt
 each_small (word ∷ words) small = (small 0, each_small words (λ place. subst (λ (k : ℕ). slice_index (word ∷ words) k < 2 ^ 64) (let e : place + 1 ≡ suc place = omega arith in e) (small (place + 1))))
 
 -- a world in which nothing was done stands for the core that a run of all seats starts with
-pub new_stands : (geometry : Rattle.log_entry.specs.declared.shapes.Geometry.Geometry) (words taken : List ℕ) (generation position size seats : ℕ) → ((place : ℕ) → slice_index words place < 2 ^ 64) → 0 < seats → seats ≤ SEATS →
-    ∥ Keeps geometry words taken generation position size ∥₁ → StandsForSome (new_world geometry words taken position seats)
-new_stands geometry words taken generation position size seats small some few kept = ∥∥₁_map kept by
-  where
-    by : (k : Keeps geometry words taken generation position size) → (o : Origin) × (c : Core) × Stands (new_world geometry words taken position seats) o c
-    by k =
-        (let o : Origin = origin_of geometry seats seats words taken k.chain k.file in
-        (o, first_core o, record {
-          start = kept_start geometry words taken generation position size seats seats k (each_small words small) (record { some = some; few = few; made = inr refl });
-          geometry = refl;
-          seats = sym (length-map-range_with_len (λ (n : ℕ). new_seat geometry n seats position) 0 seats);
-          reached = record { steps = []; is_run = tt; ends = refl };
-          memory = refl;
-          position = (let e = same_position geometry words taken generation position size seats seats k in omega (arith, e));
-          synced = same_position geometry words taken generation position size seats seats k;
-        }))
+module _ (geometry : Rattle.log_entry.specs.declared.shapes.Geometry.Geometry) (words taken : List ℕ) (generation position size seats : ℕ) (small : (place : ℕ) → slice_index words place < 2 ^ 64) (some : 0 < seats) (few : seats ≤ SEATS) where
+  pub new_stands_by : (k : Keeps geometry words taken generation position size) → Stands (new_world geometry words taken position seats) (origin_of geometry seats seats words taken k.chain k.file) (first_core (origin_of geometry seats seats words taken k.chain k.file))
+  new_stands_by k = record {
+    start = kept_start geometry words taken generation position size seats seats k (each_small words small) (record { some = some; few = few; made = inr refl });
+    geometry = refl;
+    seats = sym (length-map-range_with_len (λ (n : ℕ). new_seat geometry n seats position) 0 seats);
+    reached = record { steps = []; is_run = tt; ends = refl };
+    memory = refl;
+    position = (let e = same_position geometry words taken generation position size seats seats k in omega (arith, e));
+    synced = same_position geometry words taken generation position size seats seats k;
+  }
+
+  pub new_stands : ∥ Keeps geometry words taken generation position size ∥₁ → StandsForSome (new_world geometry words taken position seats)
+  new_stands kept = ∥∥₁_map kept (λ k. (origin_of geometry seats seats words taken k.chain k.file, first_core (origin_of geometry seats seats words taken k.chain k.file), new_stands_by k))
 
 pub made_stands : (geometry : Rattle.log_entry.specs.declared.shapes.Geometry.Geometry) (words taken : List ℕ) (generation position size seats : ℕ) → ((place : ℕ) → slice_index words place < 2 ^ 64) → 0 < seats → seats ≤ SEATS →
     ∥ Keeps geometry words taken generation position size ∥₁ → (g : Rattle.log_entry.specs.declared.shapes.Geometry.Geometry) (p : ℕ) (cells : CellsNow) (states : List Seat) → g ≡ geometry → p ≡ position →
