@@ -26,3 +26,5 @@ pub mod Invariant
 pub mod Starts
 pub mod Histories
 pub mod Laws
+pub mod Samples
+pub mod Rows
