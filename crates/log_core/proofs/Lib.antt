@@ -3,6 +3,10 @@ pub mod SetView
 pub mod Facts
 pub mod Begun
 pub mod RowChecks
+pub mod RowTells
 pub mod RowsBegun
 pub mod RowsTaken
 pub mod RowsExchanged
+pub mod RowsGiven
+pub mod RowsFiles
+pub mod RowsWorks

@@ -1,24 +1,35 @@
 -- Worked rows: what small states and steps come to.
-use Rattle.std.specs.Prelude.{ℕ, ◌+◌, ◌^◌, ◌≡◌, ◌≤◌, ◌<◌, true, false, List, [], ◌∷◌, ◌++◌, length, replicate, map, Some, None, ◌==◌, if◌then◌else◌}
+use Rattle.std.specs.Prelude.{ℕ, ◌+◌, ◌^◌, ◌≡◌, ◌≤◌, ◌<◌, ◌==◌, if◌then◌else◌, true, false, List, [], ◌∷◌, length, replicate, map, Some, None}
+use Rattle.log_entry.specs.declared.shapes.Area.{Area}
+use Rattle.log_entry.specs.declared.shapes.Area.TheVariants.{Data, Log, Spare}
+use Rattle.log_entry.specs.declared.calls.Call.{Call}
+use Rattle.log_entry.specs.declared.calls.CollectRefusal.TheVariants.{Nothing, NoSpace as NoSpareSpace}
+use Rattle.log_entry.specs.declared.calls.Op.TheVariants.{Pwrite as PwriteOp, Append as AppendOp, Pread as PreadOp, Size as SizeOp, Sync as SyncOp, Collect as CollectOp}
+use Rattle.log_entry.specs.declared.calls.Reply.{Reply}
+use Rattle.log_entry.specs.declared.calls.Reply.TheVariants.{Wrote, Appended, NotWritten, Bytes, Size as FileSize, Synced, Collected, NotCollected}
+use Rattle.log_entry.specs.declared.calls.WriteRefusal.TheVariants.{TooLong, TooLarge, NoSpace, PositionLimit}
+use Rattle.log_image.specs.Entries.{direct_meaning}
+use Rattle.log_image.specs.Rows.{collected as collected_words}
 use Rattle.pmem_words.specs.declared.asks.Place.TheVariants.{Image, Pin, Map}
 use Rattle.pmem_words.specs.declared.asks.Ask.TheVariants.{Load, Store, Exchange, SetBits, ClearBits, Mark, Fence}
-use Rattle.seat_parts.specs.declared.keeps.Task.TheVariants.{Idle, Pwrite, Collect}
-use Rattle.log_entry.specs.declared.calls.Call.{Call}
-use Rattle.log_entry.specs.declared.calls.Op.TheVariants.{Pwrite as PwriteOp}
-use Rattle.log_entry.specs.declared.calls.Reply.TheVariants.{Wrote}
-use Rattle.seat_state.specs.Seats.{Seat}
-use Rattle.log_core.specs.Views.{View, view_of, op_in}
-use Rattle.log_core.specs.Origin.{Free, Header, InChain, OwnedBy, LeftTo, first_position, first_generation, q_of}
-use Rattle.log_core.specs.Files.{entries, end_of, file_at, write_at, call_of}
-use Rattle.log_core.specs.Cores.{Core, first_core, IsKept, head_floor, named, generation_at, current}
+use Rattle.seat_parts.specs.declared.keeps.KeptWord.{KeptWord}
+use Rattle.seat_parts.specs.declared.keeps.Task.{Task}
+use Rattle.seat_parts.specs.declared.keeps.Task.TheVariants.{Idle, Pwrite, Append, Pread, Size, Sync, Collect}
+use Rattle.seat_parts.specs.declared.owned.OwnedBlock.{OwnedBlock}
+use Rattle.seat_state.specs.Seats.{Seat, Calling, new_seat, no_calling}
 use Rattle.persistence.specs.Memory.{cell}
-use Rattle.log_core.specs.Works.{stored_at, content_word, MayCountFilled, Begins, NotesNamed, StartsFromLog, SetsWord, CountsFilled, Forgets}
-use Rattle.log_entry.specs.declared.shapes.Area.TheVariants.{Data, Log, Spare}
-use Rattle.log_core.specs.Steps.{replaced_by}
+use Rattle.log_core.specs.Views.{View, Ghost, view_of, op_in, no_ghost, no_call}
+use Rattle.log_core.specs.Origin.{Origin, Free, Header, InChain, OwnedBy, LeftTo, first_position, first_generation, first_base, first_logs, first_entries, first_owner, start_generation, q_of}
+use Rattle.log_core.specs.Files.{Write, entries, end_of, file_at, early_file, map_at, size_at, write_at, call_of}
+use Rattle.log_core.specs.Cores.{Core, first_core, IsKept, head_floor, named, data_names, generation_at, current, trail}
+use Rattle.log_core.specs.Works.{stored_at, content_word, front_kind, front_base, is_quiet, without_bases, worked, worked_all, MayWork, MayCountFilled, Begins, StartsFromLog, ReadsRun, EndsReading, TakesEntry, TakesSeal, Follows, OpensBase, AddsBaseWord, Lays, SetsWord, CountsFilled, NotesNamed, KeepsReplaced}
+use Rattle.log_core.specs.Needs.{is_one_run, lacking, is_pass_found}
+use Rattle.log_core.specs.Steps.{LoadsBitmapWord, replaced_by, lacked_after}
 use Rattle.log_core.specs.After.{after}
-use Rattle.log_core.specs.May.{MayLoadPinWord, MaySetBits, MayExchangeLink}
-use Rattle.log_core.specs.Answers.{MayAdd}
-use Rattle.log_core.specs.Samples.{image_a, stepping, step_of, storing, marking, with_map, with_seat}
+use Rattle.log_core.specs.May.{MayLoadPinWord, MaySetBits, MayClearBits, MayExchangeLink, MayFence, walked_trail, refusal_at}
+use Rattle.log_core.specs.Answers.{Fits, MayAdd}
+use Rattle.log_core.specs.Starts.{origin_of}
+use Rattle.log_core.specs.Samples.{small, small_shape, wide, image_a, stepping, step_of, storing, marking, with_map, repinned}
 
 -- the just-made image as a core: one log block, the first generation, and each block's owner
 abbrev pub JustMade : Type 0
@@ -323,3 +334,348 @@ HeadLost =
     × ((view_of overtaken.views 1).ghost.call.overtaken ≡ 2)
     × ((view_of overtaken.views 1).ghost.call.put ≡ None)
     × ((view_of overtaken.views 1).seat.hold ≡ record { head = 8589934597; pin = 1; generation = 1; valid = true })
+
+-- the head is marked and fenced, and seat 0 gives up its pin and scans both pins
+abbrev pub head_sure : Core
+head_sure = stepping image_a (stepping image_a collected 0 (Mark 3) 2 [] []) 0 Fence 2 [] []
+
+abbrev pub scanning : Core → Core
+scanning c = stepping image_a (stepping image_a c 0 (Load (Pin 0)) 2 [] []) 0 (Load (Pin 1)) 2 [] []
+
+-- seat 1 holds a pin of the first generation, and then it does not
+abbrev pub scan_held : Core
+scan_held = scanning (stepping image_a head_sure 0 (Store (Pin 0) 0) 2 [] [])
+
+abbrev pub scan_clear : Core
+scan_clear = scanning (stepping image_a (stepping image_a head_sure 0 (Store (Pin 0) 0) 2 [] []) 1 (Store (Pin 1) 0) 2 [] [])
+
+-- a generation is kept as long as a crash may leave its head, and then as long as it is pinned
+abbrev pub KeptUntilUnpinned : Type 0
+KeptUntilUnpinned =
+    (cell head_sure.memory 3 ≡ record { present = 8589934597; past = 4294967299 ∷ []; floor = 1 })
+    × (head_floor collected.memory ≡ 0)
+    × (head_floor head_sure.memory ≡ 1)
+    × ((view_of head_sure.views 0).seat.giving.head_fenced ≡ true)
+    × IsKept image_a collected.generations (head_floor collected.memory) [] 0
+    × (IsKept image_a head_sure.generations (head_floor head_sure.memory) [] 0 → ⊥)
+    × IsKept image_a head_sure.generations (head_floor head_sure.memory) head_sure.views 0
+    × IsKept image_a scan_held.generations (head_floor scan_held.memory) scan_held.views 0
+    × (IsKept image_a scan_clear.generations (head_floor scan_clear.memory) scan_clear.views 0 → ⊥)
+    × IsKept image_a scan_clear.generations (head_floor scan_clear.memory) scan_clear.views 1
+
+-- the replaced block is given back
+abbrev pub cleared : Core
+cleared = stepping image_a scan_clear 0 (ClearBits (Map 0) 8) 2 [] []
+
+-- seat 1 gives back its own block
+abbrev pub owned_cleared : Core
+owned_cleared = stepping image_a collected 1 (ClearBits (Map 0) 4) 1 [] []
+
+abbrev pub BitsCleared : Type 0
+BitsCleared =
+    ((view_of scan_clear.views 0).seat.giving.pins_seen ≡ 0 ∷ 0 ∷ [])
+    × MayClearBits (view_of scan_clear.views 0).seat 2 0 8
+    × (cleared.memory.now.taken ≡ 55 ∷ [])
+    × ((view_of cleared.views 0).seat.giving.replaced ≡ [])
+    × (map cleared.owner (1 ∷ 2 ∷ 3 ∷ 4 ∷ 5 ∷ []) ≡ InChain ∷ OwnedBy 1 ∷ Free ∷ InChain ∷ InChain ∷ [])
+    × MayClearBits (view_of collected.views 1).seat 2 0 4
+    × (owned_cleared.memory.now.taken ≡ 59 ∷ [])
+    × ((view_of owned_cleared.views 1).seat.blocks.owned ≡ [])
+    × ((view_of owned_cleared.views 1).seat.blocks.contents ≡ [])
+    × (map owned_cleared.owner (1 ∷ 2 ∷ 3 ∷ []) ≡ InChain ∷ Free ∷ LeftTo 0 ∷ [])
+
+-- a block that a pin may need is not given back, nor one of the present chain, nor another seat's
+abbrev pub BitsNotCleared : Type 0
+BitsNotCleared =
+    ((view_of scan_held.views 0).seat.giving.pins_seen ≡ 0 ∷ 1 ∷ [])
+    × (MayClearBits (view_of scan_held.views 0).seat 2 0 8 → ⊥)
+    × (MayClearBits (view_of scan_clear.views 0).seat 2 0 2 → ⊥)
+    × (MayClearBits (view_of scan_clear.views 0).seat 2 0 4 → ⊥)
+    × (MayClearBits (view_of collected.views 0).seat 2 0 8 → ⊥)
+
+-- where a pin holds the replaced blocks, they are kept for later
+abbrev pub kept_later : Seat
+kept_later = worked (view_of scan_held.views 0).seat KeepsReplaced
+
+abbrev pub collect_call : Reply → Call
+collect_call reply = record { position = 1; seat = 0; number = 2; op = CollectOp; reply = reply }
+
+-- the collection's record says what it gave back, or what it kept, and for whom; and no other record fits
+abbrev pub CollectEnds : Type 0
+CollectEnds =
+    MayAdd (view_of cleared.views 0).ghost (view_of cleared.views 0).seat (collect_call (Collected (record { generation = 2; freed = 1; kept = 0; held = None })))
+    × (kept_later.giving.limbo ≡ 3 ∷ [])
+    × (kept_later.giving.limbo_generation ≡ 1)
+    × (kept_later.giving.replaced ≡ [])
+    × MayAdd (view_of scan_held.views 0).ghost kept_later (collect_call (Collected (record { generation = 2; freed = 0; kept = 1; held = Some (record { seat = 1; generation = 1 }) })))
+    × (MayAdd (view_of scan_held.views 0).ghost kept_later (collect_call (Collected (record { generation = 2; freed = 0; kept = 1; held = None }))) → ⊥)
+    × (MayAdd (view_of scan_held.views 0).ghost kept_later (collect_call (Collected (record { generation = 2; freed = 1; kept = 0; held = None }))) → ⊥)
+    × (MayAdd (view_of scan_held.views 0).ghost kept_later (collect_call (Collected (record { generation = 2; freed = 0; kept = 1; held = Some (record { seat = 0; generation = 1 }) }))) → ⊥)
+    × (MayAdd (view_of cleared.views 0).ghost (view_of cleared.views 0).seat (collect_call (NotCollected Nothing)) → ⊥)
+    × (MayAdd (view_of scan_clear.views 0).ghost (view_of scan_clear.views 0).seat (collect_call (Collected (record { generation = 2; freed = 1; kept = 0; held = None }))) → ⊥)
+
+-- seat 0 syncs: it finds the tail's slot empty, marks the head and the used slot, and fences
+abbrev pub syncing : Core
+syncing = stepping image_a written 0 (Load (Image 28)) 2 (Begins Sync [] ∷ []) []
+
+abbrev pub head_marked : Core
+head_marked = stepping image_a syncing 0 (Mark 3) 2 [] []
+
+abbrev pub slot_marked : Core
+slot_marked = stepping image_a head_marked 0 (Mark 27) 2 [] []
+
+abbrev pub synced : Core
+synced = stepping image_a slot_marked 0 Fence 2 [] []
+
+abbrev pub sync_call : Reply → Call
+sync_call reply = record { position = 1; seat = 0; number = 2; op = SyncOp; reply = reply }
+
+-- the position is synced with the fence after all marks; no fence is made with a mark missing, and no record before the fence
+abbrev pub SyncEnds : Type 0
+SyncEnds =
+    (walked_trail image_a syncing (view_of syncing.views 0).seat ≡ record { place = 27; word = to_first } ∷ [])
+    × ((view_of slot_marked.views 0).ghost.marks ≡ record { word = 3; value = 4294967299 } ∷ record { word = 27; value = to_first } ∷ [])
+    × (slot_marked.memory.notes ≡ record { seat = 0; word = 3; time = 9 } ∷ record { seat = 0; word = 27; time = 9 } ∷ [])
+    × MayFence (walked_trail image_a slot_marked (view_of slot_marked.views 0).seat) (view_of slot_marked.views 0).ghost (view_of slot_marked.views 0).seat
+    × (MayFence (walked_trail image_a head_marked (view_of head_marked.views 0).seat) (view_of head_marked.views 0).ghost (view_of head_marked.views 0).seat → ⊥)
+    × ((view_of slot_marked.views 0).seat.calling.sync_to ≡ None)
+    × (slot_marked.synced ≡ 0)
+    × ((view_of synced.views 0).seat.calling.sync_to ≡ Some 1)
+    × (synced.synced ≡ 1)
+    × (cell slot_marked.memory 27 ≡ record { present = to_first; past = 0 ∷ []; floor = 0 })
+    × (cell synced.memory 27 ≡ record { present = to_first; past = 0 ∷ []; floor = 1 })
+    × ((view_of synced.views 0).ghost.marks ≡ [])
+    × MayAdd (view_of synced.views 0).ghost (view_of synced.views 0).seat (sync_call (Synced 1))
+    × (MayAdd (view_of slot_marked.views 0).ghost (view_of slot_marked.views 0).seat (sync_call (Synced 1)) → ⊥)
+    × (MayAdd (view_of synced.views 0).ghost (view_of synced.views 0).seat (sync_call (Synced 0)) → ⊥)
+
+
+-- two writes, the second over the first and longer
+abbrev pub first_write : Write
+first_write = record { seat = 0; number = 1; op = PwriteOp 0 (170 ∷ []); at = 0; entry = record { word = to_first; meaning = direct_meaning to_first } }
+
+abbrev pub second_write : Write
+second_write = record { seat = 1; number = 1; op = AppendOp (187 ∷ 204 ∷ []); at = 1; entry = record { word = 268280837701633; meaning = direct_meaning 268280837701633 } }
+
+abbrev pub two_writes : List Write
+two_writes = first_write ∷ second_write ∷ []
+
+-- the file, the map and the size at each position, and the blocks that are named
+abbrev pub FilesByPosition : Type 0
+FilesByPosition =
+    (file_at image_a two_writes 0 ≡ [])
+    × (file_at image_a two_writes 1 ≡ 170 ∷ [])
+    × (file_at image_a two_writes 2 ≡ 170 ∷ 187 ∷ 204 ∷ [])
+    × (map_at image_a (entries image_a two_writes) 0 0 ≡ None)
+    × (map_at image_a (entries image_a two_writes) 1 0 ≡ Some 1)
+    × (map_at image_a (entries image_a two_writes) 2 0 ≡ Some 2)
+    × (map_at image_a (entries image_a two_writes) 2 1 ≡ None)
+    × (size_at image_a (entries image_a two_writes) 1 ≡ 1)
+    × (size_at image_a (entries image_a two_writes) 2 ≡ 3)
+    × (write_at image_a two_writes 1 ≡ first_write)
+    × (write_at image_a two_writes 2 ≡ second_write)
+    × (call_of 2 second_write ≡ record { position = 2; seat = 1; number = 1; op = AppendOp (187 ∷ 204 ∷ []); reply = Appended 1 2 })
+    × (data_names image_a (entries image_a two_writes) (start_generation image_a) ≡ 1 ∷ 2 ∷ [])
+
+-- a start after a collection: the snapshot at position 2 is in block 5 and names block 2, the log goes on in block 4 with an entry
+abbrev pub image_c : Origin
+image_c = origin_of small 2 1 collected_words (55 ∷ []) (5 ∷ 4 ∷ []) (204 ∷ [])
+
+-- before the start's position the file is what its blocks still hold
+abbrev pub EarlyFiles : Type 0
+EarlyFiles =
+    (first_position image_c ≡ 3)
+    × (first_base image_c ≡ 2)
+    × (first_generation image_c ≡ 2)
+    × (start_generation image_c ≡ record { snapshots = 5 ∷ []; shared = 2 ∷ []; cut = 0; base = 2; size = 1 })
+    × (first_logs image_c ≡ record { block = 4; base = 2; slots = to_first ∷ [] } ∷ [])
+    × (early_file image_c 2 ≡ 187 ∷ [])
+    × (file_at image_c [] 2 ≡ 187 ∷ [])
+    × (file_at image_c [] 3 ≡ 204 ∷ [])
+    × (file_at image_c (record first_write { number = 2 } ∷ []) 4 ≡ 170 ∷ [])
+    × (map_at image_c (first_entries image_c) 2 0 ≡ Some 2)
+    × (map_at image_c (first_entries image_c) 3 0 ≡ Some 1)
+    × (map (first_owner image_c) (0 ∷ 1 ∷ 2 ∷ 3 ∷ 4 ∷ 5 ∷ []) ≡ Header ∷ InChain ∷ InChain ∷ Free ∷ InChain ∷ InChain ∷ [])
+
+-- the used slots and links that a walk has come past: of the first generation all three, of the second none
+abbrev pub WalkedTrail : Type 0
+WalkedTrail =
+    (walked_trail image_a collected (view_of collected.views 0).seat ≡ record { place = 27; word = to_first } ∷ record { place = 28; word = 3 } ∷ record { place = 24; word = 4 } ∷ [])
+    × (walked_trail image_a collected (view_of collected.views 1).seat ≡ [])
+    × (walked_trail image_a collected (repinned (view_of collected.views 0).seat) ≡ [])
+    × (trail small_shape collected.logs ≡ record { place = 27; word = to_first } ∷ record { place = 28; word = 3 } ∷ record { place = 24; word = 4 } ∷ [])
+
+-- a seat of an image of seven data blocks and two log blocks, with a write of so many bytes at 63, and with these blocks
+abbrev pub wide_writer : ℕ → List OwnedBlock → ℕ → Seat
+wide_writer count owned found = record (new_seat wide 0 2 0) {
+  calling = record no_calling { job = Pwrite 63; bytes = replicate count 170 };
+  blocks = record { owned = owned; contents = []; found = found ∷ []; named = 0 ∷ [] };
+}
+
+abbrev pub data_block : ℕ → OwnedBlock
+data_block block = record { block = block; area = Data; filled = false; fenced = false }
+
+-- two bytes at 63 touch two blocks: two that are owned have to be in a row; and too few are found where each is taken
+abbrev pub LacksBlocks : Type 0
+LacksBlocks =
+    (is_one_run (1 ∷ 2 ∷ []) ≡ true)
+    × (is_one_run (2 ∷ 1 ∷ []) ≡ true)
+    × (is_one_run (1 ∷ 3 ∷ []) ≡ false)
+    × (is_one_run [] ≡ false)
+    × (lacking (wide_writer 2 [] 0) (Pwrite 63) Data ≡ 2)
+    × (lacking (wide_writer 1 [] 0) (Pwrite 63) Data ≡ 1)
+    × (lacking (wide_writer 2 (data_block 1 ∷ []) 0) (Pwrite 63) Data ≡ 1)
+    × (lacking (wide_writer 2 (data_block 1 ∷ data_block 2 ∷ []) 0) (Pwrite 63) Data ≡ 0)
+    × (lacking (wide_writer 2 (data_block 2 ∷ data_block 1 ∷ []) 0) (Pwrite 63) Data ≡ 0)
+    × (lacking (wide_writer 2 (data_block 1 ∷ data_block 3 ∷ []) 0) (Pwrite 63) Data ≡ 1)
+    × (lacking (wide_writer 2 (data_block 1 ∷ data_block 3 ∷ data_block 5 ∷ []) 0) (Pwrite 63) Data ≡ 0)
+    × (lacking (wide_writer 2 [] 0) (Pwrite 63) Log ≡ 1)
+    × (lacking (wide_writer 2 [] 0) (Pwrite 63) Spare ≡ 0)
+    × (lacking (wide_writer 2 [] 0) Collect Spare ≡ 3)
+    × (lacking (wide_writer 2 [] 0) Sync Data ≡ 0)
+    × (is_pass_found (wide_writer 2 (data_block 1 ∷ []) 254) Data ≡ true)
+    × (is_pass_found (wide_writer 2 (data_block 1 ∷ []) 190) Data ≡ false)
+    × (is_pass_found (wide_writer 2 (data_block 1 ∷ data_block 2 ∷ []) 254) Data ≡ false)
+    × (is_pass_found (wide_writer 2 [] 768) Log ≡ true)
+    × (is_pass_found (wide_writer 2 [] 512) Log ≡ false)
+    × (lacked_after [] (wide_writer 2 [] 1022) (LoadsBitmapWord 0) ≡ Data ∷ Log ∷ [])
+
+-- a seat of that image that stands before a used slot of block 10 and keeps these words, with a map of eight virtual blocks
+abbrev pub walker : List KeptWord → Seat
+walker kept = record (new_seat wide 0 2 7) {
+  hold = record { head = 8589934603; pin = 2; generation = 2; valid = true };
+  walk = record {
+    position = 7; map = Some 7 ∷ None ∷ None ∷ Some 6 ∷ None ∷ None ∷ None ∷ None ∷ []; size = 256;
+    tail_block = 10; tail_slot = 3; tail_base = 7; snapshot_base = 7; at_tail = false; ready = true;
+    reading = false; reading_generation = 0; reading_block = 0; reading_slot = 0; kept = kept;
+  };
+  calling = record no_calling { job = Pread 0 65 };
+}
+
+abbrev pub kept : ℕ → ℕ → ℕ → KeptWord
+kept block slot word = record { block = block; slot = slot; word = word }
+
+-- an indirect entry, whose block 5 gives virtual blocks 4 and 5 the blocks 1 and 3
+abbrev pub with_runs_kept : Seat
+with_runs_kept = walker (kept 10 3 22 ∷ kept 5 0 8590065668 ∷ kept 5 1 65537 ∷ kept 5 2 65539 ∷ kept 5 3 0 ∷ kept 5 4 0 ∷ kept 5 5 0 ∷ kept 5 6 0 ∷ kept 5 7 0 ∷ [])
+
+-- an entry found at the tail is taken in once it is kept, and an indirect one once each word of its block is too
+abbrev pub EntryTakenIn : Type 0
+EntryTakenIn =
+    MayWork no_ghost with_runs_kept TakesEntry
+    × ((worked with_runs_kept TakesEntry).walk.position ≡ 8)
+    × ((worked with_runs_kept TakesEntry).walk.size ≡ 384)
+    × ((worked with_runs_kept TakesEntry).walk.map ≡ Some 7 ∷ None ∷ None ∷ Some 6 ∷ Some 1 ∷ Some 3 ∷ None ∷ None ∷ [])
+    × ((worked with_runs_kept TakesEntry).walk.tail_slot ≡ 4)
+    × ((worked with_runs_kept TakesEntry).walk.kept ≡ [])
+    × (MayWork no_ghost (walker (kept 10 3 22 ∷ [])) TakesEntry → ⊥)
+    × (MayWork no_ghost (walker (kept 10 3 0 ∷ [])) TakesEntry → ⊥)
+    × (MayWork no_ghost (walker (kept 10 3 3 ∷ [])) TakesEntry → ⊥)
+    × MayWork no_ghost (walker (kept 10 3 0 ∷ kept 10 3 3 ∷ [])) TakesSeal
+    × ((worked (walker (kept 10 3 3 ∷ [])) TakesSeal).walk.tail_slot ≡ 8)
+    × ((worked (worked (walker (kept 10 3 3 ∷ [])) TakesSeal) Follows).walk.position ≡ 7)
+
+-- a seat at the tail with this task and these words
+abbrev pub reader : List KeptWord → Seat
+reader words = record (walker words) { walk = record ((walker words).walk) { at_tail = true } }
+
+-- the same with 64 bytes laid
+abbrev pub far_reader : Seat
+far_reader = record (reader []) { calling = record ((reader []).calling) { bytes = replicate 64 0 } }
+
+-- bytes are laid from the kept words of the mapped blocks, and are 0 in a virtual block that has none
+abbrev pub ReadLays : Type 0
+ReadLays =
+    MayWork no_ghost (reader (kept 7 0 170 ∷ [])) (Lays (170 ∷ 0 ∷ []))
+    × ((worked (reader (kept 7 0 170 ∷ [])) (Lays (170 ∷ 0 ∷ []))).calling.bytes ≡ 170 ∷ 0 ∷ [])
+    × (MayWork no_ghost (reader (kept 7 0 170 ∷ [])) (Lays (171 ∷ [])) → ⊥)
+    × (MayWork no_ghost (reader []) (Lays (0 ∷ [])) → ⊥)
+    × (MayWork no_ghost (walker (kept 7 0 170 ∷ [])) (Lays (170 ∷ [])) → ⊥)
+    × MayWork no_ghost far_reader (Lays (0 ∷ []))
+    × (MayWork no_ghost far_reader (Lays (1 ∷ [])) → ⊥)
+    × (MayWork no_ghost far_reader (Lays (0 ∷ 0 ∷ [])) → ⊥)
+
+-- the present content of virtual block 0 is block 7's, word by word; virtual block 1 has none and is 0. Where an entry that is taken in
+-- gives virtual block 0 another block, its words are dropped
+abbrev pub based : Seat
+based = worked_all (walker (kept 7 0 170 ∷ [])) (OpensBase 0 ∷ AddsBaseWord ∷ [])
+
+abbrev pub two_bases : Calling
+two_bases = record no_calling { bases = 0 ∷ 1 ∷ []; base_words = 1 ∷ 2 ∷ 3 ∷ 4 ∷ 5 ∷ 6 ∷ 7 ∷ 8 ∷ 9 ∷ [] }
+
+abbrev pub BaseWords : Type 0
+BaseWords =
+    MayWork no_ghost (walker (kept 7 0 170 ∷ [])) (OpensBase 0)
+    × MayWork no_ghost (worked (walker (kept 7 0 170 ∷ [])) (OpensBase 0)) AddsBaseWord
+    × (based.calling.bases ≡ 0 ∷ [])
+    × (based.calling.base_words ≡ 170 ∷ [])
+    × (MayWork no_ghost based AddsBaseWord → ⊥)
+    × (MayWork no_ghost based (OpensBase 1) → ⊥)
+    × ((worked_all (walker []) (OpensBase 1 ∷ AddsBaseWord ∷ AddsBaseWord ∷ [])).calling.base_words ≡ 0 ∷ 0 ∷ [])
+    × ((without_bases 8 (direct_meaning to_first) two_bases).bases ≡ 1 ∷ [])
+    × ((without_bases 8 (direct_meaning to_first) two_bases).base_words ≡ 9 ∷ [])
+
+-- a seat that reads the snapshot of the second generation in block 11
+abbrev pub snapshot_reader : ℕ → List KeptWord → Seat
+snapshot_reader slot words = record (walker words) {
+  walk = record ((walker words).walk) { map = None ∷ None ∷ None ∷ None ∷ []; ready = false; reading = true; reading_generation = 2; reading_block = 11; reading_slot = slot };
+}
+
+-- one run of a snapshot, and the end of the reading, after which the log block that follows is the tail's
+abbrev pub SnapshotRead : Type 0
+SnapshotRead =
+    (front_kind (walker (kept 11 1 9223372036854775815 ∷ [])) ≡ 2)
+    × (front_base (walker (kept 11 1 9223372036854775815 ∷ [])) ≡ 7)
+    × MayWork no_ghost (snapshot_reader 3 (kept 11 3 1835009 ∷ [])) ReadsRun
+    × ((worked (snapshot_reader 3 (kept 11 3 1835009 ∷ [])) ReadsRun).walk.map ≡ Some 7 ∷ None ∷ None ∷ None ∷ [])
+    × ((worked (snapshot_reader 3 (kept 11 3 1835009 ∷ [])) ReadsRun).walk.reading_slot ≡ 4)
+    × (MayWork no_ghost (snapshot_reader 3 (kept 11 3 0 ∷ [])) ReadsRun → ⊥)
+    × MayWork no_ghost (snapshot_reader 7 (kept 11 7 0 ∷ kept 11 0 10 ∷ kept 10 1 4611686018427387911 ∷ [])) EndsReading
+    × (MayWork no_ghost (snapshot_reader 7 (kept 11 7 1835009 ∷ kept 11 0 10 ∷ kept 10 1 4611686018427387911 ∷ [])) EndsReading → ⊥)
+    × ((worked (snapshot_reader 7 (kept 11 7 0 ∷ kept 11 0 10 ∷ [])) EndsReading).walk.tail_block ≡ 10)
+    × ((worked (snapshot_reader 7 (kept 11 7 0 ∷ kept 11 0 10 ∷ [])) EndsReading).walk.tail_base ≡ 7)
+    × ((worked (snapshot_reader 7 (kept 11 7 0 ∷ kept 11 0 10 ∷ [])) EndsReading).walk.ready ≡ true)
+
+-- which calls make no step, and which writes are refused on their arguments: at most seven blocks and 4,194,304 bytes
+abbrev pub QuietCalls : Type 0
+QuietCalls =
+    (is_quiet 64 (PwriteOp 5 []) ≡ true)
+    × (is_quiet 64 (PwriteOp 0 (replicate 448 1)) ≡ false)
+    × (is_quiet 64 (PwriteOp 0 (replicate 449 1)) ≡ true)
+    × (is_quiet 64 (PwriteOp 1 (replicate 448 1)) ≡ true)
+    × (is_quiet 64 (PwriteOp 4194303 (170 ∷ [])) ≡ false)
+    × (is_quiet 64 (PwriteOp 4194303 (170 ∷ 187 ∷ [])) ≡ true)
+    × (is_quiet 64 (AppendOp []) ≡ false)
+    × (is_quiet 64 (AppendOp (replicate 385 1)) ≡ false)
+    × (is_quiet 64 (AppendOp (replicate 386 1)) ≡ true)
+    × (is_quiet 64 SizeOp ≡ false)
+    × (refusal_at 64 1 448 (PwriteOp 0 (replicate 448 1)) ≡ None)
+    × (refusal_at 64 1 448 (PwriteOp 0 (replicate 449 1)) ≡ Some (TooLong 8))
+    × (refusal_at 64 1 448 (PwriteOp 1 (replicate 448 1)) ≡ Some (TooLong 8))
+    × (refusal_at 64 1 1 (PwriteOp 4194303 (170 ∷ 187 ∷ [])) ≡ Some (TooLarge 4194305))
+    × (refusal_at 64 1 4194304 (AppendOp (170 ∷ [])) ≡ Some (TooLarge 4194305))
+    × (refusal_at 64 1099511627775 1 (PwriteOp 0 (170 ∷ [])) ≡ Some PositionLimit)
+    × (refusal_at 64 1 1 SizeOp ≡ None)
+
+-- what a seat replies: with this task, and with what contracts alone see of it
+abbrev pub asked : Task → List ℕ → Seat
+asked task bytes = record (reader []) { calling = record no_calling { job = task; bytes = bytes } }
+
+abbrev pub lacked : List Area → Ghost
+lacked areas = record no_ghost { call = record no_call { lacked = areas } }
+
+abbrev pub RepliesFit : Type 0
+RepliesFit =
+    Fits no_ghost (asked Size []) SizeOp (FileSize 256)
+    × (Fits no_ghost (asked Size []) SizeOp (FileSize 257) → ⊥)
+    × Fits no_ghost (asked (Pread 0 2) (170 ∷ 0 ∷ [])) (PreadOp 0 2) (Bytes (170 ∷ 0 ∷ []))
+    × (Fits no_ghost (asked (Pread 0 2) (170 ∷ [])) (PreadOp 0 2) (Bytes (170 ∷ [])) → ⊥)
+    × Fits no_ghost (asked (Pread 300 2) []) (PreadOp 300 2) (Bytes [])
+    × Fits no_ghost (asked Append []) (AppendOp []) (Appended 256 0)
+    × Fits (lacked (Data ∷ [])) (asked Append (170 ∷ [])) (AppendOp (170 ∷ [])) (NotWritten (NoSpace Data))
+    × (Fits (lacked (Log ∷ [])) (asked Append (170 ∷ [])) (AppendOp (170 ∷ [])) (NotWritten (NoSpace Data)) → ⊥)
+    × (Fits (lacked []) (asked Append (170 ∷ [])) (AppendOp (170 ∷ [])) (Appended 256 1) → ⊥)
+    × Fits no_ghost (asked Append (replicate 386 1)) (AppendOp (replicate 386 1)) (NotWritten (TooLong 8))
+    × Fits no_ghost (asked Collect []) CollectOp (NotCollected Nothing)
+    × (Fits (lacked (Spare ∷ [])) (asked Collect []) CollectOp (NotCollected NoSpareSpace) → ⊥)
+    × (Fits no_ghost (asked Sync []) SyncOp (Synced 7) → ⊥)

@@ -4,6 +4,7 @@ use Rattle.std.proofs.Common.{arith}
 use Rattle.log_entry.specs.Shape.{total_of}
 use Rattle.log_entry.specs.declared.shapes.Geometry.{Geometry}
 use Rattle.log_entry.specs.declared.calls.Call.{Call}
+use Rattle.log_image.specs.Image.{Shape}
 use Rattle.log_image.specs.Rows.{two_blocks}
 use Rattle.seat_state.specs.Seats.{Seat}
 use Rattle.pmem_words.specs.declared.asks.Ask.{Ask}
@@ -31,7 +32,23 @@ small_total = omega arith
 abbrev pub small : Geometry
 small = record { data_blocks = 2; log_blocks = 1; block_bytes = 64; block_allowed = refl; some_data = two_data; some_log = one_log; few_blocks = small_total }
 
--- the just-made image of that shape, with two seats, both made
+abbrev pub small_shape : Shape
+small_shape = record { data_blocks = 2; log_blocks = 1; block_bytes = 64 }
+
+pub seven_data : 0 < 7
+seven_data = omega arith
+
+pub two_logs : 0 < 2
+two_logs = omega arith
+
+pub wide_total : total_of 7 2 64 ≤ 65535
+wide_total = omega arith
+
+-- seven data blocks and two log blocks
+abbrev pub wide : Geometry
+wide = record { data_blocks = 7; log_blocks = 2; block_bytes = 64; block_allowed = refl; some_data = seven_data; some_log = two_logs; few_blocks = wide_total }
+
+-- the just-made image of the smaller shape, with two seats, both made
 abbrev pub image_a : Origin
 image_a = origin_of small 2 2 two_blocks (9 ∷ []) (3 ∷ []) []
 
@@ -61,3 +78,7 @@ with_seat c seat s = record c { views = slice_set c.views seat (record (view_of 
 
 abbrev pub with_map : Core → ℕ → List (Option ℕ) → Core
 with_map c seat blocks = with_seat c seat (record ((view_of c.views seat).seat) { walk = record ((view_of c.views seat).seat.walk) { map = blocks } })
+
+-- the seat with a pin of the second generation
+abbrev pub repinned : Seat → Seat
+repinned s = record s { hold = record (s.hold) { pin = 2; generation = 2 } }
