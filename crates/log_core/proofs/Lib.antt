@@ -10,3 +10,6 @@ pub mod RowsExchanged
 pub mod RowsGiven
 pub mod RowsFiles
 pub mod RowsWorks
+pub mod RowsRefused
+pub mod RowsWrong
+pub mod RowsGaps

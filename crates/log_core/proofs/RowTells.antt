@@ -68,3 +68,12 @@ offset_of _ = 0
 abbrev pub asked_count : Task → ℕ
 asked_count (Pread offset count) = count
 asked_count _ = 0
+
+-- the first of some numbers, and of the bytes that a reply says
+abbrev pub first_number : List ℕ → ℕ
+first_number [] = 0
+first_number (number ∷ numbers) = number
+
+abbrev pub first_byte : Reply → ℕ
+first_byte (Bytes bytes) = first_number bytes
+first_byte _ = 0

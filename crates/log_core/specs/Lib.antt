@@ -28,3 +28,4 @@ pub mod Histories
 pub mod Laws
 pub mod Samples
 pub mod Rows
+pub mod Refused

@@ -1,6 +1,7 @@
 //! Worked states and steps, each the contract of a function that does nothing: what they compute to, and states that are refused.
 
 ghost use Rattle.log_core.specs.Rows.{JustMade, PinsInThreeSteps, ScanSeesPins, ComesToTail, BitsTaken, FenceFollows, SlotWon, SlotLost, WriteEnds, LinkWon, LinkLost, HeadWon, HeadLost, KeptUntilUnpinned, BitsCleared, BitsNotCleared, CollectEnds, SyncEnds, FilesByPosition, EarlyFiles, WalkedTrail, LacksBlocks, EntryTakenIn, ReadLays, BaseWords, SnapshotRead, QuietCalls, RepliesFit};
+ghost use Rattle.log_core.specs.Refused.{OtherEntryPossible, HeadSkips, LogHasMore, BitWithoutOwner, BlockOnTwoLists, ChainBlockFree, OtherContentPossible, PinOfAnother, ViewOfAnother, StoredNotPresent, ReplacedStillNamed, RecordOfNoWrite, SyncedMayBeLost, NamedTwice, SnapshotNamesMore, WriteOfNoSeat};
 
 /// Worked states and steps of small images: what each comes to.
 pub fn law_rows()
@@ -32,4 +33,24 @@ pub fn law_rows()
     ensures snapshot_read { SnapshotRead }
     ensures quiet_calls { QuietCalls }
     ensures replies_fit { RepliesFit }
+{}
+
+/// Wrong states: each is refused by the clause that it breaks.
+pub fn law_refused()
+    ensures other_entry_possible { OtherEntryPossible }
+    ensures head_skips { HeadSkips }
+    ensures log_has_more { LogHasMore }
+    ensures bit_without_owner { BitWithoutOwner }
+    ensures block_on_two_lists { BlockOnTwoLists }
+    ensures chain_block_free { ChainBlockFree }
+    ensures other_content_possible { OtherContentPossible }
+    ensures pin_of_another { PinOfAnother }
+    ensures view_of_another { ViewOfAnother }
+    ensures stored_not_present { StoredNotPresent }
+    ensures replaced_still_named { ReplacedStillNamed }
+    ensures record_of_no_write { RecordOfNoWrite }
+    ensures synced_may_be_lost { SyncedMayBeLost }
+    ensures named_twice { NamedTwice }
+    ensures snapshot_names_more { SnapshotNamesMore }
+    ensures write_of_no_seat { WriteOfNoSeat }
 {}
