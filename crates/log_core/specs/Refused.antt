@@ -28,7 +28,7 @@ use Rattle.log_core.specs.Walks.{WalksHold}
 use Rattle.log_core.specs.Owned.{OwnedAllHold}
 use Rattle.log_core.specs.Starts.{origin_of}
 use Rattle.log_core.specs.Samples.{small, small_shape, image_a, with_seat, with_map}
-use Rattle.log_core.specs.Rows.{fenced, stored_words, marked_words, written, linked, collected, synced, to_first, to_second, first_call, first_write}
+use Rattle.log_core.specs.Rows.{no_blocks_mapped, fenced, stored_words, marked_words, written, linked, collected, synced, to_first, to_second, first_call, first_write}
 use Rattle.log_image.specs.Rows.{two_blocks}
 
 -- the clauses of a core over the just-made image
@@ -136,7 +136,7 @@ PinOfAnother =
 abbrev pub ViewOfAnother : Type 0
 ViewOfAnother =
     (ViewsOf (with_walk written (record ((seat_zero written).walk) { tail_block = 4 })) → ⊥)
-    × (ViewsOf (with_map written 0 (None ∷ None ∷ None ∷ None ∷ [])) → ⊥)
+    × (ViewsOf (with_map written 0 no_blocks_mapped) → ⊥)
     × (ViewsOf (with_walk written (record ((seat_zero written).walk) { position = 2; tail_slot = 5 })) → ⊥)
     × (ViewsOf (with_walk written (record ((seat_zero written).walk) { kept = record { block = 3; slot = 3; word = to_second } ∷ [] })) → ⊥)
 
@@ -182,7 +182,7 @@ SyncedMayBeLost =
 
 -- a seat at the tail that owns blocks 1 and 2, fenced, and writes 128 zeros: block 2 has two runs, each of block 1
 abbrev pub twice_writer : Seat
-twice_writer = record (seat_zero (with_map fenced 0 (None ∷ None ∷ None ∷ None ∷ []))) {
+twice_writer = record (seat_zero (with_map fenced 0 no_blocks_mapped)) {
   calling = record ((seat_zero fenced).calling) { job = Pwrite 0; bytes = replicate 128 0 };
   blocks = record ((seat_zero fenced).blocks) {
     owned = record { block = 1; area = Data; filled = true; fenced = true } ∷ record { block = 2; area = Data; filled = true; fenced = true } ∷ [];

@@ -1,5 +1,5 @@
 -- Worked rows: what small states and steps come to.
-use Rattle.std.specs.Prelude.{ℕ, ◌+◌, ◌^◌, ◌≡◌, ◌≤◌, ◌<◌, ◌==◌, if◌then◌else◌, true, false, List, [], ◌∷◌, length, replicate, map, Some, None}
+use Rattle.std.specs.Prelude.{ℕ, ◌+◌, ◌^◌, ◌≡◌, ◌≤◌, ◌<◌, true, false, List, [], ◌∷◌, length, replicate, map, Option, Some, None}
 use Rattle.log_entry.specs.declared.shapes.Area.{Area}
 use Rattle.log_entry.specs.declared.shapes.Area.TheVariants.{Data, Log, Spare}
 use Rattle.log_entry.specs.declared.calls.Call.{Call}
@@ -18,18 +18,18 @@ use Rattle.seat_parts.specs.declared.keeps.Task.TheVariants.{Idle, Pwrite, Appen
 use Rattle.seat_parts.specs.declared.owned.OwnedBlock.{OwnedBlock}
 use Rattle.seat_state.specs.Seats.{Seat, Calling, new_seat, no_calling}
 use Rattle.persistence.specs.Memory.{cell}
-use Rattle.log_core.specs.Views.{View, Ghost, view_of, op_in, no_ghost, no_call}
+use Rattle.log_core.specs.Views.{Ghost, view_of, op_in, no_ghost, no_call}
 use Rattle.log_core.specs.Origin.{Origin, Free, Header, InChain, OwnedBy, LeftTo, first_position, first_generation, first_base, first_logs, first_entries, first_owner, start_generation, q_of}
 use Rattle.log_core.specs.Files.{Write, entries, end_of, file_at, early_file, map_at, size_at, write_at, call_of}
 use Rattle.log_core.specs.Cores.{Core, first_core, IsKept, head_floor, named, data_names, generation_at, current, trail}
-use Rattle.log_core.specs.Works.{stored_at, content_word, front_kind, front_base, is_quiet, without_bases, worked, worked_all, MayWork, MayCountFilled, Begins, StartsFromLog, ReadsRun, EndsReading, TakesEntry, TakesSeal, Follows, OpensBase, AddsBaseWord, Lays, SetsWord, CountsFilled, NotesNamed, KeepsReplaced}
+use Rattle.log_core.specs.Works.{stored_at, content_word, front_kind, front_base, is_quiet, without_bases, worked, worked_all, MayWork, MayCountFilled, Begins, ReadsRun, EndsReading, TakesEntry, TakesSeal, Follows, OpensBase, AddsBaseWord, Lays, CountsFilled, NotesNamed, KeepsReplaced}
 use Rattle.log_core.specs.Needs.{is_one_run, lacking, is_pass_found}
 use Rattle.log_core.specs.Steps.{LoadsBitmapWord, replaced_by, lacked_after}
 use Rattle.log_core.specs.After.{after}
 use Rattle.log_core.specs.May.{MayLoadPinWord, MaySetBits, MayClearBits, MayExchangeLink, MayFence, walked_trail, refusal_at}
 use Rattle.log_core.specs.Answers.{Fits, MayAdd}
 use Rattle.log_core.specs.Starts.{origin_of}
-use Rattle.log_core.specs.Samples.{small, small_shape, wide, image_a, stepping, step_of, storing, marking, with_map, repinned}
+use Rattle.log_core.specs.Samples.{small, small_shape, wide, image_a, stepping, step_of, walking, preparing, storing, marking, with_map, repinned}
 
 -- the just-made image as a core: one log block, the first generation, and each block's owner
 abbrev pub JustMade : Type 0
@@ -102,7 +102,7 @@ ScanSeesPins =
 
 -- seat 0 walks: it loads the second word of the log block, and then its first slot, which is empty
 abbrev pub walked : Core
-walked = stepping image_a (stepping image_a pinned 0 (Load (Image 25)) 1 [] []) 0 (Load (Image 27)) 1 (StartsFromLog ∷ []) []
+walked = walking image_a pinned 0
 
 -- it stands at the tail
 abbrev pub ComesToTail : Type 0
@@ -143,14 +143,10 @@ BitsTaken =
 
 -- seat 0 stores each word of block 1 and marks each, and then fences
 abbrev pub stored_words : Core
-stored_words =
-    storing image_a (storing image_a (storing image_a (storing image_a (storing image_a (storing image_a (storing image_a
-    (stepping image_a taken_by_one 0 (Store (Image 8) 170) 1 (SetsWord 0 0 170 ∷ []) []) 0 9) 0 10) 0 11) 0 12) 0 13) 0 14) 0 15
+stored_words = storing image_a taken_by_one 0 0 1 0 (170 ∷ replicate 7 0)
 
 abbrev pub marked_words : Core
-marked_words =
-    marking image_a (marking image_a (marking image_a (marking image_a (marking image_a (marking image_a (marking image_a (marking image_a
-    stored_words 0 8) 0 9) 0 10) 0 11) 0 12) 0 13) 0 14) 0 15
+marked_words = marking image_a stored_words 0 1 8
 
 abbrev pub fenced : Core
 fenced = stepping image_a marked_words 0 Fence 1 (CountsFilled 0 ∷ []) []
@@ -176,20 +172,13 @@ FenceFollows =
     × (fenced.synced ≡ 0)
     × ((view_of (stepping image_a marked_words 0 Fence 1 [] []).views 0).seat.blocks.owned ≡ record { block = 1; area = Data; filled = false; fenced = false } ∷ [])
 
--- both seats stand at one tail with a fenced block each, seat 0 with block 1 and seat 1 with block 2; maps of four virtual blocks
+-- a map of four virtual blocks, of which none has a block
+abbrev pub no_blocks_mapped : List (Option ℕ)
+no_blocks_mapped = None ∷ None ∷ None ∷ None ∷ []
+
+-- seat 1 writes a byte in block 2 as seat 0 does in block 1, so that both stand at one tail. The maps have four virtual blocks alone
 abbrev pub racing : Core
-racing =
-    let c : Core = with_map fenced 0 (None ∷ None ∷ None ∷ None ∷ []) in
-    let other : View = view_of c.views 0 in
-    record c {
-      memory = record (c.memory) { now = record (c.memory.now) { taken = 15 ∷ []; pins = 1 ∷ 1 ∷ [] } };
-      views = view_of c.views 0 ∷ record other {
-        seat = record (other.seat) { number = 1; blocks = record (other.seat.blocks) { owned = record { block = 2; area = Data; filled = true; fenced = true } ∷ [] } };
-        made = 0;
-        parts = 1 ∷ [];
-      } ∷ [];
-      owner = λ block. if block == 2 then OwnedBy 1 else c.owner block;
-    }
+racing = with_map (with_map (preparing image_a fenced 1 2 187) 0 no_blocks_mapped) 1 no_blocks_mapped
 
 -- the entry of virtual block 0 at block 1, and at block 2, with 63 bytes past the end
 abbrev pub to_first : ℕ
@@ -260,14 +249,22 @@ WriteEnds =
     × (MayAdd (view_of won.views 0).ghost (view_of won.views 0).seat (record first_call { reply = Wrote 2 }) → ⊥)
     × (MayAdd (view_of won.views 0).ghost (view_of won.views 0).seat (record first_call { position = 2 }) → ⊥)
 
--- seat 0 collects: it finds the tail's slot empty, seals the block, and takes blocks 4 and 5; the stores and marks are left out
+-- seat 0 collects: it finds the tail's slot empty, seals the block, takes blocks 4 and 5, and fills them
 abbrev pub sealed : Core
 sealed = stepping image_a (stepping image_a written 0 (Load (Image 28)) 2 (Begins Collect [] ∷ []) []) 0 (Exchange (Image 28) 0 3) 2 [] []
 
+-- an empty log block at position 1, and the snapshot there: it links to block 4 and has one run, of block 1
+abbrev pub log_words : List ℕ
+log_words = 0 ∷ 4611686018427387905 ∷ replicate 6 0
+
+abbrev pub snapshot_words : List ℕ
+snapshot_words = 4 ∷ 9223372036854775809 ∷ 281474976710657 ∷ 262145 ∷ replicate 4 0
+
 abbrev pub linking : Core
 linking =
-    stepping image_a (stepping image_a sealed 0 (SetBits (Map 0) 48) 2 [] [])
-    0 Fence 2 (SetsWord 0 1 (2 ^ 62 + 1) ∷ SetsWord 1 0 4 ∷ SetsWord 1 1 (2 ^ 63 + 1) ∷ SetsWord 1 2 (2 ^ 48 + 1) ∷ SetsWord 1 3 262145 ∷ CountsFilled 0 ∷ CountsFilled 1 ∷ []) []
+    stepping image_a
+    (marking image_a (marking image_a (storing image_a (storing image_a (stepping image_a sealed 0 (SetBits (Map 0) 48) 2 [] []) 0 0 4 0 log_words) 0 1 5 0 snapshot_words) 0 4 8) 0 5 8)
+    0 Fence 2 (CountsFilled 0 ∷ CountsFilled 1 ∷ []) []
 
 abbrev pub linked : Core
 linked = stepping image_a linking 0 (Exchange (Image 24) 0 4) 2 [] []
@@ -435,7 +432,7 @@ abbrev pub SyncEnds : Type 0
 SyncEnds =
     (walked_trail image_a syncing (view_of syncing.views 0).seat ≡ record { place = 27; word = to_first } ∷ [])
     × ((view_of slot_marked.views 0).ghost.marks ≡ record { word = 3; value = 4294967299 } ∷ record { word = 27; value = to_first } ∷ [])
-    × (slot_marked.memory.notes ≡ record { seat = 0; word = 3; time = 9 } ∷ record { seat = 0; word = 27; time = 9 } ∷ [])
+    × (slot_marked.memory.notes ≡ record { seat = 0; word = 3; time = 17 } ∷ record { seat = 0; word = 27; time = 17 } ∷ [])
     × MayFence (walked_trail image_a slot_marked (view_of slot_marked.views 0).seat) (view_of slot_marked.views 0).ghost (view_of slot_marked.views 0).seat
     × (MayFence (walked_trail image_a head_marked (view_of head_marked.views 0).seat) (view_of head_marked.views 0).ghost (view_of head_marked.views 0).seat → ⊥)
     × ((view_of slot_marked.views 0).seat.calling.sync_to ≡ None)
