@@ -13,3 +13,4 @@ pub mod RowsWorks
 pub mod RowsRefused
 pub mod RowsWrong
 pub mod RowsGaps
+pub mod RowsMay

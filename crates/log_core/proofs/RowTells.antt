@@ -8,7 +8,7 @@ use Rattle.log_entry.specs.declared.calls.WriteRefusal.TheVariants.{NoSpace}
 use Rattle.log_entry.specs.declared.shapes.Area.{Area}
 use Rattle.log_entry.specs.declared.shapes.Area.TheVariants.{Data}
 use Rattle.seat_parts.specs.declared.keeps.Task.{Task}
-use Rattle.seat_parts.specs.declared.keeps.Task.TheVariants.{Pread}
+use Rattle.seat_parts.specs.declared.keeps.Task.TheVariants.{Pread, Sync}
 use Rattle.log_core.specs.Views.{HeadPut, Stored}
 
 abbrev pub is_some : Option ℕ → Bool
@@ -77,3 +77,7 @@ first_number (number ∷ numbers) = number
 abbrev pub first_byte : Reply → ℕ
 first_byte (Bytes bytes) = first_number bytes
 first_byte _ = 0
+
+abbrev pub is_sync : Task → Bool
+is_sync Sync = true
+is_sync _ = false

@@ -29,3 +29,4 @@ pub mod Laws
 pub mod Samples
 pub mod Rows
 pub mod Refused
+pub mod Accepted

@@ -2,6 +2,7 @@
 
 ghost use Rattle.log_core.specs.Rows.{JustMade, PinsInThreeSteps, ScanSeesPins, ComesToTail, BitsTaken, FenceFollows, SlotWon, SlotLost, WriteEnds, LinkWon, LinkLost, HeadWon, HeadLost, KeptUntilUnpinned, BitsCleared, BitsNotCleared, CollectEnds, SyncEnds, FilesByPosition, EarlyFiles, WalkedTrail, LacksBlocks, EntryTakenIn, ReadLays, BaseWords, SnapshotRead, QuietCalls, RepliesFit};
 ghost use Rattle.log_core.specs.Refused.{OtherEntryPossible, HeadSkips, LogHasMore, BitWithoutOwner, BlockOnTwoLists, ChainBlockFree, OtherContentPossible, PinOfAnother, ViewOfAnother, StoredNotPresent, ReplacedStillNamed, RecordOfNoWrite, SyncedMayBeLost, NamedTwice, SnapshotNamesMore, WriteOfNoSeat};
+ghost use Rattle.log_core.specs.Accepted.{PinMayBeStored, WordMayBeLoaded, WordMayBeMarked, EntryMayBePut};
 
 /// Worked states and steps of small images: what each comes to.
 pub fn law_rows()
@@ -53,4 +54,12 @@ pub fn law_refused()
     ensures named_twice { NamedTwice }
     ensures snapshot_names_more { SnapshotNamesMore }
     ensures write_of_no_seat { WriteOfNoSeat }
+{}
+
+/// Conditions of steps, and clauses that hold of states that runs come to.
+pub fn law_accepted()
+    ensures pin_may_be_stored { PinMayBeStored }
+    ensures word_may_be_loaded { WordMayBeLoaded }
+    ensures word_may_be_marked { WordMayBeMarked }
+    ensures entry_may_be_put { EntryMayBePut }
 {}

@@ -1,0 +1,59 @@
+-- States that runs come to: the conditions of their steps, and the clauses that hold of them.
+use Rattle.std.specs.Prelude.{ℕ, Bool, true, false, List, [], ◌∷◌, replicate}
+use Rattle.log_entry.specs.declared.shapes.Area.TheVariants.{Data}
+use Rattle.seat_state.specs.Seats.{Seat}
+use Rattle.log_core.specs.Views.{view_of}
+use Rattle.log_core.specs.Cores.{Core, is_named, generation_at}
+use Rattle.log_core.specs.Files.{entries}
+use Rattle.log_core.specs.May.{MayStoreOwnPin, MayLoadImageWord, MayStoreWord, MayMark, MayCommit, walked_trail}
+use Rattle.log_core.specs.Samples.{image_a}
+use Rattle.log_core.specs.Rows.{head_loaded, pinned, taken_by_one, stored_words, racing, syncing, head_marked, to_first, to_second}
+use Rattle.log_core.specs.Refused.{seat_zero}
+
+-- a pin word gets 0 or the generation of the head found last, and no other; while a sync has marks it gets nothing
+abbrev pub PinMayBeStored : Type 0
+PinMayBeStored =
+    MayStoreOwnPin (seat_zero head_loaded) [] 1
+    × MayStoreOwnPin (seat_zero pinned) [] 0
+    × (MayStoreOwnPin (seat_zero head_loaded) [] 2 → ⊥)
+    × (MayStoreOwnPin (seat_zero head_marked) (view_of head_marked.views 0).ghost.marks 0 → ⊥)
+
+-- with a valid pin a word of a block that the pinned generation names may be loaded, and no other word
+abbrev pub named_in : Core → Seat → ℕ → Bool
+named_in c s block = is_named image_a c.logs (entries image_a c.history) (generation_at image_a c.generations s.hold.generation) block
+
+abbrev pub WordMayBeLoaded : Type 0
+WordMayBeLoaded =
+    MayLoadImageWord (seat_zero pinned) (λ block. named_in pinned (seat_zero pinned) block) 25
+    × (MayLoadImageWord (seat_zero pinned) (λ block. named_in pinned (seat_zero pinned) block) 8 → ⊥)
+    × (MayLoadImageWord (seat_zero head_loaded) (λ block. named_in head_loaded (seat_zero head_loaded) block) 25 → ⊥)
+
+-- a word of an owned block may be stored and marked; in a sync with a valid pin the head and a used slot may be marked, and no empty one
+abbrev pub WordMayBeMarked : Type 0
+WordMayBeMarked =
+    MayStoreWord (seat_zero taken_by_one) 8 170
+    × (MayStoreWord (seat_zero taken_by_one) 16 170 → ⊥)
+    × MayMark (walked_trail image_a stored_words (seat_zero stored_words)) (view_of stored_words.views 0).ghost (seat_zero stored_words) 8
+    × (MayMark (walked_trail image_a stored_words (seat_zero stored_words)) (view_of stored_words.views 0).ghost (seat_zero stored_words) 3 → ⊥)
+    × MayMark (walked_trail image_a syncing (seat_zero syncing)) (view_of syncing.views 0).ghost (seat_zero syncing) 3
+    × MayMark (walked_trail image_a syncing (seat_zero syncing)) (view_of syncing.views 0).ghost (seat_zero syncing) 27
+    × (MayMark (walked_trail image_a syncing (seat_zero syncing)) (view_of syncing.views 0).ghost (seat_zero syncing) 28 → ⊥)
+
+-- the seat with another content of its block, and with the block not fenced
+abbrev pub writer_of : List ℕ → Seat
+writer_of words = record (seat_zero racing) { blocks = record ((seat_zero racing).blocks) { contents = words } }
+
+abbrev pub unfenced_writer : Seat
+unfenced_writer = record (seat_zero racing) { blocks = record ((seat_zero racing).blocks) { owned = record { block = 1; area = Data; filled = true; fenced = false } ∷ [] } }
+
+-- the entry of the write may be put in at the tail's slot; not with another byte, nor with a byte past the end, with the block not fenced,
+-- with another seat's block, with another size, or at another slot
+abbrev pub EntryMayBePut : Type 0
+EntryMayBePut =
+    MayCommit image_a [] (seat_zero racing) 27 to_first
+    × (MayCommit image_a [] (writer_of (171 ∷ replicate 7 0)) 27 to_first → ⊥)
+    × (MayCommit image_a [] (writer_of (426 ∷ replicate 7 0)) 27 to_first → ⊥)
+    × (MayCommit image_a [] unfenced_writer 27 to_first → ⊥)
+    × (MayCommit image_a [] (seat_zero racing) 27 to_second → ⊥)
+    × (MayCommit image_a [] (seat_zero racing) 27 272678883950593 → ⊥)
+    × (MayCommit image_a [] (seat_zero racing) 28 to_first → ⊥)
