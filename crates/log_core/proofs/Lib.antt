@@ -14,3 +14,6 @@ pub mod RowsRefused
 pub mod RowsWrong
 pub mod RowsGaps
 pub mod RowsMay
+pub mod RowsOrder
+pub mod RowsViews
+pub mod RowsRecords

@@ -81,3 +81,7 @@ first_byte _ = 0
 abbrev pub is_sync : Task → Bool
 is_sync Sync = true
 is_sync _ = false
+
+abbrev pub is_written : Reply → Bool
+is_written (Wrote count) = true
+is_written _ = false

@@ -54,7 +54,7 @@ slot_sure : (k : ℕ) → k < 1 → 0 + k < 1 → IsCertain (cell synced.memory 
 slot_sure zero less before = record { present = refl; before = λ j from to. absurd (omega (arith, from, to)) }
 slot_sure (suc k) less before = absurd (omega (arith, less))
 
-is_synced : IsSynced small_shape (λ word. cell synced.memory word) synced.generations synced.logs 0 1
+pub is_synced : IsSynced small_shape (λ word. cell synced.memory word) synced.generations synced.logs 0 1
 is_synced zero zero from inside cut number_inside = record { slots = slot_sure; link = λ some. absurd (some refl) }
 is_synced zero (suc number) from inside cut number_inside = absurd (omega (arith, number_inside))
 is_synced (suc place) number from inside cut number_inside = absurd (omega (arith, inside))

@@ -2,13 +2,15 @@
 use Rattle.std.specs.Prelude.{ℕ, Bool, true, false, List, [], ◌∷◌, replicate}
 use Rattle.log_entry.specs.declared.shapes.Area.TheVariants.{Data}
 use Rattle.seat_state.specs.Seats.{Seat}
+use Rattle.persistence.specs.Memory.{cell}
 use Rattle.log_core.specs.Views.{view_of}
 use Rattle.log_core.specs.Cores.{Core, is_named, generation_at}
 use Rattle.log_core.specs.Files.{entries}
 use Rattle.log_core.specs.May.{MayStoreOwnPin, MayLoadImageWord, MayStoreWord, MayMark, MayCommit, walked_trail}
+use Rattle.log_core.specs.Records.{MarksFit}
 use Rattle.log_core.specs.Samples.{image_a}
-use Rattle.log_core.specs.Rows.{head_loaded, pinned, taken_by_one, stored_words, racing, syncing, head_marked, to_first, to_second}
-use Rattle.log_core.specs.Refused.{seat_zero}
+use Rattle.log_core.specs.Rows.{head_loaded, pinned, taken_by_one, stored_words, racing, syncing, head_marked, slot_marked, synced, collected, scan_clear, to_first, to_second}
+use Rattle.log_core.specs.Refused.{seat_zero, OrderOf, PinsOf, ViewsOf, OwnedOf, GivingsOf, RecordsOf, SyncsOf}
 
 -- a pin word gets 0 or the generation of the head found last, and no other; while a sync has marks it gets nothing
 abbrev pub PinMayBeStored : Type 0
@@ -57,3 +59,31 @@ EntryMayBePut =
     × (MayCommit image_a [] (seat_zero racing) 27 to_second → ⊥)
     × (MayCommit image_a [] (seat_zero racing) 27 272678883950593 → ⊥)
     × (MayCommit image_a [] (seat_zero racing) 28 to_first → ⊥)
+
+-- in the middle of a collection that has put its head in place, while a seat with a pin of the first generation writes: the clauses hold
+abbrev pub OrderStands : Type 0
+OrderStands = OrderOf collected
+
+abbrev pub PinsStand : Type 0
+PinsStand = PinsOf collected
+
+abbrev pub ViewsStand : Type 0
+ViewsStand = ViewsOf collected
+
+abbrev pub OwnedStands : Type 0
+OwnedStands = OwnedOf collected
+
+abbrev pub RecordsStand : Type 0
+RecordsStand = RecordsOf collected
+
+-- the blocks that it replaced: before its head outlasts a crash, and after a scan that found no pin
+abbrev pub GivingsStand : Type 0
+GivingsStand = GivingsOf collected × GivingsOf scan_clear
+
+-- in the middle of a sync, and after its fence; the marks of the two seats are those of the memory
+abbrev pub SyncsStand : Type 0
+SyncsStand =
+    SyncsOf slot_marked
+    × SyncsOf synced
+    × MarksFit (λ word. cell slot_marked.memory word) slot_marked.memory.past slot_marked.memory.notes 0 (view_of slot_marked.views 0)
+    × MarksFit (λ word. cell slot_marked.memory word) slot_marked.memory.past slot_marked.memory.notes 1 (view_of slot_marked.views 1)

@@ -2,7 +2,7 @@
 
 ghost use Rattle.log_core.specs.Rows.{JustMade, PinsInThreeSteps, ScanSeesPins, ComesToTail, BitsTaken, FenceFollows, SlotWon, SlotLost, WriteEnds, LinkWon, LinkLost, HeadWon, HeadLost, KeptUntilUnpinned, BitsCleared, BitsNotCleared, CollectEnds, SyncEnds, FilesByPosition, EarlyFiles, WalkedTrail, LacksBlocks, EntryTakenIn, ReadLays, BaseWords, SnapshotRead, QuietCalls, RepliesFit};
 ghost use Rattle.log_core.specs.Refused.{OtherEntryPossible, HeadSkips, LogHasMore, BitWithoutOwner, BlockOnTwoLists, ChainBlockFree, OtherContentPossible, PinOfAnother, ViewOfAnother, StoredNotPresent, ReplacedStillNamed, RecordOfNoWrite, SyncedMayBeLost, NamedTwice, SnapshotNamesMore, WriteOfNoSeat};
-ghost use Rattle.log_core.specs.Accepted.{PinMayBeStored, WordMayBeLoaded, WordMayBeMarked, EntryMayBePut};
+ghost use Rattle.log_core.specs.Accepted.{PinMayBeStored, WordMayBeLoaded, WordMayBeMarked, EntryMayBePut, OrderStands, PinsStand, ViewsStand, OwnedStands, GivingsStand, RecordsStand, SyncsStand};
 
 /// Worked states and steps of small images: what each comes to.
 pub fn law_rows()
@@ -62,4 +62,11 @@ pub fn law_accepted()
     ensures word_may_be_loaded { WordMayBeLoaded }
     ensures word_may_be_marked { WordMayBeMarked }
     ensures entry_may_be_put { EntryMayBePut }
+    ensures order_stands { OrderStands }
+    ensures pins_stand { PinsStand }
+    ensures views_stand { ViewsStand }
+    ensures owned_stands { OwnedStands }
+    ensures givings_stand { GivingsStand }
+    ensures records_stand { RecordsStand }
+    ensures syncs_stand { SyncsStand }
 {}

@@ -1,4 +1,7 @@
 use Rattle.log_core.proofs.RowsMay.{pin_may_be_stored, word_may_be_loaded, word_may_be_marked, entry_may_be_put}
+use Rattle.log_core.proofs.RowsOrder.{order_stands, pins_stand}
+use Rattle.log_core.proofs.RowsViews.{views_stand, owned_stands, givings_stand}
+use Rattle.log_core.proofs.RowsRecords.{records_stand, syncs_stand}
 use Rattle.log_core.proofs.rows.law_accepted.Goals as goal
 
 pub returns : goal.returns
@@ -7,4 +10,11 @@ returns c = record {
   word_may_be_loaded = word_may_be_loaded;
   word_may_be_marked = word_may_be_marked;
   entry_may_be_put = entry_may_be_put;
+  order_stands = order_stands;
+  pins_stand = pins_stand;
+  views_stand = views_stand;
+  owned_stands = owned_stands;
+  givings_stand = givings_stand;
+  records_stand = records_stand;
+  syncs_stand = syncs_stand;
 }
