@@ -17,3 +17,5 @@ pub mod RowsMay
 pub mod RowsOrder
 pub mod RowsViews
 pub mod RowsRecords
+pub mod RowsContents
+pub mod RowsOwners

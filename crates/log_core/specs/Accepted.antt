@@ -10,7 +10,7 @@ use Rattle.log_core.specs.May.{MayStoreOwnPin, MayLoadImageWord, MayStoreWord, M
 use Rattle.log_core.specs.Records.{MarksFit}
 use Rattle.log_core.specs.Samples.{image_a}
 use Rattle.log_core.specs.Rows.{head_loaded, pinned, taken_by_one, stored_words, racing, syncing, head_marked, slot_marked, synced, collected, scan_clear, to_first, to_second}
-use Rattle.log_core.specs.Refused.{seat_zero, OrderOf, PinsOf, ViewsOf, OwnedOf, GivingsOf, RecordsOf, SyncsOf}
+use Rattle.log_core.specs.Refused.{seat_zero, OrderOf, OwnersOf, ContentsOf, PinsOf, ViewsOf, OwnedOf, GivingsOf, RecordsOf, SyncsOf}
 
 -- a pin word gets 0 or the generation of the head found last, and no other; while a sync has marks it gets nothing
 abbrev pub PinMayBeStored : Type 0
@@ -63,6 +63,12 @@ EntryMayBePut =
 -- in the middle of a collection that has put its head in place, while a seat with a pin of the first generation writes: the clauses hold
 abbrev pub OrderStands : Type 0
 OrderStands = OrderOf collected
+
+abbrev pub OwnersStand : Type 0
+OwnersStand = OwnersOf collected
+
+abbrev pub ContentsStand : Type 0
+ContentsStand = ContentsOf collected
 
 abbrev pub PinsStand : Type 0
 PinsStand = PinsOf collected

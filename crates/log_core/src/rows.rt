@@ -2,7 +2,7 @@
 
 ghost use Rattle.log_core.specs.Rows.{JustMade, PinsInThreeSteps, ScanSeesPins, ComesToTail, BitsTaken, FenceFollows, SlotWon, SlotLost, WriteEnds, LinkWon, LinkLost, HeadWon, HeadLost, KeptUntilUnpinned, BitsCleared, BitsNotCleared, CollectEnds, SyncEnds, FilesByPosition, EarlyFiles, WalkedTrail, LacksBlocks, EntryTakenIn, ReadLays, BaseWords, SnapshotRead, QuietCalls, RepliesFit};
 ghost use Rattle.log_core.specs.Refused.{OtherEntryPossible, HeadSkips, LogHasMore, BitWithoutOwner, BlockOnTwoLists, ChainBlockFree, OtherContentPossible, PinOfAnother, ViewOfAnother, StoredNotPresent, ReplacedStillNamed, RecordOfNoWrite, SyncedMayBeLost, NamedTwice, SnapshotNamesMore, WriteOfNoSeat};
-ghost use Rattle.log_core.specs.Accepted.{PinMayBeStored, WordMayBeLoaded, WordMayBeMarked, EntryMayBePut, OrderStands, PinsStand, ViewsStand, OwnedStands, GivingsStand, RecordsStand, SyncsStand};
+ghost use Rattle.log_core.specs.Accepted.{PinMayBeStored, WordMayBeLoaded, WordMayBeMarked, EntryMayBePut, OrderStands, PinsStand, ViewsStand, OwnedStands, GivingsStand, RecordsStand, SyncsStand, ContentsStand, OwnersStand};
 
 /// Worked states and steps of small images: what each comes to.
 pub fn law_rows()
@@ -69,4 +69,6 @@ pub fn law_accepted()
     ensures givings_stand { GivingsStand }
     ensures records_stand { RecordsStand }
     ensures syncs_stand { SyncsStand }
+    ensures contents_stand { ContentsStand }
+    ensures owners_stand { OwnersStand }
 {}

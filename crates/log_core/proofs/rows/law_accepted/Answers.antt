@@ -2,6 +2,8 @@ use Rattle.log_core.proofs.RowsMay.{pin_may_be_stored, word_may_be_loaded, word_
 use Rattle.log_core.proofs.RowsOrder.{order_stands, pins_stand}
 use Rattle.log_core.proofs.RowsViews.{views_stand, owned_stands, givings_stand}
 use Rattle.log_core.proofs.RowsRecords.{records_stand, syncs_stand}
+use Rattle.log_core.proofs.RowsContents.{contents_stand}
+use Rattle.log_core.proofs.RowsOwners.{owners_stand}
 use Rattle.log_core.proofs.rows.law_accepted.Goals as goal
 
 pub returns : goal.returns
@@ -17,4 +19,6 @@ returns c = record {
   givings_stand = givings_stand;
   records_stand = records_stand;
   syncs_stand = syncs_stand;
+  contents_stand = contents_stand;
+  owners_stand = owners_stand;
 }
