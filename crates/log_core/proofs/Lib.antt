@@ -19,3 +19,4 @@ pub mod RowsViews
 pub mod RowsRecords
 pub mod RowsContents
 pub mod RowsOwners
+pub mod RowsRun

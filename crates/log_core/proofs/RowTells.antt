@@ -1,6 +1,7 @@
 -- What an equation of two values tells of their parts.
 use Rattle.std.proofs.Common.{◌≡◌, ℕ, Bool, true, false, List, [], ◌∷◌, refl, ap, Option, None, Some}
 use Rattle.std.proofs.lemmas.Bool.{false≢true, true≢false}
+use Rattle.log_entry.specs.declared.calls.Op.{Op}
 use Rattle.log_entry.specs.declared.calls.Reply.{Reply}
 use Rattle.log_entry.specs.declared.calls.Reply.TheVariants.{Wrote, Appended, NotWritten, Bytes, Size, Synced}
 use Rattle.log_entry.specs.declared.calls.WriteRefusal.{WriteRefusal}
@@ -85,3 +86,7 @@ is_sync _ = false
 abbrev pub is_written : Reply → Bool
 is_written (Wrote count) = true
 is_written _ = false
+
+abbrev pub is_op : Option Op → Bool
+is_op None = false
+is_op (Some op) = true

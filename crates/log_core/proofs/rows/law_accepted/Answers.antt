@@ -4,6 +4,7 @@ use Rattle.log_core.proofs.RowsViews.{views_stand, owned_stands, givings_stand}
 use Rattle.log_core.proofs.RowsRecords.{records_stand, syncs_stand}
 use Rattle.log_core.proofs.RowsContents.{contents_stand}
 use Rattle.log_core.proofs.RowsOwners.{owners_stand}
+use Rattle.log_core.proofs.RowsRun.{pin_runs, write_fits, views_join, views_split}
 use Rattle.log_core.proofs.rows.law_accepted.Goals as goal
 
 pub returns : goal.returns
@@ -21,4 +22,8 @@ returns c = record {
   syncs_stand = syncs_stand;
   contents_stand = contents_stand;
   owners_stand = owners_stand;
+  pin_runs = pin_runs;
+  write_fits = write_fits;
+  views_join = views_join;
+  views_split = views_split;
 }
