@@ -20,3 +20,4 @@ pub mod RowsRecords
 pub mod RowsContents
 pub mod RowsOwners
 pub mod RowsRun
+pub mod RowsLate

@@ -1,23 +1,28 @@
 -- States that runs come to: the conditions of their steps, and the clauses that hold of them.
-use Rattle.std.specs.Prelude.{ℕ, ◌≡◌, ◌==◌, if◌then◌else◌, Bool, true, false, List, [], ◌∷◌, replicate}
+use Rattle.std.specs.Prelude.{ℕ, ◌≡◌, ◌==◌, if◌then◌else◌, Bool, true, false, List, [], ◌∷◌, length, map, replicate, Some, None}
 use Rattle.log_entry.specs.declared.shapes.Area.TheVariants.{Data}
+use Rattle.log_entry.specs.declared.calls.Call.{Call}
+use Rattle.log_entry.specs.declared.calls.Op.TheVariants.{Pwrite as PwriteOp, Size as SizeOp, Sync as SyncOp}
+use Rattle.log_entry.specs.declared.calls.Reply.TheVariants.{Wrote, Size as FileSize, Synced}
 use Rattle.pmem_words.specs.declared.asks.Place.TheVariants.{Image, Pin}
-use Rattle.pmem_words.specs.declared.asks.Ask.TheVariants.{Load, Store, Exchange}
-use Rattle.seat_parts.specs.declared.keeps.Task.TheVariants.{Pwrite}
+use Rattle.pmem_words.specs.declared.asks.Ask.TheVariants.{Load, Store, Exchange, Mark, Fence}
+use Rattle.seat_parts.specs.declared.keeps.Task.TheVariants.{Pwrite, Size, Sync}
 use Rattle.seat_state.specs.Seats.{Seat, no_calling}
 use Rattle.persistence.specs.Memory.{cell}
 use Rattle.log_core.specs.Views.{View, view_of, new_view, no_ghost}
-use Rattle.log_core.specs.Origin.{Free, LeftTo}
-use Rattle.log_core.specs.Cores.{Core, first_core, is_named, generation_at}
-use Rattle.log_core.specs.Files.{entries}
-use Rattle.log_core.specs.Works.{Begins}
+use Rattle.log_core.specs.Origin.{Free, InChain, LeftTo}
+use Rattle.log_core.specs.Cores.{Core, IsKept, first_core, head_floor, named, is_named, generation_at}
+use Rattle.log_core.specs.Files.{entries, file_at, map_at}
+use Rattle.log_core.specs.Works.{Begins, StartsFromSnapshot, ReadsRun, EndsReading, TakesEntry, TakesSeal, Follows}
 use Rattle.log_core.specs.Steps.{Step, Splits, Joins}
 use Rattle.log_core.specs.After.{after}
 use Rattle.log_core.specs.Runs.{Fits, Allowed, MayJoin, MaySplit, IsRun, end}
 use Rattle.log_core.specs.May.{MayStoreOwnPin, MayLoadImageWord, MayStoreWord, MayMark, MayCommit, walked_trail}
+use Rattle.log_core.specs.Answers.{MayAdd}
+use Rattle.log_core.specs.Walks.{HasRead}
 use Rattle.log_core.specs.Records.{MarksFit}
-use Rattle.log_core.specs.Samples.{small, image_a, step_of}
-use Rattle.log_core.specs.Rows.{head_loaded, pin_stored, pinned, taken_by_one, stored_words, racing, syncing, head_marked, slot_marked, synced, collected, scan_clear, to_first, to_second, first_call}
+use Rattle.log_core.specs.Samples.{small, image_a, step_of, stepping, with_map}
+use Rattle.log_core.specs.Rows.{head_loaded, pin_stored, pinned, taken_by_one, stored_words, racing, syncing, head_marked, slot_marked, synced, collected, scan_held, scan_clear, no_blocks_mapped, to_first, to_second, first_call}
 use Rattle.log_core.specs.Refused.{one_made, seat_zero, OrderOf, OwnersOf, ContentsOf, PinsOf, ViewsOf, OwnedOf, GivingsOf, RecordsOf, SyncsOf}
 
 -- a pin word gets 0 or the generation of the head found last, and no other; while a sync has marks it gets nothing
@@ -167,3 +172,99 @@ ViewsSplit =
     × ((after one_made (first_core one_made) (Splits 0)).began ≡ 0 ∷ 0 ∷ [])
     × ((view_of (after one_made (first_core one_made) (Splits 0)).views 1).parts ≡ 1 ∷ [])
     × ((view_of (after one_made (first_core one_made) (Splits 0)).views 1).seat.number ≡ 1)
+
+-- seat 1, with its pin of the first generation, finds the entry, the seal and the link, and puts its own entry in after the collection
+abbrev pub late_found : Core
+late_found =
+    stepping image_a
+    (stepping image_a
+    (stepping image_a (stepping image_a scan_held 1 (Exchange (Image 27) 0 to_second) 1 [] (TakesEntry ∷ [])) 1 (Load (Image 28)) 1 [] (TakesSeal ∷ []))
+    1 (Load (Image 24)) 1 [] (Follows ∷ []))
+    1 (Load (Image 35)) 1 [] []
+
+abbrev pub late_call : Call
+late_call = record { position = 2; seat = 1; number = 1; op = PwriteOp 0 (187 ∷ []); reply = Wrote 1 }
+
+abbrev pub late_step : Step
+late_step = step_of image_a late_found 1 (Exchange (Image 35) 0 to_second) 1 [] [] (late_call ∷ [])
+
+abbrev pub late : Core
+late = after image_a late_found late_step
+
+-- its write is the history's second, and both generations name its block
+abbrev pub LateWrite : Type 0
+LateWrite =
+    ((view_of late_found.views 1).seat.walk.position ≡ 1)
+    × ((view_of late_found.views 1).seat.walk.tail_block ≡ 4)
+    × ((view_of late_found.views 1).seat.walk.tail_slot ≡ 3)
+    × ((view_of late_found.views 1).seat.walk.tail_base ≡ 1)
+    × ((view_of late_found.views 1).seat.walk.at_tail ≡ true)
+    × ((view_of late_found.views 1).seat.walk.map ≡ Some 1 ∷ None ∷ None ∷ None ∷ [])
+    × Fits image_a late_found late_step
+    × (length late.history ≡ 2)
+    × (file_at image_a late.history 2 ≡ 187 ∷ [])
+    × (map_at image_a (entries image_a late.history) 2 0 ≡ Some 2)
+    × (late.logs ≡ record { block = 3; base = 0; slots = to_first ∷ 3 ∷ [] } ∷ record { block = 4; base = 1; slots = to_second ∷ [] } ∷ [])
+    × (named image_a late.logs (entries image_a late.history) (generation_at image_a late.generations 1) ≡ 3 ∷ 4 ∷ 1 ∷ 2 ∷ [])
+    × (named image_a late.logs (entries image_a late.history) (generation_at image_a late.generations 2) ≡ 5 ∷ 4 ∷ 1 ∷ 2 ∷ [])
+    × (map late.owner (1 ∷ 2 ∷ 3 ∷ 4 ∷ 5 ∷ []) ≡ InChain ∷ InChain ∷ LeftTo 0 ∷ InChain ∷ InChain ∷ [])
+    × ((view_of late.views 1).done ≡ late_call ∷ [])
+    × ((view_of late.views 1).seat.walk.map ≡ Some 2 ∷ None ∷ None ∷ None ∷ [])
+
+-- it syncs by the chain of its pin: the head, the slots of both log blocks, the seal and the link
+abbrev pub late_marked : Core
+late_marked =
+    stepping image_a
+    (stepping image_a
+    (stepping image_a (stepping image_a (stepping image_a (stepping image_a late 1 (Load (Image 36)) 2 (Begins Sync [] ∷ []) []) 1 (Mark 3) 2 [] []) 1 (Mark 27) 2 [] []) 1 (Mark 28) 2 [] [])
+    1 (Mark 24) 2 [] [])
+    1 (Mark 35) 2 [] []
+
+abbrev pub late_synced : Core
+late_synced = after image_a late_marked (step_of image_a late_marked 1 Fence 2 [] [] (record { position = 2; seat = 1; number = 2; op = SyncOp; reply = Synced 2 } ∷ []))
+
+abbrev pub LateSync : Type 0
+LateSync =
+    (walked_trail image_a late_marked (view_of late_marked.views 1).seat
+      ≡ record { place = 27; word = to_first } ∷ record { place = 28; word = 3 } ∷ record { place = 24; word = 4 } ∷ record { place = 35; word = to_second } ∷ [])
+    × (late_synced.synced ≡ 2)
+    × SyncsOf late_synced
+    × (SyncsOf (record late_marked { synced = 2 }) → ⊥)
+
+-- then it pins the second generation, and reads its snapshot and the log after it; the map has four virtual blocks
+abbrev pub late_reading : Core
+late_reading =
+    stepping image_a
+    (with_map
+    (stepping image_a
+    (stepping image_a
+    (stepping image_a (stepping image_a (stepping image_a late_synced 1 (Load (Image 3)) 3 (Begins Size [] ∷ []) []) 1 (Store (Pin 1) 2) 3 [] []) 1 (Load (Image 3)) 3 [] [])
+    1 (Load (Image 41)) 3 [] [])
+    1 (Load (Image 42)) 3 [] (StartsFromSnapshot ∷ []))
+    1 no_blocks_mapped)
+    1 (Load (Image 43)) 3 [] (ReadsRun ∷ [])
+
+abbrev pub late_read : Core
+late_read =
+    stepping image_a (stepping image_a (stepping image_a late_reading 1 (Load (Image 44)) 3 [] []) 1 (Load (Image 40)) 3 [] []) 1 (Load (Image 33)) 3 [] (EndsReading ∷ [])
+
+abbrev pub late_walked : Core
+late_walked = stepping image_a (stepping image_a late_read 1 (Load (Image 35)) 3 [] (TakesEntry ∷ [])) 1 (Load (Image 36)) 3 [] []
+
+abbrev pub LateWalk : Type 0
+LateWalk =
+    ((view_of late_reading.views 1).seat.hold ≡ record { head = 8589934597; pin = 2; generation = 2; valid = true })
+    × ((view_of late_reading.views 1).seat.walk.reading ≡ true)
+    × ((view_of late_reading.views 1).seat.walk.ready ≡ false)
+    × ((view_of late_reading.views 1).seat.walk.map ≡ Some 1 ∷ None ∷ None ∷ None ∷ [])
+    × HasRead late_reading.recorded (generation_at image_a late_reading.generations 2) (view_of late_reading.views 1).seat.walk
+    × ((view_of late_read.views 1).seat.walk.tail_block ≡ 4)
+    × ((view_of late_read.views 1).seat.walk.position ≡ 1)
+    × ((view_of late_read.views 1).seat.walk.size ≡ 1)
+    × ((view_of late_read.views 1).seat.walk.snapshot_base ≡ 1)
+    × ((view_of late_walked.views 1).seat.walk.position ≡ 2)
+    × ((view_of late_walked.views 1).seat.walk.map ≡ Some 2 ∷ None ∷ None ∷ None ∷ [])
+    × ((view_of late_walked.views 1).seat.walk.at_tail ≡ true)
+    × MayAdd (view_of late_walked.views 1).ghost (view_of late_walked.views 1).seat (record { position = 2; seat = 1; number = 3; op = SizeOp; reply = FileSize 1 })
+    × IsKept image_a late_synced.generations (head_floor late_synced.memory) late_synced.views 0
+    × (IsKept image_a late_walked.generations (head_floor late_walked.memory) late_walked.views 0 → ⊥)

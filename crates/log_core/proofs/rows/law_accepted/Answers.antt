@@ -5,6 +5,7 @@ use Rattle.log_core.proofs.RowsRecords.{records_stand, syncs_stand}
 use Rattle.log_core.proofs.RowsContents.{contents_stand}
 use Rattle.log_core.proofs.RowsOwners.{owners_stand}
 use Rattle.log_core.proofs.RowsRun.{pin_runs, write_fits, views_join, views_split}
+use Rattle.log_core.proofs.RowsLate.{late_write, late_sync, late_walk}
 use Rattle.log_core.proofs.rows.law_accepted.Goals as goal
 
 pub returns : goal.returns
@@ -26,4 +27,7 @@ returns c = record {
   write_fits = write_fits;
   views_join = views_join;
   views_split = views_split;
+  late_write = late_write;
+  late_sync = late_sync;
+  late_walk = late_walk;
 }
