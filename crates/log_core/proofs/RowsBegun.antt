@@ -1,9 +1,8 @@
 -- The first rows: the just-made image, a pin, and a scan.
-use Rattle.std.proofs.Common.{◌≡◌, ◌⊎◌, ◌≤◌, ◌<◌, ℕ, zero, suc, true, refl, inl, inr, arith}
+use Rattle.std.proofs.Common.{◌≡◌, ◌⊎◌, ◌≤◌, ℕ, zero, suc, true, refl, inl, inr, arith}
 use Rattle.std.proofs.lemmas.Bool.{false≢true}
 use Rattle.log_core.specs.Views.{view_of}
 use Rattle.log_core.specs.Cores.{first_core, IsPinned}
-use Rattle.log_core.specs.May.{MayLoadPinWord}
 use Rattle.log_core.specs.Samples.{image_a}
 use Rattle.log_core.specs.Rows.{JustMade, PinsInThreeSteps, ScanSeesPins, ComesToTail}
 

@@ -1,21 +1,18 @@
 -- The clause on contents holds in the middle of a collection, for both generations.
-use Rattle.std.proofs.Common.{◌≡◌, ◌≢◌, ◌⊎◌, ◌≤◌, ◌<◌, ◌+◌, ◌*◌, ◌==◌, ◌++◌, ℕ, zero, suc, Bool, true, false, List, [], ◌∷◌, length, slice_index, refl, sym, ◌∙◌, ap, inl, inr, arith, Option, None, Some}
+use Rattle.std.proofs.Common.{◌≡◌, ◌≤◌, ◌<◌, ◌+◌, ◌*◌, ◌==◌, ℕ, zero, suc, Bool, true, false, List, [], ◌∷◌, length, slice_index, refl, sym, ◌∙◌, ap, inl, inr, arith, Option, None}
 use Rattle.std.proofs.lemmas.Bool.{false≢true, eqb-true}
 use Rattle.std.proofs.lemmas.List.{get_or_past}
 use Rattle.std.specs.Option.{option_or}
 use Rattle.log_entry.specs.WordBytes.{word_bytes}
 use Rattle.log_image.specs.Entries.{direct_meaning}
-use Rattle.log_image.specs.Maps.{block_in}
 use Rattle.log_image.proofs.HoldingLemmas.{names_none}
 use Rattle.persistence.specs.Memory.{cell}
 use Rattle.std.specs.Prelude.{slice_index_or}
 use Rattle.log_core.specs.Entries.{no_entry, entry_by}
 use Rattle.log_core.specs.May.{is_log_entry_by}
 use Rattle.log_core.specs.Origin.{Owner, Free, Header, InChain, OwnedBy, LeftTo}
-use Rattle.log_core.specs.Files.{entries, file_at, map_at, byte_in}
-use Rattle.log_core.specs.Order.{nth_generation}
-use Rattle.log_core.specs.Contents.{IsStillTaken, AreRecorded, EntriesSay, HoldsFileAt, SnapshotHolds, GenerationHolds}
-use Rattle.log_core.specs.Invariant.{KeptIn}
+use Rattle.log_core.specs.Files.{entries, map_at, byte_in}
+use Rattle.log_core.specs.Contents.{IsStillTaken, AreRecorded, EntriesSay, HoldsFileAt}
 use Rattle.log_core.specs.Samples.{image_a, small_shape}
 use Rattle.log_core.specs.Rows.{collected, to_first}
 use Rattle.log_core.specs.Accepted.{ContentsStand}

@@ -1,6 +1,5 @@
 -- Rows of exchanges: of a slot, of a link and of the head, won and lost.
-use Rattle.std.proofs.Common.{◌≡◌, ◌⊎◌, ◌≤◌, ◌<◌, ℕ, zero, suc, Bool, true, false, refl, inl, inr, arith, ap}
-use Rattle.std.proofs.lemmas.Bool.{false≢true}
+use Rattle.std.proofs.Common.{ℕ, refl, arith, ap}
 use Rattle.log_entry.specs.declared.calls.Reply.{Reply}
 use Rattle.log_entry.specs.declared.calls.Reply.TheVariants.{Wrote}
 use Rattle.log_core.specs.Rows.{SlotWon, SlotLost, WriteEnds, LinkWon, LinkLost, HeadWon, HeadLost}

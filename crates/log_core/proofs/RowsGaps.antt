@@ -1,10 +1,9 @@
 -- What a weaker rule would let through: a block that is named twice, a snapshot that names more than the map, a write of no seat.
-use Rattle.std.proofs.Common.{◌≡◌, ◌≢◌, ◌⊎◌, ◌≤◌, ◌<◌, ◌==◌, ◌&&◌, ◌||◌, not, [], ◌∷◌, ℕ, zero, suc, Bool, true, false, refl, inl, inr, arith, ap}
+use Rattle.std.proofs.Common.{◌≡◌, ◌==◌, ◌&&◌, ◌||◌, not, [], ◌∷◌, ℕ, zero, suc, false, refl, arith, ap}
 use Rattle.std.proofs.lemmas.Bool.{false≢true, true≢false}
 use Rattle.std.proofs.lemmas.Bool.Decides.{nat_tests}
 use Rattle.log_image.specs.Image.{is_in_log}
 use Rattle.log_core.specs.May.{is_fenced}
-use Rattle.log_core.specs.Files.{end_of}
 use Rattle.log_core.specs.Views.{view_of}
 use Rattle.log_core.specs.Records.{WritesOnce}
 use Rattle.log_core.specs.Samples.{small_shape}

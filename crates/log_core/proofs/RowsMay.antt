@@ -1,18 +1,17 @@
 -- Rows of conditions of steps.
-use Rattle.std.proofs.Common.{◌≡◌, ◌≢◌, ◌⊎◌, ◌≤◌, ◌<◌, ◌+◌, ◌*◌, ◌==◌, ℕ, zero, suc, Bool, true, false, List, [], ◌∷◌, length, replicate, refl, sym, ◌∙◌, subst, inl, inr, arith, ap, Option, None, Some}
+use Rattle.std.proofs.Common.{◌≡◌, ◌⊎◌, ◌<◌, ◌+◌, ◌*◌, ℕ, zero, suc, List, [], ◌∷◌, length, replicate, refl, sym, ◌∙◌, subst, inl, inr, arith, ap, None, Some}
 use Rattle.std.specs.Prelude.{slice_index, max}
-use Rattle.std.proofs.lemmas.Bool.{false≢true, true≢false}
+use Rattle.std.proofs.lemmas.Bool.{false≢true}
 use Rattle.std.proofs.lemmas.List.{get_or_past}
 use Rattle.log_entry.specs.Legal.{file_after}
 use Rattle.log_entry.specs.WordBytes.{word_bytes}
 use Rattle.log_entry.specs.declared.calls.Op.{Op}
 use Rattle.log_entry.specs.declared.calls.Op.TheVariants.{Pwrite as PwriteOp}
-use Rattle.log_image.specs.Entries.{direct_meaning, names}
+use Rattle.log_image.specs.Entries.{direct_meaning}
 use Rattle.log_image.specs.Maps.{block_in, end_of as entry_end}
 use Rattle.log_image.specs.Image.{is_in_data}
 use Rattle.log_image.proofs.HoldingLemmas.{names_none}
 use Rattle.seat_state.specs.Seats.{Seat}
-use Rattle.log_core.specs.Entries.{has}
 use Rattle.log_core.specs.Views.{Marked, op_in, view_of}
 use Rattle.log_core.specs.Files.{byte_in, file_at, accepted_reply}
 use Rattle.log_core.specs.Works.{shape_of}

@@ -1,19 +1,17 @@
 -- The clauses on order and pins hold in the middle of a collection.
-use Rattle.std.proofs.Common.{◌≡◌, ◌≢◌, ◌≤◌, ◌<◌, ◌+◌, ◌-◌, ℕ, zero, suc, true, false, length, slice_index, refl, inl, inr, arith}
+use Rattle.std.proofs.Common.{◌≡◌, ◌≢◌, ◌≤◌, ◌<◌, ◌+◌, ◌-◌, ℕ, zero, suc, true, length, slice_index, refl, arith}
 use Rattle.std.proofs.lemmas.Bool.{false≢true}
 use Rattle.std.specs.Prelude.{slice_index_or}
 use Rattle.log_entry.specs.Words.{head_word}
 use Rattle.log_entry.specs.declared.layouts.TheConstants.{EMPTY, SEAL}
 use Rattle.persistence.specs.Memory.{cell}
 use Rattle.persistence.specs.Survivors.{value_at}
-use Rattle.log_core.specs.Entries.{no_entry, place_in, head_place}
-use Rattle.log_core.specs.Origin.{first_base, shape}
-use Rattle.log_core.specs.Files.{entries, end_of}
+use Rattle.log_core.specs.Entries.{no_entry, head_place}
+use Rattle.log_core.specs.Files.{entries}
 use Rattle.log_core.specs.Cores.{nth_log, entry_count, is_full}
 use Rattle.log_core.specs.Order.{nth_generation, front_of, HeadsInOrder, GenerationsRise, LogInOrder, LogStands}
 use Rattle.log_core.specs.Pins.{PinHolds}
 use Rattle.log_core.specs.Views.{view_of}
-use Rattle.log_core.specs.Invariant.{KeptIn}
 use Rattle.log_core.specs.Samples.{image_a, small_shape}
 use Rattle.log_core.specs.Rows.{collected}
 use Rattle.log_core.specs.Accepted.{OrderStands, PinsStand}

@@ -1,6 +1,6 @@
 -- The clause on owners holds in the middle of a collection.
-use Rattle.std.proofs.Common.{◌≡◌, ◌≢◌, ◌⊎◌, ◌≤◌, ◌<◌, ◌+◌, ◌/◌, ◌==◌, ◌||◌, nat_lt, not, ℕ, zero, suc, Bool, true, false, List, [], ◌∷◌, refl, sym, ◌∙◌, ap, subst, inl, inr, arith}
-use Rattle.std.proofs.lemmas.Bool.{false≢true, true≢false, eqb-true, ltb-true, cases_lt}
+use Rattle.std.proofs.Common.{◌≡◌, ◌≢◌, ◌⊎◌, ◌≤◌, ◌<◌, ◌/◌, ◌==◌, ◌||◌, nat_lt, not, ℕ, zero, suc, Bool, true, false, List, [], ◌∷◌, refl, sym, ◌∙◌, ap, subst, inl, inr, arith}
+use Rattle.std.proofs.lemmas.Bool.{false≢true, eqb-true, ltb-true, cases_lt}
 use Rattle.std.proofs.lemmas.Bool.Decides.{nat_tests}
 use Rattle.log_image.specs.Image.{is_in_data, is_in_log}
 use Rattle.log_image.specs.Taken.{bit_of}
@@ -9,7 +9,7 @@ use Rattle.log_core.specs.Origin.{Owner, Free, Header, InChain, OwnedBy, LeftTo}
 use Rattle.log_core.specs.Files.{entries}
 use Rattle.log_core.specs.Order.{nth_generation}
 use Rattle.log_core.specs.Cores.{is_named, generation_at, chain_names, data_names}
-use Rattle.log_core.specs.Owners.{bit_for, IsListOf, SeatOwns, NamesOnce}
+use Rattle.log_core.specs.Owners.{bit_for, SeatOwns, NamesOnce}
 use Rattle.log_core.specs.Views.{view_of}
 use Rattle.log_core.specs.Samples.{image_a, small_shape}
 use Rattle.log_core.specs.Rows.{collected}

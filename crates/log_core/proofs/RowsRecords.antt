@@ -1,18 +1,16 @@
 -- The clauses on records and on syncs hold in the middle of a collection, and of a sync.
-use Rattle.std.proofs.Common.{◌≡◌, ◌≢◌, ◌⊎◌, ◌≤◌, ◌<◌, ◌+◌, ◌-◌, ◌==◌, nat_lt, ℕ, zero, suc, Bool, true, false, List, [], ◌∷◌, length, slice_index, refl, sym, subst, ap, inl, inr, arith, Option, None, Some}
-use Rattle.std.proofs.lemmas.Bool.{false≢true, true≢false, ne_eqb}
+use Rattle.std.proofs.Common.{◌≡◌, ◌≤◌, ◌<◌, ◌+◌, ◌-◌, ◌==◌, nat_lt, ℕ, zero, suc, false, slice_index, refl, subst, ap, inl, arith, Option, None, Some}
+use Rattle.std.proofs.lemmas.Bool.{false≢true, true≢false}
 use Rattle.std.specs.List.{AllByRecursion}
 use Rattle.std.proofs.lemmas.Bool.Decides.{nat_tests}
 use Rattle.log_entry.specs.declared.calls.Reply.TheVariants.{Wrote, Synced}
 use Rattle.persistence.specs.Memory.{cell}
-use Rattle.log_core.specs.Views.{View, HeadPut, view_of}
-use Rattle.log_core.specs.Origin.{first_position}
-use Rattle.log_core.specs.Files.{end_of}
+use Rattle.log_core.specs.Views.{HeadPut, view_of}
 use Rattle.log_core.specs.Order.{nth_generation}
 use Rattle.log_core.specs.Records.{one_if, parts_with, collected_by, WritesFit, WritesOnce, PutFits, NeverFall, RecordHolds, CallHolds, TailHolds, MarksFit}
-use Rattle.log_core.specs.Synced.{SyncHolds, IsSynced}
-use Rattle.log_core.specs.Samples.{image_a, small_shape}
-use Rattle.log_core.specs.Rows.{collected, slot_marked, synced, first_call}
+use Rattle.log_core.specs.Synced.{SyncHolds}
+use Rattle.log_core.specs.Samples.{image_a}
+use Rattle.log_core.specs.Rows.{collected, slot_marked, synced}
 use Rattle.log_core.specs.Accepted.{RecordsStand, SyncsStand}
 use Rattle.log_core.proofs.RowTells.{is_sync, is_written, number_of, none_not_some}
 use Rattle.log_core.proofs.RowsWrong.{is_synced}

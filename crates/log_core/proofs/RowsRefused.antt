@@ -1,7 +1,7 @@
 -- Wrong states are refused by their clauses: order, owners, contents and pins.
-use Rattle.std.proofs.Common.{◌≡◌, ◌≢◌, ◌⊎◌, ◌≤◌, ◌<◌, ℕ, zero, suc, Bool, true, false, refl, inl, inr, arith, ap}
-use Rattle.std.proofs.lemmas.Bool.{false≢true, true≢false}
-use Rattle.log_core.specs.Origin.{Owner, Free, Header, InChain, OwnedBy, LeftTo}
+use Rattle.std.proofs.Common.{ℕ, Bool, true, false, refl, inl, arith, ap}
+use Rattle.std.proofs.lemmas.Bool.{false≢true}
+use Rattle.log_core.specs.Origin.{Owner, InChain, OwnedBy}
 use Rattle.log_core.specs.Refused.{OtherEntryPossible, HeadSkips, LogHasMore, BitWithoutOwner, BlockOnTwoLists, ChainBlockFree, OtherContentPossible, PinOfAnother}
 
 pub other_entry_possible : OtherEntryPossible

@@ -1,12 +1,11 @@
 -- Rows of runs, of a whole step, and of splits and joins.
-use Rattle.std.proofs.Common.{◌≡◌, ◌≢◌, ℕ, false, List, [], ◌∷◌, refl, inr, arith, ap, subst, Some}
+use Rattle.std.proofs.Common.{◌≡◌, false, [], ◌∷◌, refl, inr, arith, ap, subst, Some}
 use Rattle.std.proofs.lemmas.Bool.{false≢true, true≢false}
 use Rattle.log_entry.specs.declared.calls.Op.{Op}
 use Rattle.seat_parts.specs.declared.keeps.Task.TheVariants.{Pwrite}
-use Rattle.log_core.specs.Views.{op_of, op_in, view_of}
+use Rattle.log_core.specs.Views.{op_of}
 use Rattle.log_core.specs.Works.{is_quiet, Begins}
 use Rattle.log_core.specs.After.{op_or_size}
-use Rattle.log_core.specs.Rows.{head_loaded, collected}
 use Rattle.log_core.specs.Accepted.{PinRuns, WriteFits, ViewsJoin, ViewsSplit}
 use Rattle.log_core.proofs.RowsMay.{entry_may_be_put}
 use Rattle.log_core.proofs.RowsWrong.{one_part}

@@ -1,18 +1,16 @@
 -- Rows of blocks that are taken, stored, marked and fenced.
-use Rattle.std.proofs.Common.{◌≡◌, ◌⊎◌, ◌≤◌, ◌<◌, ◌+◌, ◌/◌, ◌==◌, ◌&&◌, ◌||◌, ◌%◌, not, ℕ, zero, suc, Bool, true, false, refl, inl, inr, arith, Option, None, Some, ap}
+use Rattle.std.proofs.Common.{◌≡◌, ◌≤◌, ◌<◌, ◌+◌, ◌/◌, ◌==◌, ◌||◌, ◌%◌, not, ℕ, zero, suc, Bool, true, refl, arith, Option, None, Some, ap}
 use Rattle.std.proofs.lemmas.Bool.{false≢true, and_parts, eqb-true}
 use Rattle.std.specs.Int.{bit_at}
 use Rattle.log_entry.specs.declared.shapes.Area.{Area}
 use Rattle.log_entry.specs.declared.shapes.Area.TheVariants.{Data, Log, Spare}
 use Rattle.seat_parts.specs.declared.keeps.Task.TheVariants.{Pwrite}
-use Rattle.seat_state.specs.Seats.{Seat}
 use Rattle.log_core.specs.Views.{Stored, view_of}
-use Rattle.log_core.specs.Works.{shape_of, stored_at, content_word, MayCountFilled}
+use Rattle.log_core.specs.Works.{shape_of, stored_at, content_word}
 use Rattle.log_core.specs.Needs.{is_in_area, lacking}
 use Rattle.log_core.specs.Steps.{is_among}
-use Rattle.log_core.specs.May.{MaySetBits}
-use Rattle.log_core.specs.Rows.{walked, taken_by_one, longer_writer, marked_words, stored_words, BitsTaken, FenceFollows}
-use Rattle.log_core.proofs.RowChecks.{all_below, below_implied, below_all}
+use Rattle.log_core.specs.Rows.{walked, taken_by_one, longer_writer, marked_words, BitsTaken, FenceFollows}
+use Rattle.log_core.proofs.RowChecks.{all_below, below_implied}
 
 -- a block whose bit is in the first word is below 64
 pub in_first : (block : ℕ) → (block / 64 == 0) ≡ true → block < 64

@@ -1,21 +1,19 @@
 -- The clauses on views, owned blocks and giving back hold in the middle of a collection.
-use Rattle.std.proofs.Common.{◌≡◌, ◌≢◌, ◌⊎◌, ◌≤◌, ◌<◌, ◌+◌, ◌*◌, ◌-◌, ◌==◌, ◌&&◌, not, ℕ, zero, suc, Bool, true, false, List, [], ◌∷◌, length, slice_index, refl, sym, ap, inl, inr, arith, Option, None, Some}
+use Rattle.std.proofs.Common.{◌≡◌, ◌≢◌, ◌≤◌, ◌<◌, ◌+◌, ◌*◌, not, ℕ, zero, suc, true, false, [], ◌∷◌, refl, sym, ap, inl, inr, arith, Option, None, Some}
 use Rattle.std.proofs.lemmas.Bool.{false≢true, true≢false}
 use Rattle.std.specs.Option.{option_or}
 use Rattle.log_image.specs.Entries.{direct_meaning}
-use Rattle.log_image.specs.Maps.{block_in}
 use Rattle.log_image.proofs.HoldingLemmas.{names_none}
 use Rattle.seat_state.specs.Maps.{map_at as mapped_at}
 use Rattle.persistence.specs.Memory.{cell}
-use Rattle.log_core.specs.Entries.{has, LogEntry}
-use Rattle.log_core.specs.Views.{View, view_of}
+use Rattle.log_core.specs.Entries.{has}
+use Rattle.log_core.specs.Views.{view_of}
 use Rattle.log_core.specs.Files.{entries, map_at}
-use Rattle.log_core.specs.Cores.{Core, is_named, generation_at}
+use Rattle.log_core.specs.Cores.{is_named, generation_at}
 use Rattle.log_core.specs.Works.{owned_block, stored_at, content_word, MayCountFilled}
 use Rattle.log_core.specs.Certain.{IsCertain}
-use Rattle.log_core.specs.Walks.{WalkHolds, HasWalked}
-use Rattle.log_core.specs.Owned.{OwnedHold}
-use Rattle.log_core.specs.Giving.{GivingHolds, ScanHolds, AreInNoLater}
+use Rattle.log_core.specs.Walks.{WalkHolds}
+use Rattle.log_core.specs.Giving.{GivingHolds, ScanHolds}
 use Rattle.log_core.specs.Invariant.{around, names_by}
 use Rattle.log_core.specs.Samples.{image_a}
 use Rattle.log_core.specs.Rows.{collected, scan_clear, to_first}

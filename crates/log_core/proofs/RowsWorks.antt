@@ -1,10 +1,10 @@
 -- Rows of what a call computes: entries, snapshots, the bytes of a read and the present content.
-use Rattle.std.proofs.Common.{◌≡◌, ◌≢◌, ◌⊎◌, ◌≤◌, ◌<◌, ◌+◌, ℕ, zero, suc, true, false, List, [], ◌∷◌, refl, sym, ◌∙◌, length, subst, inl, inr, arith, ap, Option, None, Some}
+use Rattle.std.proofs.Common.{◌≡◌, ◌≢◌, ◌⊎◌, ◌<◌, ◌+◌, ℕ, zero, suc, List, [], ◌∷◌, refl, sym, ◌∙◌, length, subst, inl, inr, arith, ap, Option, None, Some}
 use Rattle.std.specs.Prelude.{slice_index}
 use Rattle.std.proofs.lemmas.Bool.{false≢true}
 use Rattle.seat_state.specs.Seats.{Seat}
 use Rattle.log_core.specs.Works.{kept_at, IsByteAt, MayLay, IsKeptWhole}
-use Rattle.log_core.specs.Rows.{kept, walker, reader, far_reader, with_runs_kept, EntryTakenIn, ReadLays, BaseWords, SnapshotRead}
+use Rattle.log_core.specs.Rows.{kept, reader, far_reader, with_runs_kept, EntryTakenIn, ReadLays, BaseWords, SnapshotRead}
 use Rattle.log_core.proofs.RowTells.{some_not_none, number_of, offset_of, asked_count}
 
 kept_whole : IsKeptWhole with_runs_kept 5

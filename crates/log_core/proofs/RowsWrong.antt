@@ -1,9 +1,9 @@
 -- Wrong states are refused by their clauses: views, owned blocks, giving back, records and syncs.
-use Rattle.std.proofs.Common.{◌≡◌, ◌≢◌, ◌⊎◌, ◌≤◌, ◌<◌, ◌+◌, slice_index, ℕ, zero, suc, Bool, true, false, List, [], ◌∷◌, length, refl, inl, inr, arith, ap}
+use Rattle.std.proofs.Common.{◌≡◌, ◌≢◌, ◌⊎◌, ◌<◌, ◌+◌, slice_index, ℕ, zero, suc, List, [], ◌∷◌, length, refl, inl, inr, arith, ap}
 use Rattle.std.proofs.lemmas.Bool.{false≢true, true≢false}
 use Rattle.persistence.specs.Memory.{cell}
 use Rattle.log_core.specs.Views.{Marked}
-use Rattle.log_core.specs.Synced.{IsSynced, IsSyncedIn}
+use Rattle.log_core.specs.Synced.{IsSynced}
 use Rattle.log_core.specs.Certain.{IsCertain}
 use Rattle.log_core.specs.Samples.{small_shape}
 use Rattle.log_core.specs.Rows.{synced, to_first}

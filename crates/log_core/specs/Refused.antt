@@ -1,26 +1,22 @@
 -- Wrong states: each differs from one that a run comes to in one thing, and the clause that says it refuses it.
 use Rattle.std.specs.Prelude.{ℕ, ◌+◌, ◌*◌, ◌≡◌, ◌==◌, if◌then◌else◌, true, false, List, [], ◌∷◌, ◌++◌, length, replicate, slice_set, Option, Some, None}
-use Rattle.log_entry.specs.declared.shapes.Area.TheVariants.{Data, Spare}
+use Rattle.log_entry.specs.declared.shapes.Area.TheVariants.{Data}
 use Rattle.log_entry.specs.declared.calls.Call.{Call}
-use Rattle.log_entry.specs.declared.calls.Op.TheVariants.{Pwrite as PwriteOp, Pread as PreadOp, Size as SizeOp, Sync as SyncOp}
-use Rattle.log_entry.specs.declared.calls.Reply.TheVariants.{Bytes, Size as FileSize, Synced}
-use Rattle.log_image.specs.Entries.{names, all_names, direct_meaning}
+use Rattle.log_entry.specs.declared.calls.Op.TheVariants.{Pread as PreadOp, Sync as SyncOp}
+use Rattle.log_entry.specs.declared.calls.Reply.TheVariants.{Bytes, Synced}
+use Rattle.log_image.specs.Entries.{names, all_names}
 use Rattle.log_image.specs.Maps.{map_of, block_in}
-use Rattle.pmem_words.specs.declared.asks.Place.TheVariants.{Image}
-use Rattle.pmem_words.specs.declared.asks.Ask.TheVariants.{Exchange}
-use Rattle.seat_parts.specs.declared.keeps.KeptWord.{KeptWord}
 use Rattle.seat_parts.specs.declared.keeps.Task.TheVariants.{Pwrite}
 use Rattle.seat_parts.specs.declared.owned.OwnedBlock.{OwnedBlock}
-use Rattle.seat_state.specs.Seats.{Seat, Hold, Walk, Calling, Blocks, Giving}
+use Rattle.seat_state.specs.Seats.{Seat, Walk, Giving}
 use Rattle.persistence.specs.Memory.{Replaced, cell}
-use Rattle.log_core.specs.Views.{View, view_of}
+use Rattle.log_core.specs.Views.{view_of}
 use Rattle.log_core.specs.Origin.{Origin, Generation, LogBlock}
-use Rattle.log_core.specs.Files.{Write}
 use Rattle.log_core.specs.Cores.{Core, first_core}
 use Rattle.log_core.specs.Works.{worked, NotesNamed}
 use Rattle.log_core.specs.Steps.{Splits, content_of, new_meaning, new_snapshots}
 use Rattle.log_core.specs.After.{after, snapshot_meanings}
-use Rattle.log_core.specs.May.{MayCommit, MayExchangeHead, AreApart, is_log_entry_by}
+use Rattle.log_core.specs.May.{MayCommit, MayExchangeHead, is_log_entry_by}
 use Rattle.log_core.specs.Records.{WritesOnce, SeatsOnce}
 use Rattle.log_core.specs.Synced.{IsSynced}
 use Rattle.log_core.specs.Invariant.{KeptIn, Order, Owners, Contents, Pins, Givings, Records, Syncs, around}

@@ -1,5 +1,5 @@
 -- Worked rows: what small states and steps come to.
-use Rattle.std.specs.Prelude.{ℕ, ◌+◌, ◌^◌, ◌≡◌, ◌≤◌, ◌<◌, true, false, List, [], ◌∷◌, length, replicate, map, Option, Some, None}
+use Rattle.std.specs.Prelude.{ℕ, ◌+◌, ◌≡◌, ◌<◌, true, false, List, [], ◌∷◌, length, replicate, map, Option, Some, None}
 use Rattle.log_entry.specs.declared.shapes.Area.{Area}
 use Rattle.log_entry.specs.declared.shapes.Area.TheVariants.{Data, Log, Spare}
 use Rattle.log_entry.specs.declared.calls.Call.{Call}

@@ -1,5 +1,5 @@
 -- Small images and steps that the worked rows begin with.
-use Rattle.std.specs.Prelude.{ℕ, zero, suc, ◌+◌, ◌*◌, ◌^◌, ◌<◌, ◌≤◌, refl, List, [], ◌∷◌, ◌++◌, replicate, slice_set, Option}
+use Rattle.std.specs.Prelude.{ℕ, zero, suc, ◌+◌, ◌*◌, ◌^◌, ◌<◌, ◌≤◌, refl, List, [], ◌∷◌, replicate, slice_set, Option}
 use Rattle.std.proofs.Common.{arith}
 use Rattle.log_entry.specs.Shape.{total_of}
 use Rattle.log_entry.specs.declared.shapes.Geometry.{Geometry}
