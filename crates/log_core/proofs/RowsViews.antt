@@ -111,8 +111,28 @@ owned_stands zero = record { contents = refl; areas = tt; stored = tt; filled = 
 owned_stands (suc zero) = record {
   contents = refl;
   areas = (refl, tt);
-  stored = (record { mine = refl; present = refl; marked = λ m. inl refl }, (record { mine = refl; present = refl; marked = λ m. inl refl }, (record { mine = refl; present = refl; marked = λ m. inl refl }, (record { mine = refl; present = refl; marked = λ m. inl refl },
-      (record { mine = refl; present = refl; marked = λ m. inl refl }, (record { mine = refl; present = refl; marked = λ m. inl refl }, (record { mine = refl; present = refl; marked = λ m. inl refl }, (record { mine = refl; present = refl; marked = λ m. inl refl }, tt))))))));
+  stored = (
+    record { mine = refl; present = refl; marked = λ m. inl refl },
+    (
+      record { mine = refl; present = refl; marked = λ m. inl refl },
+      (
+        record { mine = refl; present = refl; marked = λ m. inl refl },
+        (
+          record { mine = refl; present = refl; marked = λ m. inl refl },
+          (
+            record { mine = refl; present = refl; marked = λ m. inl refl },
+            (
+              record { mine = refl; present = refl; marked = λ m. inl refl },
+              (
+                record { mine = refl; present = refl; marked = λ m. inl refl },
+                (record { mine = refl; present = refl; marked = λ m. inl refl }, tt),
+              ),
+            ),
+          ),
+        ),
+      ),
+    ),
+  );
   filled = λ place less filled. filled_one place less;
   fenced = λ place word less fenced within. fenced_at place word less within;
 }

@@ -226,7 +226,7 @@ late_synced = after image_a late_marked (step_of image_a late_marked 1 Fence 2 [
 abbrev pub LateSync : Type 0
 LateSync =
     (walked_trail image_a late_marked (view_of late_marked.views 1).seat
-      ≡ record { place = 27; word = to_first } ∷ record { place = 28; word = 3 } ∷ record { place = 24; word = 4 } ∷ record { place = 35; word = to_second } ∷ [])
+    ≡ record { place = 27; word = to_first } ∷ record { place = 28; word = 3 } ∷ record { place = 24; word = 4 } ∷ record { place = 35; word = to_second } ∷ [])
     × (late_synced.synced ≡ 2)
     × SyncsOf late_synced
     × (SyncsOf (record late_marked { synced = 2 }) → ⊥)

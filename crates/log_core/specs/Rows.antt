@@ -446,7 +446,6 @@ SyncEnds =
     × (MayAdd (view_of slot_marked.views 0).ghost (view_of slot_marked.views 0).seat (sync_call (Synced 1)) → ⊥)
     × (MayAdd (view_of synced.views 0).ghost (view_of synced.views 0).seat (sync_call (Synced 0)) → ⊥)
 
-
 -- two writes, the second over the first and longer
 abbrev pub first_write : Write
 first_write = record { seat = 0; number = 1; op = PwriteOp 0 (170 ∷ []); at = 0; entry = record { word = to_first; meaning = direct_meaning to_first } }
@@ -542,9 +541,20 @@ abbrev pub walker : List KeptWord → Seat
 walker kept = record (new_seat wide 0 2 7) {
   hold = record { head = 8589934603; pin = 2; generation = 2; valid = true };
   walk = record {
-    position = 7; map = Some 7 ∷ None ∷ None ∷ Some 6 ∷ None ∷ None ∷ None ∷ None ∷ []; size = 256;
-    tail_block = 10; tail_slot = 3; tail_base = 7; snapshot_base = 7; at_tail = false; ready = true;
-    reading = false; reading_generation = 0; reading_block = 0; reading_slot = 0; kept = kept;
+    position = 7;
+    map = Some 7 ∷ None ∷ None ∷ Some 6 ∷ None ∷ None ∷ None ∷ None ∷ [];
+    size = 256;
+    tail_block = 10;
+    tail_slot = 3;
+    tail_base = 7;
+    snapshot_base = 7;
+    at_tail = false;
+    ready = true;
+    reading = false;
+    reading_generation = 0;
+    reading_block = 0;
+    reading_slot = 0;
+    kept = kept;
   };
   calling = record no_calling { job = Pread 0 65 };
 }
