@@ -21,3 +21,4 @@ pub mod RowsContents
 pub mod RowsOwners
 pub mod RowsRun
 pub mod RowsLate
+pub mod RowsTurns

@@ -1,27 +1,35 @@
 -- States that runs come to: the conditions of their steps, and the clauses that hold of them.
-use Rattle.std.specs.Prelude.{ℕ, ◌≡◌, ◌==◌, if◌then◌else◌, Bool, true, false, List, [], ◌∷◌, length, map, replicate, Some, None}
+use Rattle.std.specs.Prelude.{ℕ, ◌++◌, ◌≡◌, ◌==◌, if◌then◌else◌, Bool, true, false, List, [], ◌∷◌, length, map, replicate, Some, None}
 use Rattle.log_entry.specs.declared.shapes.Area.TheVariants.{Data}
 use Rattle.log_entry.specs.declared.calls.Call.{Call}
-use Rattle.log_entry.specs.declared.calls.Op.TheVariants.{Pwrite as PwriteOp, Size as SizeOp, Sync as SyncOp}
-use Rattle.log_entry.specs.declared.calls.Reply.TheVariants.{Wrote, Size as FileSize, Synced}
+use Rattle.log_entry.specs.declared.calls.Op.TheVariants.{Pwrite as PwriteOp, Size as SizeOp, Sync as SyncOp, Collect as CollectOp}
+use Rattle.log_entry.specs.declared.calls.Reply.TheVariants.{Wrote, Size as FileSize, Synced, Collected, NotCollected}
+use Rattle.log_entry.specs.Words.{entry_word}
+use Rattle.log_entry.specs.declared.entries.Entry.TheVariants.{Indirect}
+use Rattle.log_entry.specs.declared.calls.CollectRefusal.{CollectRefusal}
+use Rattle.log_entry.specs.declared.calls.CollectRefusal.TheVariants.{Nothing, Overtaken, GenerationLimit}
+use Rattle.log_image.specs.Entries.{names}
+use Rattle.log_image.specs.Rows.{with_words, with_runs}
 use Rattle.pmem_words.specs.declared.asks.Place.TheVariants.{Image, Pin}
 use Rattle.pmem_words.specs.declared.asks.Ask.TheVariants.{Load, Store, Exchange, Mark, Fence}
 use Rattle.seat_parts.specs.declared.keeps.Task.TheVariants.{Pwrite, Size, Sync}
-use Rattle.seat_state.specs.Seats.{Seat, no_calling}
+use Rattle.seat_state.specs.Seats.{Seat, new_seat, no_calling}
 use Rattle.persistence.specs.Memory.{cell}
 use Rattle.log_core.specs.Views.{View, view_of, new_view, no_ghost}
-use Rattle.log_core.specs.Origin.{Free, InChain, LeftTo}
+use Rattle.log_core.specs.Origin.{Origin, Free, InChain, LeftTo, first_position}
 use Rattle.log_core.specs.Cores.{Core, IsKept, first_core, head_floor, named, is_named, generation_at}
 use Rattle.log_core.specs.Files.{entries, file_at, map_at}
 use Rattle.log_core.specs.Works.{Begins, StartsFromSnapshot, ReadsRun, EndsReading, TakesEntry, TakesSeal, Follows}
-use Rattle.log_core.specs.Steps.{Step, Splits, Joins}
+use Rattle.log_core.specs.Steps.{Step, Splits, Joins, new_meaning}
 use Rattle.log_core.specs.After.{after}
 use Rattle.log_core.specs.Runs.{Fits, Allowed, MayJoin, MaySplit, IsRun, end}
 use Rattle.log_core.specs.May.{MayStoreOwnPin, MayLoadImageWord, MayStoreWord, MayMark, MayCommit, walked_trail}
 use Rattle.log_core.specs.Answers.{MayAdd}
 use Rattle.log_core.specs.Walks.{HasRead}
 use Rattle.log_core.specs.Records.{MarksFit}
-use Rattle.log_core.specs.Samples.{small, image_a, step_of, stepping, with_map}
+use Rattle.log_core.specs.Starts.{origin_of}
+use Rattle.log_core.specs.Histories.{HasCollections, position_before}
+use Rattle.log_core.specs.Samples.{small, wide, image_a, step_of, stepping, with_map}
 use Rattle.log_core.specs.Rows.{head_loaded, pin_stored, pinned, taken_by_one, stored_words, racing, syncing, head_marked, slot_marked, synced, collected, scan_held, scan_clear, no_blocks_mapped, to_first, to_second, first_call}
 use Rattle.log_core.specs.Refused.{one_made, seat_zero, OrderOf, OwnersOf, ContentsOf, PinsOf, ViewsOf, OwnedOf, GivingsOf, RecordsOf, SyncsOf}
 
@@ -268,3 +276,71 @@ LateWalk =
     × MayAdd (view_of late_walked.views 1).ghost (view_of late_walked.views 1).seat (record { position = 2; seat = 1; number = 3; op = SizeOp; reply = FileSize 1 })
     × IsKept image_a late_synced.generations (head_floor late_synced.memory) late_synced.views 0
     × (IsKept image_a late_walked.generations (head_floor late_walked.memory) late_walked.views 0 → ⊥)
+
+-- an image of seven data blocks whose snapshot at position 7 is in block 11, with an empty log after it in block 10, and a file of a byte
+abbrev pub image_w : Origin
+image_w = origin_of wide 2 2 (with_words ((83, 0) ∷ []) with_runs) (3285 ∷ []) (11 ∷ 10 ∷ []) (170 ∷ [])
+
+-- a seat at its tail that writes 128 bytes at 256. It owns blocks 1 and 3, which are no run, and block 5, which says so
+abbrev pub sevens : ℕ
+sevens = 506381209866536711
+
+abbrev pub runs_writer : Seat
+runs_writer = record (new_seat wide 0 2 7) {
+  hold = record { head = 8589934603; pin = 2; generation = 2; valid = true };
+  walk = record {
+    position = 7;
+    map = Some 7 ∷ Some 2 ∷ Some 4 ∷ Some 6 ∷ None ∷ None ∷ None ∷ None ∷ [];
+    size = 1;
+    tail_block = 10;
+    tail_slot = 3;
+    tail_base = 7;
+    snapshot_base = 7;
+    at_tail = true;
+    ready = true;
+    reading = false;
+    reading_generation = 0;
+    reading_block = 0;
+    reading_slot = 0;
+    kept = [];
+  };
+  calling = record no_calling { job = Pwrite 256; bytes = replicate 128 7 };
+  blocks = record {
+    owned =
+        record { block = 1; area = Data; filled = true; fenced = true }
+        ∷ record { block = 3; area = Data; filled = true; fenced = true }
+        ∷ record { block = 5; area = Data; filled = true; fenced = true }
+        ∷ [];
+    contents = replicate 16 sevens ++ 8590065668 ∷ 65537 ∷ 65539 ∷ replicate 5 0;
+    found = 0 ∷ [];
+    named = 0 ∷ [];
+  };
+}
+
+-- the entry of block 5 may be put in: it names the three blocks, and gives virtual blocks 4 and 5 the blocks 1 and 3
+abbrev pub RunsMayBePut : Type 0
+RunsMayBePut =
+    (first_position image_w ≡ 7)
+    × (names (new_meaning runs_writer 22) ≡ 5 ∷ 1 ∷ 3 ∷ [])
+    × (entry_word (Indirect 5) ≡ 22)
+    × MayCommit image_w [] runs_writer 83 22
+
+-- the collections of a history are in turn: one of the second generation at position 1, then one of the third at position 3. The next
+-- generation may not be left out, nor be at the position of the one before
+abbrev pub collection : ℕ → ℕ → Call
+collection generation position = record { position = position; seat = 0; number = generation; op = CollectOp; reply = Collected (record { generation = generation; freed = 1; kept = 0; held = None }) }
+
+abbrev pub refused_collection : ℕ → CollectRefusal → Call
+refused_collection position why = record { position = position; seat = 1; number = position; op = CollectOp; reply = NotCollected why }
+
+abbrev pub CollectionsInTurn : Type 0
+CollectionsInTurn =
+    HasCollections 1 0 (first_call ∷ collection 2 1 ∷ refused_collection 1 Nothing ∷ collection 3 3 ∷ refused_collection 3 (Overtaken 2) ∷ [])
+    × (HasCollections 1 0 (collection 3 1 ∷ []) → ⊥)
+    × (HasCollections 1 0 (collection 2 0 ∷ []) → ⊥)
+    × (HasCollections 1 0 (collection 2 1 ∷ refused_collection 2 Nothing ∷ []) → ⊥)
+    × (HasCollections 1 0 (collection 2 1 ∷ refused_collection 2 (Overtaken 3) ∷ []) → ⊥)
+    × (HasCollections 1 0 (refused_collection 0 GenerationLimit ∷ []) → ⊥)
+    × (position_before 1 3 0 (first_call ∷ refused_collection 1 Nothing ∷ refused_collection 3 Nothing ∷ []) ≡ 1)
+    × (position_before 1 4 0 (first_call ∷ refused_collection 1 Nothing ∷ refused_collection 3 Nothing ∷ []) ≡ 3)
+    × (position_before 2 1 0 (first_call ∷ []) ≡ 0)

@@ -6,6 +6,7 @@ use Rattle.log_core.proofs.RowsContents.{contents_stand}
 use Rattle.log_core.proofs.RowsOwners.{owners_stand}
 use Rattle.log_core.proofs.RowsRun.{pin_runs, write_fits, views_join, views_split}
 use Rattle.log_core.proofs.RowsLate.{late_write, late_sync, late_walk}
+use Rattle.log_core.proofs.RowsTurns.{runs_may_be_put, collections_in_turn}
 use Rattle.log_core.proofs.rows.law_accepted.Goals as goal
 
 pub returns : goal.returns
@@ -30,4 +31,6 @@ returns c = record {
   late_write = late_write;
   late_sync = late_sync;
   late_walk = late_walk;
+  runs_may_be_put = runs_may_be_put;
+  collections_in_turn = collections_in_turn;
 }
