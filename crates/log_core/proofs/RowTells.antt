@@ -90,3 +90,7 @@ is_written _ = false
 abbrev pub is_op : Option Op → Bool
 is_op None = false
 is_op (Some op) = true
+
+abbrev pub offset_said : Reply → ℕ
+offset_said (Appended at count) = at
+offset_said _ = 0

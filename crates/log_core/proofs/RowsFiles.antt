@@ -5,8 +5,8 @@ use Rattle.log_entry.specs.declared.calls.Reply.TheVariants.{Appended, NotWritte
 use Rattle.log_entry.specs.declared.calls.WriteRefusal.TheVariants.{NoSpace}
 use Rattle.log_entry.specs.declared.shapes.Area.TheVariants.{Data, Log}
 use Rattle.log_core.specs.Answers.{HasLacked}
-use Rattle.log_core.specs.Rows.{lacked, FilesByPosition, EarlyFiles, WalkedTrail, LacksBlocks, QuietCalls, RepliesFit}
-use Rattle.log_core.proofs.RowTells.{is_for_data, is_refused, said, none_not_some}
+use Rattle.log_core.specs.Rows.{lacked, FilesByPosition, EarlyFiles, WalkedTrail, LacksBlocks, QuietCalls, RepliesFit, LimitsFit}
+use Rattle.log_core.proofs.RowTells.{is_for_data, is_refused, said, offset_said, none_not_some}
 
 pub files_by_position : FilesByPosition
 files_by_position = (refl, refl, refl, refl, refl, refl, refl, refl, refl, refl, refl, refl, refl)
@@ -47,4 +47,21 @@ replies_fit = (
   (refl, refl, refl),
   λ fits. fits.2.0 refl,
   λ fits. none_not_some 7 fits.1,
+)
+
+pub limits_fit : LimitsFit
+limits_fit = (
+  (refl, refl, (λ same. omega (arith, same), omega arith, refl)),
+  λ fits. omega (arith, fits.2.1),
+  λ fits. omega (arith, fits.2.2),
+  λ fits. (let same = fits.2 in omega (arith, same)),
+  (refl, refl, (λ same. omega (arith, same), λ same. omega (arith, same), refl)),
+  λ fits. false≢true fits.2.2,
+  (refl, refl, (λ same. omega (arith, same), refl)),
+  λ fits. (let same = fits.2.1 in omega (arith, same)),
+  refl,
+  λ fits. (let at = ap offset_said fits in omega (arith, at)),
+  refl,
+  refl,
+  λ fits. fits,
 )

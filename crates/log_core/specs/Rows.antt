@@ -3,7 +3,7 @@ use Rattle.std.specs.Prelude.{ℕ, ◌+◌, ◌≡◌, ◌<◌, true, false, Lis
 use Rattle.log_entry.specs.declared.shapes.Area.{Area}
 use Rattle.log_entry.specs.declared.shapes.Area.TheVariants.{Data, Log, Spare}
 use Rattle.log_entry.specs.declared.calls.Call.{Call}
-use Rattle.log_entry.specs.declared.calls.CollectRefusal.TheVariants.{Nothing, NoSpace as NoSpareSpace}
+use Rattle.log_entry.specs.declared.calls.CollectRefusal.TheVariants.{Nothing, NoSpace as NoSpareSpace, Overtaken, GenerationLimit}
 use Rattle.log_entry.specs.declared.calls.Op.TheVariants.{Pwrite as PwriteOp, Append as AppendOp, Pread as PreadOp, Size as SizeOp, Sync as SyncOp, Collect as CollectOp}
 use Rattle.log_entry.specs.declared.calls.Reply.{Reply}
 use Rattle.log_entry.specs.declared.calls.Reply.TheVariants.{Wrote, Appended, NotWritten, Bytes, Size as FileSize, Synced, Collected, NotCollected}
@@ -686,3 +686,33 @@ RepliesFit =
     × Fits no_ghost (asked Collect []) CollectOp (NotCollected Nothing)
     × (Fits (lacked (Spare ∷ [])) (asked Collect []) CollectOp (NotCollected NoSpareSpace) → ⊥)
     × (Fits no_ghost (asked Sync []) SyncOp (Synced 7) → ⊥)
+
+-- a seat past its snapshot's position, at this generation, position and size
+abbrev pub placed : Task → List ℕ → ℕ → ℕ → ℕ → Seat
+placed task bytes generation position size = record (asked task bytes) {
+  hold = record ((asked task bytes).hold) { generation = generation };
+  walk = record ((asked task bytes).walk) { position = position; size = size };
+}
+
+abbrev pub with_won : Seat → Seat
+with_won s = record s { calling = record (s.calling) { won = true } }
+
+abbrev pub overtaken_by : ℕ → Ghost
+overtaken_by generation = record no_ghost { call = record no_call { overtaken = generation } }
+
+-- replies of collections that put no head in place, of a write that was put in, and of writes at the limits of position and size
+abbrev pub LimitsFit : Type 0
+LimitsFit =
+    Fits (overtaken_by 3) (placed Collect [] 2 8 256) CollectOp (NotCollected (Overtaken 3))
+    × (Fits (overtaken_by 2) (placed Collect [] 2 8 256) CollectOp (NotCollected (Overtaken 2)) → ⊥)
+    × (Fits no_ghost (placed Collect [] 2 8 256) CollectOp (NotCollected (Overtaken 3)) → ⊥)
+    × (Fits no_ghost (placed Collect [] 2 8 256) CollectOp (NotCollected Nothing) → ⊥)
+    × Fits (lacked (Spare ∷ [])) (placed Collect [] 2 8 256) CollectOp (NotCollected NoSpareSpace)
+    × (Fits (lacked (Log ∷ [])) (placed Collect [] 2 8 256) CollectOp (NotCollected NoSpareSpace) → ⊥)
+    × Fits no_ghost (placed Collect [] 4294967295 8 256) CollectOp (NotCollected GenerationLimit)
+    × (Fits no_ghost (placed Collect [] 4294967294 8 256) CollectOp (NotCollected GenerationLimit) → ⊥)
+    × Fits no_ghost (with_won (placed Append (170 ∷ []) 2 8 256)) (AppendOp (170 ∷ [])) (Appended 255 1)
+    × (Fits no_ghost (with_won (placed Append (170 ∷ []) 2 8 256)) (AppendOp (170 ∷ [])) (Appended 256 1) → ⊥)
+    × Fits no_ghost (placed (Pwrite 0) (170 ∷ []) 2 1099511627775 256) (PwriteOp 0 (170 ∷ [])) (NotWritten PositionLimit)
+    × Fits no_ghost (placed Append (170 ∷ []) 2 8 4194304) (AppendOp (170 ∷ [])) (NotWritten (TooLarge 4194305))
+    × (Fits no_ghost (placed (Pwrite 0) [] 2 8 256) (PwriteOp 0 []) (Wrote 0) → ⊥)

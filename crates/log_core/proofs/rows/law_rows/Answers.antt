@@ -2,7 +2,7 @@ use Rattle.log_core.proofs.RowsBegun.{just_made, pins_in_three_steps, scan_sees_
 use Rattle.log_core.proofs.RowsTaken.{bits_taken, fence_follows}
 use Rattle.log_core.proofs.RowsExchanged.{slot_won, slot_lost, write_ends, link_won, link_lost, head_won, head_lost}
 use Rattle.log_core.proofs.RowsGiven.{kept_until_unpinned, bits_cleared, bits_not_cleared, collect_ends, sync_ends}
-use Rattle.log_core.proofs.RowsFiles.{files_by_position, early_files, trail_walked, lacks_blocks, quiet_calls, replies_fit}
+use Rattle.log_core.proofs.RowsFiles.{files_by_position, early_files, trail_walked, lacks_blocks, quiet_calls, replies_fit, limits_fit}
 use Rattle.log_core.proofs.RowsWorks.{entry_taken_in, read_lays, base_words, snapshot_read}
 use Rattle.log_core.proofs.rows.law_rows.Goals as goal
 
@@ -36,4 +36,5 @@ returns c = record {
   snapshot_read = snapshot_read;
   quiet_calls = quiet_calls;
   replies_fit = replies_fit;
+  limits_fit = limits_fit;
 }
