@@ -28,3 +28,7 @@ pub mod Histories
 pub mod Laws
 pub mod Knows
 pub mod Within
+pub mod Samples
+pub mod Rows
+pub mod Refused
+pub mod Accepted

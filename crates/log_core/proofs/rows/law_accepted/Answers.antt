@@ -1,0 +1,36 @@
+use Rattle.log_core.proofs.RowsMay.{pin_may_be_stored, word_may_be_loaded, word_may_be_marked, entry_may_be_put}
+use Rattle.log_core.proofs.RowsOrder.{order_stands, pins_stand}
+use Rattle.log_core.proofs.RowsViews.{views_stand, owned_stands, givings_stand}
+use Rattle.log_core.proofs.RowsRecords.{records_stand, syncs_stand}
+use Rattle.log_core.proofs.RowsContents.{contents_stand}
+use Rattle.log_core.proofs.RowsOwners.{owners_stand}
+use Rattle.log_core.proofs.RowsRun.{pin_runs, write_fits, views_join, views_split}
+use Rattle.log_core.proofs.RowsLate.{late_write, late_sync, late_walk}
+use Rattle.log_core.proofs.RowsTurns.{runs_may_be_put, collections_in_turn}
+use Rattle.log_core.proofs.rows.law_accepted.Goals as goal
+
+pub returns : goal.returns
+returns c = record {
+  pin_may_be_stored = pin_may_be_stored;
+  word_may_be_loaded = word_may_be_loaded;
+  word_may_be_marked = word_may_be_marked;
+  entry_may_be_put = entry_may_be_put;
+  order_stands = order_stands;
+  pins_stand = pins_stand;
+  views_stand = views_stand;
+  owned_stands = owned_stands;
+  givings_stand = givings_stand;
+  records_stand = records_stand;
+  syncs_stand = syncs_stand;
+  contents_stand = contents_stand;
+  owners_stand = owners_stand;
+  pin_runs = pin_runs;
+  write_fits = write_fits;
+  views_join = views_join;
+  views_split = views_split;
+  late_write = late_write;
+  late_sync = late_sync;
+  late_walk = late_walk;
+  runs_may_be_put = runs_may_be_put;
+  collections_in_turn = collections_in_turn;
+}

@@ -1,0 +1,84 @@
+//! Worked states and steps, each the contract of a function that does nothing: what they compute to, and states that are refused.
+
+ghost use Rattle.log_core.specs.Rows.{JustMade, PinsInThreeSteps, ScanSeesPins, ComesToTail, BitsTaken, FenceFollows, SlotWon, SlotLost, WriteEnds, LinkWon, LinkLost, HeadWon, HeadLost, KeptUntilUnpinned, BitsCleared, BitsNotCleared, CollectEnds, SyncEnds, FilesByPosition, EarlyFiles, WalkedTrail, LacksBlocks, EntryTakenIn, ReadLays, BaseWords, SnapshotRead, QuietCalls, RepliesFit, LimitsFit};
+ghost use Rattle.log_core.specs.Refused.{OtherEntryPossible, HeadSkips, LogHasMore, BitWithoutOwner, BlockOnTwoLists, ChainBlockFree, OtherContentPossible, PinOfAnother, ViewOfAnother, StoredNotPresent, ReplacedStillNamed, RecordOfNoWrite, SyncedMayBeLost, NamedTwice, SnapshotNamesMore, WriteOfNoSeat};
+ghost use Rattle.log_core.specs.Accepted.{PinMayBeStored, WordMayBeLoaded, WordMayBeMarked, EntryMayBePut, OrderStands, PinsStand, ViewsStand, OwnedStands, GivingsStand, RecordsStand, SyncsStand, ContentsStand, OwnersStand, PinRuns, WriteFits, ViewsJoin, ViewsSplit, LateWrite, LateSync, LateWalk, RunsMayBePut, CollectionsInTurn};
+
+/// Worked states and steps of small images: what each comes to.
+pub fn law_rows()
+    ensures just_made { JustMade }
+    ensures pins_in_three_steps { PinsInThreeSteps }
+    ensures scan_sees_pins { ScanSeesPins }
+    ensures comes_to_tail { ComesToTail }
+    ensures bits_taken { BitsTaken }
+    ensures fence_follows { FenceFollows }
+    ensures slot_won { SlotWon }
+    ensures slot_lost { SlotLost }
+    ensures write_ends { WriteEnds }
+    ensures link_won { LinkWon }
+    ensures link_lost { LinkLost }
+    ensures head_won { HeadWon }
+    ensures head_lost { HeadLost }
+    ensures kept_until_unpinned { KeptUntilUnpinned }
+    ensures bits_cleared { BitsCleared }
+    ensures bits_not_cleared { BitsNotCleared }
+    ensures collect_ends { CollectEnds }
+    ensures sync_ends { SyncEnds }
+    ensures files_by_position { FilesByPosition }
+    ensures early_files { EarlyFiles }
+    ensures trail_walked { WalkedTrail }
+    ensures lacks_blocks { LacksBlocks }
+    ensures entry_taken_in { EntryTakenIn }
+    ensures read_lays { ReadLays }
+    ensures base_words { BaseWords }
+    ensures snapshot_read { SnapshotRead }
+    ensures quiet_calls { QuietCalls }
+    ensures replies_fit { RepliesFit }
+    ensures limits_fit { LimitsFit }
+{}
+
+/// Wrong states: each is refused by the clause that it breaks.
+pub fn law_refused()
+    ensures other_entry_possible { OtherEntryPossible }
+    ensures head_skips { HeadSkips }
+    ensures log_has_more { LogHasMore }
+    ensures bit_without_owner { BitWithoutOwner }
+    ensures block_on_two_lists { BlockOnTwoLists }
+    ensures chain_block_free { ChainBlockFree }
+    ensures other_content_possible { OtherContentPossible }
+    ensures pin_of_another { PinOfAnother }
+    ensures view_of_another { ViewOfAnother }
+    ensures stored_not_present { StoredNotPresent }
+    ensures replaced_still_named { ReplacedStillNamed }
+    ensures record_of_no_write { RecordOfNoWrite }
+    ensures synced_may_be_lost { SyncedMayBeLost }
+    ensures named_twice { NamedTwice }
+    ensures snapshot_names_more { SnapshotNamesMore }
+    ensures write_of_no_seat { WriteOfNoSeat }
+{}
+
+/// Conditions of steps, and clauses that hold of states that runs come to.
+pub fn law_accepted()
+    ensures pin_may_be_stored { PinMayBeStored }
+    ensures word_may_be_loaded { WordMayBeLoaded }
+    ensures word_may_be_marked { WordMayBeMarked }
+    ensures entry_may_be_put { EntryMayBePut }
+    ensures order_stands { OrderStands }
+    ensures pins_stand { PinsStand }
+    ensures views_stand { ViewsStand }
+    ensures owned_stands { OwnedStands }
+    ensures givings_stand { GivingsStand }
+    ensures records_stand { RecordsStand }
+    ensures syncs_stand { SyncsStand }
+    ensures contents_stand { ContentsStand }
+    ensures owners_stand { OwnersStand }
+    ensures pin_runs { PinRuns }
+    ensures write_fits { WriteFits }
+    ensures views_join { ViewsJoin }
+    ensures views_split { ViewsSplit }
+    ensures late_write { LateWrite }
+    ensures late_sync { LateSync }
+    ensures late_walk { LateWalk }
+    ensures runs_may_be_put { RunsMayBePut }
+    ensures collections_in_turn { CollectionsInTurn }
+{}
