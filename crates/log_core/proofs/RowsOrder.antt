@@ -1,5 +1,5 @@
 -- The clauses on order and pins hold in the middle of a collection.
-use Rattle.std.proofs.Common.{◌≡◌, ◌≢◌, ◌≤◌, ◌<◌, ◌+◌, ◌-◌, ℕ, zero, suc, true, length, slice_index, refl, arith}
+use Rattle.std.proofs.Common.{◌^◌, ◌≡◌, ◌≢◌, ◌≤◌, ◌<◌, ◌+◌, ◌-◌, ℕ, zero, suc, true, length, slice_index, refl, arith}
 use Rattle.std.proofs.lemmas.Bool.{false≢true}
 use Rattle.std.specs.Prelude.{slice_index_or}
 use Rattle.log_entry.specs.Words.{head_word}
@@ -22,6 +22,11 @@ each_head zero less = refl
 each_head (suc zero) less = refl
 each_head (suc (suc place)) less = absurd (omega (arith, less))
 
+small : (place : ℕ) → place < 2 → front_of collected.logs (nth_generation collected.generations place) < 2 ^ 16
+small zero less = omega arith
+small (suc zero) less = omega arith
+small (suc (suc place)) less = absurd (omega (arith, less))
+
 heads : HeadsInOrder image_a (λ word. cell collected.memory word) collected.generations collected.logs
 heads = record {
   header = λ word less. certain_by (cell collected.memory word) (slice_index image_a.words word) (below_all 3 (λ w. is_certain (cell collected.memory w) (slice_index image_a.words w)) word refl less);
@@ -29,6 +34,7 @@ heads = record {
   few = omega arith;
   count = refl;
   floor = omega arith;
+  small = small;
   each = each_head;
 }
 
@@ -113,14 +119,14 @@ stands zero less = record {
   base = certain_by (cell collected.memory 25) 4611686018427387904 refl;
   zero = certain_by (cell collected.memory 26) 0 refl;
   link = growing_by (cell collected.memory 24) 4 refl;
-  slots = λ k within. growing_by (cell collected.memory (24 + (k + 3))) (slice_index (nth_log collected.logs 0).slots k)
+  slots = λ k within near. growing_by (cell collected.memory (24 + (k + 3))) (slice_index (nth_log collected.logs 0).slots k)
       (below_all 5 (λ j. is_growing (cell collected.memory (24 + (j + 3))) (slice_index (nth_log collected.logs 0).slots j)) k refl (omega (arith, within)));
 }
 stands (suc zero) less = record {
   base = certain_by (cell collected.memory 33) 4611686018427387905 refl;
   zero = certain_by (cell collected.memory 34) 0 refl;
   link = growing_by (cell collected.memory 32) 0 refl;
-  slots = λ k within. growing_by (cell collected.memory (32 + (k + 3))) (slice_index (nth_log collected.logs 1).slots k)
+  slots = λ k within near. growing_by (cell collected.memory (32 + (k + 3))) (slice_index (nth_log collected.logs 1).slots k)
       (below_all 5 (λ j. is_growing (cell collected.memory (32 + (j + 3))) (slice_index (nth_log collected.logs 1).slots j)) k refl (omega (arith, within)));
 }
 stands (suc (suc number)) less = absurd (omega (arith, less))

@@ -5,7 +5,7 @@ use Rattle.log_core.specs.Origin.{Owner, InChain, OwnedBy}
 use Rattle.log_core.specs.Refused.{OtherEntryPossible, HeadSkips, LogHasMore, BitWithoutOwner, BlockOnTwoLists, ChainBlockFree, OtherContentPossible, PinOfAnother}
 
 pub other_entry_possible : OtherEntryPossible
-other_entry_possible = λ order. (let other = ((order.chains 0 (record { inside = omega arith; why = inl (omega arith) }) 0 (omega arith) (omega arith)).slots 0 (omega arith)).before 0 (omega arith) (omega arith) in omega (arith, other))
+other_entry_possible = λ order. (let other = ((order.chains 0 (record { inside = omega arith; why = inl (omega arith) }) 0 (omega arith) (omega arith)).slots 0 (omega arith) (λ sealed. omega arith)).before 0 (omega arith) (omega arith) in omega (arith, other))
 
 pub head_skips : HeadSkips
 head_skips = λ order. (let second = order.heads.each 1 (omega arith) in omega (arith, second))
