@@ -1,5 +1,5 @@
 -- A machine that leads to its end within a core does so in a world, turn by turn.
-use Rattle.std.proofs.Common.{◌≡◌, ◌≢◌, ◌<◌, ◌≤◌, ◌+◌, ◌^◌, get_or, ℕ, Bool, true, false, List, [], ◌∷◌, length, refl, sym, ◌∙◌, ap, subst, arith, slice_set}
+use Rattle.std.proofs.Common.{◌≡◌, ◌≢◌, ◌<◌, ◌≤◌, ◌^◌, get_or, ℕ, Bool, List, [], length, refl, sym, ◌∙◌, ap, subst, arith, slice_set}
 use Rattle.std.proofs.Math.Logic.{∥∥₁_elim, ∥∥₁_map}
 use Rattle.std.proofs.lemmas.List.{get_or-set_same, get_or-set_other, length-set}
 use Rattle.log_entry.specs.declared.calls.Call.{Call}
@@ -17,7 +17,7 @@ use Rattle.persistence.specs.Cells.{fresh_memory}
 use Rattle.log_core.specs.Views.{View, Ghost, view_of, spent_view, new_view, no_geometry, op_in}
 use Rattle.log_core.specs.Origin.{Origin, q_of, first_position, first_views, made_by}
 use Rattle.log_core.specs.Cores.{Core, first_core}
-use Rattle.log_core.specs.Steps.{Note, Does, kind_of, view_after, is_begun, ghost_begun}
+use Rattle.log_core.specs.Steps.{Does, kind_of, view_after, is_begun, ghost_begun}
 use Rattle.log_core.specs.After.{after}
 use Rattle.log_core.specs.Runs.{Allowed, MayNumber}
 use Rattle.log_core.specs.Within.{no_record, note_of, Did, IsReadyIn, within, IsLinked, IsLeft}
@@ -25,7 +25,7 @@ use Rattle.log_core.specs.Starts.{IsStart, origin_of}
 use Rattle.log_core.proofs.Serving.{stays}
 use Rattle.log_core.proofs.StartKept.{same_position}
 use Rattle.log_core.proofs.OneView.{same_or_other}
-use Rattle.crash_model.specs.Worlds.{WorldNow, Stands, FitsCore, HasFitting, seat_of, set_seat, world_after, answer_in, told_in, turned, new_world}
+use Rattle.crash_model.specs.Worlds.{WorldNow, Stands, FitsCore, HasFitting, seat_of, world_after, answer_in, told_in, turned, new_world}
 use Rattle.crash_model.specs.Led.{IsAtRest, LeadsIn, IsLed, EndsIn, HasEnded, RestsIn, IsResting}
 use Rattle.crash_model.proofs.Standing.{stands_after, stands_with, new_stands_by}
 
@@ -108,7 +108,7 @@ module _ {M Out : Type 0} (seat : ℕ) (script : Script M Out) (rec : Out → Se
       others = rest_next;
       leads = subst (λ (t : Seat). Leads script (within o seat number script rec) Q (told_in script w seat m).machine t (view_of next.views seat)) (sym told)
           (subst (λ (a : ℕ). Leads script (within o seat number script rec) Q (script.after m s a).machine (script.after m s f).seat (view_of next.views seat)) answer_same
-            (go_now script (within o seat number script rec) Q led.leads f (view_of next.views seat) did (subst (λ (a : ℕ). (script.after m s a).turn ≡ Go) (sym answer_same) go)));
+          (go_now script (within o seat number script rec) Q led.leads f (view_of next.views seat) did (subst (λ (a : ℕ). (script.after m s a).turn ≡ Go) (sym answer_same) go)));
     }
 
     ends_so : (out : Out) → (told_in script w seat m).turn ≡ Done out → EndsIn seat Q out (turned script w seat m) o next
@@ -137,12 +137,16 @@ module _ {M Out : Type 0} (seat : ℕ) (script : Script M Out) (rec : Out → Se
 
 -- where a machine leaves the seat its view's state, each seat is at rest after it
 pub rests_ended : {Out : Type 0} (seat : ℕ) (Q : Out → Seat → View → Type 0) (out : Out) (w : WorldNow) → ((t : Seat) (v : View) → Q out t v → (v.parts ≢ []) × (t ≡ v.seat)) → HasEnded seat Q out w → IsResting w
-rests_ended seat Q out w leaves ended = ∥∥₁_map ended (λ e. (e.0, e.1, record {
-  stands = e.2.stands;
-  seats = λ other inside. same_or_other other seat
-      (λ same. subst (λ (k : ℕ). IsAtRest w e.1 k) (sym same) (let l = leaves (seat_of w seat) (view_of e.1.views seat) e.2.ends in record { made = e.2.made; unspent = l.0; same = l.1 }))
-      (λ apart. e.2.others other apart inside);
-}))
+rests_ended seat Q out w leaves ended = ∥∥₁_map ended (λ e. (
+  e.0,
+  e.1,
+  record {
+    stands = e.2.stands;
+    seats = λ other inside. same_or_other other seat
+        (λ same. subst (λ (k : ℕ). IsAtRest w e.1 k) (sym same) (let l = leaves (seat_of w seat) (view_of e.1.views seat) e.2.ends in record { made = e.2.made; unspent = l.0; same = l.1 }))
+        (λ apart. e.2.others other apart inside);
+  },
+))
 
 -- a machine that the core promises begins at a seat of a world at rest
 pub begins_led : {M Out : Type 0} (seat : ℕ) (script : Script M Out) (m : M) (P : Origin → Seat → Ghost → Type 0) (R : Origin → Out → Seat → Ghost → Type 0) (Q : Out → Seat → View → Type 0) (w : WorldNow) →
@@ -187,14 +191,14 @@ new_rests geometry words taken generation position size seats room small some fe
     rests : (k : Keeps geometry words taken generation position size) → RestsIn roomy (origin k) (first_core (origin k))
     rests k = (let st = new_stands_by geometry words taken generation position size seats small some few k in
         let same = same_position geometry words taken generation position size seats seats k in record {
-      stands = record { start = st.start; geometry = st.geometry; seats = st.seats; reached = st.reached; memory = st.memory; position = st.position; synced = st.synced };
-      seats = λ seat low. (let inside : seat < seats = (let e = length-map-range_with_len (λ (n : ℕ). new_seat geometry n seats position) 0 seats in omega (arith, e, low)) in
-          let view_is : view_of (first_views (origin k)) seat ≡ new_view geometry seats (first_position (origin k)) (made_by seats seat) seat =
+          stands = record { start = st.start; geometry = st.geometry; seats = st.seats; reached = st.reached; memory = st.memory; position = st.position; synced = st.synced };
+          seats = λ seat low. (let inside : seat < seats = (let e = length-map-range_with_len (λ (n : ℕ). new_seat geometry n seats position) 0 seats in omega (arith, e, low)) in
+              let view_is : view_of (first_views (origin k)) seat ≡ new_view geometry seats (first_position (origin k)) (made_by seats seat) seat =
               get_or-map-range_with_len (λ (n : ℕ). new_view geometry seats (first_position (origin k)) (made_by seats n) n) 0 seats seat seat spent_view inside (omega arith) in
-          record {
-            made = (let e = length-map-range_with_len (λ (n : ℕ). new_view geometry seats (first_position (origin k)) (made_by seats n) n) 0 seats in omega (arith, e, inside));
-            unspent = subst (λ (v : View). v.parts ≢ []) (sym view_is) (λ none. cc);
-            same = get_or-map-range_with_len (λ (n : ℕ). new_seat geometry n seats position) 0 seats seat seat (new_seat no_geometry 0 0 0) inside (omega arith)
-                ∙ (ap (λ (p : ℕ). new_seat geometry seat seats p) (sym same) ∙ ap (λ (v : View). v.seat) (sym view_is));
-          });
-    })
+              record {
+                made = (let e = length-map-range_with_len (λ (n : ℕ). new_view geometry seats (first_position (origin k)) (made_by seats n) n) 0 seats in omega (arith, e, inside));
+                unspent = subst (λ (v : View). v.parts ≢ []) (sym view_is) (λ none. cc);
+                same = get_or-map-range_with_len (λ (n : ℕ). new_seat geometry n seats position) 0 seats seat seat (new_seat no_geometry 0 0 0) inside (omega arith)
+                    ∙ (ap (λ (p : ℕ). new_seat geometry seat seats p) (sym same) ∙ ap (λ (v : View). v.seat) (sym view_is));
+              });
+        })

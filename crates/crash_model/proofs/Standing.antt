@@ -1,5 +1,5 @@
 -- What a world stands for, after each of its calls.
-use Rattle.std.proofs.Common.{◌≡◌, ◌≢◌, ◌<◌, ◌≤◌, ◌+◌, ◌*◌, ◌^◌, ◌==◌, ◌&&◌, not, ℕ, zero, suc, Bool, true, false, if◌then◌else◌, List, [], ◌∷◌, ◌++◌, length, map, max, inl, inr, refl, sym, ◌∙◌, ap, subst, arith, length-append, slice_index, slice_set, Option, Some, None, Result, Ok, Err, IfOk, IsErr}
+use Rattle.std.proofs.Common.{◌≡◌, ◌<◌, ◌≤◌, ◌+◌, ◌*◌, ◌^◌, ◌==◌, ◌&&◌, not, ℕ, suc, Bool, true, false, if◌then◌else◌, List, [], ◌∷◌, ◌++◌, length, map, max, inr, refl, sym, ◌∙◌, ap, subst, arith, length-append, slice_index, slice_set, Result, Ok, Err, IfOk, IsErr}
 use Rattle.std.proofs.Math.Logic.{∥∥₁_elim, ∥∥₁_map}
 use Rattle.std.proofs.Math.Bridge.{le_prop}
 use Rattle.std.proofs.Math.Nat.{mul-le-mul_right}
@@ -11,7 +11,7 @@ use Rattle.log_image.specs.Keeps.{Keeps}
 use Rattle.log_core.specs.Starts.{origin_of}
 use Rattle.log_core.proofs.StartKept.{kept_start, same_position}
 use Rattle.log_entry.specs.declared.layouts.TheConstants.{SEAL}
-use Rattle.log_image.specs.Image.{Shape, words_in, total}
+use Rattle.log_image.specs.Image.{words_in, total}
 use Rattle.seat_state.specs.Seats.{Seat, q_of, new_seat}
 use Rattle.seat_state.specs.declared.TheConstants.{SEATS}
 use Rattle.pmem_words.specs.Asks.{answer}
@@ -23,12 +23,12 @@ use Rattle.persistence.specs.Cells.{CellsNow, TakesAsk, cells_after, fresh_memor
 use Rattle.log_core.specs.Entries.{head_place}
 use Rattle.log_core.specs.Origin.{Origin, shape, first_position}
 use Rattle.log_core.specs.Origin.{q_of as words_in_block}
-use Rattle.log_core.specs.Files.{Write, end_of}
+use Rattle.log_core.specs.Files.{Write}
 use Rattle.log_core.specs.Cores.{Core, first_core}
-use Rattle.log_core.specs.Steps.{Note, Step, Does, Kind, LoadsHead, StoresOwnPin, LoadsPinWord, LoadsImageWord, LoadsBitmapWord, SetsBits, ClearsBits, StoresWord, ExchangesSlot, ExchangesLink, ExchangesHead, MarksWord, Fences, NoKind, kind_of, exchange_kind}
+use Rattle.log_core.specs.Steps.{Note, Does, Kind, LoadsHead, StoresOwnPin, LoadsPinWord, LoadsImageWord, LoadsBitmapWord, SetsBits, ClearsBits, StoresWord, ExchangesSlot, ExchangesLink, ExchangesHead, MarksWord, Fences, NoKind, kind_of}
 use Rattle.log_core.specs.After.{after, history_after, history_if, write_of, synced_after}
 use Rattle.log_core.specs.May.{is_offered}
-use Rattle.log_core.specs.Runs.{Allowed, IsReached, MayStep, IsRun, end}
+use Rattle.log_core.specs.Runs.{Allowed, IsReached, MayStep}
 use Rattle.log_core.specs.Invariant.{Invariant}
 use Rattle.log_core.specs.Views.{view_of}
 use Rattle.log_core.proofs.Serving.{reached_keeps}
@@ -127,8 +127,8 @@ module _ (w : WorldNow) (seat : ℕ) (ask : Ask) (o : Origin) (c : Core) (note :
       position =
           (let long = history_long c.history seat note (kind_of (words_in_block o) seat ask) (found c.memory ask) in
           let same : rises (kind_of (words_in_block o) seat ask) (found c.memory ask) ≡ rises (kind_in w seat ask) (found_answer w.cells.memory ask) =
-              rises_answer (words_in_block o) seat ask (found c.memory ask)
-              ∙ (ap (λ (kind : Kind). rises kind (found_answer c.memory ask)) kind_same ∙ ap (λ (m : Memory). rises (kind_in w seat ask) (found_answer m ask)) fits.stands.memory) in
+          rises_answer (words_in_block o) seat ask (found c.memory ask)
+          ∙ (ap (λ (kind : Kind). rises kind (found_answer c.memory ask)) kind_same ∙ ap (λ (m : Memory). rises (kind_in w seat ask) (found_answer m ask)) fits.stands.memory) in
           let before = fits.stands.position in
           omega (arith, long, same, before))
 

@@ -1,5 +1,5 @@
 -- A world: the memory of several seats, their states, and the two positions; and the core states that it stands for.
-use Rattle.std.specs.Prelude.{ℕ, ◌+◌, ◌≡◌, ◌<◌, ◌==◌, ◌&&◌, not, max, Bool, true, false, if◌then◌else◌, List, length, map, slice_index_or, slice_set, Option, Some, None}
+use Rattle.std.specs.Prelude.{ℕ, ◌+◌, ◌≡◌, ◌==◌, ◌&&◌, not, Bool, true, false, List, length, map, slice_index_or, slice_set}
 use Rattle.std.specs.List.{range_with_len}
 use Rattle.log_entry.specs.declared.layouts.TheConstants.{SEAL}
 use Rattle.log_entry.specs.declared.shapes.Geometry.{Geometry}

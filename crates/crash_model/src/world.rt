@@ -6,8 +6,8 @@ ghost use Rattle.seat_state.specs.Seats.{new_seat};
 ghost use Rattle.log_core.specs.Steps.{kind_of};
 ghost use Rattle.crash_model.specs.Worlds.{rises, synced_by};
 
-use log_entry::layouts::SEAL;
 use log_entry::Geometry;
+use log_entry::layouts::SEAL;
 use log_image::Start;
 use persistence::{Cells, Choice};
 use pmem_words::{Ask, Machine, Place, SeatState, Task, Turn};
@@ -216,5 +216,4 @@ fn synced_by(synced: u64, state: &SeatState, ask: Ask) -> u64
 /// Does nothing: its contract says of words that they have 64 bits, which a contract over a list of numbers has to be told.
 fn bound(words: &[u64])
     ensures { (place : ℕ) → slice_index words.now place < 2 ^ 64 }
-{
-}
+{}

@@ -1,15 +1,14 @@
 -- What holds of a seat's state stays where a call begins.
-use Rattle.std.proofs.Common.{◌≡◌, ◌≢◌, ◌<◌, ◌≤◌, ◌+◌, ◌-◌, ◌*◌, ◌==◌, ◌&&◌, ℕ, zero, suc, Bool, true, false, List, [], ◌∷◌, length, map, replicate, refl, sym, ◌∙◌, ap, subst, arith, ◌⊎◌, inl, inr, slice_index, Option, Some, None}
+use Rattle.std.proofs.Common.{◌≡◌, ◌≢◌, ◌<◌, ◌≤◌, ◌+◌, ◌==◌, ◌&&◌, ℕ, Bool, true, false, List, [], ◌∷◌, length, map, refl, sym, ◌∙◌, ap, subst, arith, Option, Some, None}
 use Rattle.std.specs.List.{AllByRecursion}
 use Rattle.std.proofs.lemmas.List.{length-replicate}
 use Rattle.log_entry.specs.ByteFile.{read}
-use Rattle.log_entry.specs.declared.calls.Op.{Op}
 use Rattle.log_entry.specs.declared.calls.Call.{Call}
 use Rattle.seat_parts.specs.declared.keeps.Task.{Task}
-use Rattle.seat_parts.specs.declared.keeps.Task.TheVariants.{Pread, Sync}
+use Rattle.seat_parts.specs.declared.keeps.Task.TheVariants.{Pread}
 use Rattle.seat_state.specs.Seats.{Seat}
 use Rattle.persistence.specs.Memory.{Noted, cell, notes_of}
-use Rattle.log_core.specs.Views.{View, Ghost, HeadPut, view_of, op_in, op_of}
+use Rattle.log_core.specs.Views.{Ghost, HeadPut, view_of, op_of}
 use Rattle.log_core.specs.Origin.{Origin}
 use Rattle.log_core.specs.Files.{file_at}
 use Rattle.log_core.specs.Cores.{Core}
@@ -18,7 +17,7 @@ use Rattle.log_core.specs.Steps.{call_if}
 use Rattle.log_core.specs.Walks.{WalkHolds}
 use Rattle.log_core.specs.Giving.{ScanHolds}
 use Rattle.log_core.specs.Records.{running_at, writes_at, one_if, mark_of, WritesOnce, CallHolds}
-use Rattle.log_core.specs.Synced.{SyncHolds, SyncMarkHolds}
+use Rattle.log_core.specs.Synced.{SyncMarkHolds}
 use Rattle.log_core.specs.Invariant.{around}
 use Rattle.log_core.specs.Knows.{with_seat, Knows}
 
@@ -39,7 +38,6 @@ never_both either put none some = cc
 
 module _ (o : Origin) (c : Core) (n : ℕ) (s : Seat) (g : Ghost) (pin began now : ℕ) (f : Knows o c n s g pin began) (task : Task) (bytes : List ℕ) (number : ℕ) (b : Bool)
     (may : MayBegin g s task bytes) (higher : b ≡ true → g.call.number < number) (begun : op_of task bytes ≢ None → b ≡ true) where
-
   abbrev pub new : Seat
   new = worked s (Begins task bytes)
 

@@ -1,13 +1,12 @@
 -- What holds of a seat's state by the invariant; and it stays where the seat gives up its kept words.
-use Rattle.std.proofs.Common.{◌≡◌, ◌≢◌, ◌<◌, ◌≤◌, ◌+◌, ◌-◌, ◌==◌, ℕ, zero, suc, Bool, true, false, List, [], ◌∷◌, length, refl, sym, ◌∙◌, ap, subst, arith, ◌⊎◌, inl, inr, slice_index}
+use Rattle.std.proofs.Common.{◌≡◌, ◌<◌, ◌≤◌, ◌+◌, ◌-◌, ℕ, true, [], length, refl, subst, arith, inr, slice_index}
 use Rattle.seat_state.specs.Seats.{Seat}
 use Rattle.log_core.specs.Views.{View, Ghost, view_of}
 use Rattle.log_core.specs.Origin.{Origin, first_generation}
-use Rattle.log_core.specs.Cores.{Core, current, IsPinned}
-use Rattle.log_core.specs.Sizes.{SeatFits}
+use Rattle.log_core.specs.Cores.{Core, current}
 use Rattle.log_core.specs.Walks.{WalkHolds}
 use Rattle.log_core.specs.Invariant.{Invariant, KeptIn, around}
-use Rattle.log_core.specs.Knows.{with_seat, Knows}
+use Rattle.log_core.specs.Knows.{Knows}
 
 -- a generation from the first to the present one has a place
 place_inside : (first place now count past : ℕ) → now ≡ first + count - 1 → count ≡ past + 1 → first + place ≤ now → place < count

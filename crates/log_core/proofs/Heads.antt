@@ -1,18 +1,14 @@
 -- The present head: it is the present generation's.
-use Rattle.std.proofs.Common.{◌≡◌, ◌≢◌, ◌<◌, ◌≤◌, ◌+◌, ◌-◌, ◌*◌, ◌/◌, ◌%◌, ◌^◌, ◌==◌, ◌&&◌, ◌||◌, nat_lt, ℕ, zero, suc, Bool, true, false, List, [], ◌∷◌, ◌++◌, length, map, drop, get_or, refl, sym, ◌∙◌, ap, subst, arith, ◌⊎◌, inl, inr, ⊎_elim, slice_index}
-use Rattle.std.specs.List.{list_any}
-use Rattle.std.proofs.lemmas.Bool.{ltb-true, eqb-true, eq-eqb}
+use Rattle.std.proofs.Common.{◌≡◌, ◌<◌, ◌≤◌, ◌+◌, ◌^◌, ℕ, length, refl, sym, ◌∙◌, ap, subst, arith, inl}
 use Rattle.std.proofs.lemmas.List.{get_or_push}
 use Rattle.log_entry.specs.Fields.{field}
 use Rattle.log_entry.specs.Words.{head_word}
 use Rattle.log_entry.specs.declared.layouts.TheConstants.{HEAD_GENERATION}
-use Rattle.log_image.specs.Image.{Shape, total, is_in_log}
-use Rattle.persistence.specs.Memory.{Memory, Cell, cell}
+use Rattle.persistence.specs.Memory.{Cell, cell}
 use Rattle.persistence.specs.Survivors.{value_at}
-use Rattle.log_core.specs.Entries.{has, head_place}
-use Rattle.log_core.specs.Origin.{Origin, shape, first_generation, LogBlock, no_log, Generation, no_generation}
-use Rattle.log_core.specs.Cores.{Core, nth_log, current, log_blocks, chain_names, head_floor}
-use Rattle.log_core.specs.Snapshots.{first_or}
+use Rattle.log_core.specs.Entries.{head_place}
+use Rattle.log_core.specs.Origin.{Origin, first_generation}
+use Rattle.log_core.specs.Cores.{Core, current, head_floor}
 use Rattle.log_core.specs.Order.{nth_generation, front_of}
 use Rattle.log_core.specs.Pins.{WasHead}
 use Rattle.log_core.specs.Invariant.{Invariant, KeptIn}
@@ -73,5 +69,5 @@ module _ (o : Origin) (c : Core) (inv : Invariant o c) where
       let low = was.inside in
       let count = last_place in
       let generation : field HEAD_GENERATION word ≡ first_generation o + was.place =
-          ap (field HEAD_GENERATION) e ∙ generation_field (first_generation o + was.place) (front_of c.logs (nth_generation c.generations was.place)) (omega (arith, few, low, count)) (inv.order.heads.small was.place inside) in
+      ap (field HEAD_GENERATION) e ∙ generation_field (first_generation o + was.place) (front_of c.logs (nth_generation c.generations was.place)) (omega (arith, few, low, count)) (inv.order.heads.small was.place inside) in
       omega (arith, generation, is, low))

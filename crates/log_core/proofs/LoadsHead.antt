@@ -4,12 +4,11 @@ use Rattle.std.specs.List.{AllByRecursion}
 use Rattle.std.proofs.lemmas.Bool.{eqb-true}
 use Rattle.log_entry.specs.Fields.{field}
 use Rattle.log_entry.specs.declared.layouts.TheConstants.{HEAD_GENERATION}
-use Rattle.seat_parts.specs.declared.keeps.Task.TheVariants.{Sync}
 use Rattle.seat_parts.specs.declared.keeps.KeptWord.{KeptWord}
 use Rattle.seat_state.specs.Seats.{Seat, Hold, Giving}
 use Rattle.persistence.specs.Memory.{Noted, cell, notes_of}
 use Rattle.log_core.specs.Entries.{head_place}
-use Rattle.log_core.specs.Views.{View, Ghost, view_of}
+use Rattle.log_core.specs.Views.{Ghost, view_of}
 use Rattle.log_core.specs.Origin.{Origin, shape, first_generation}
 use Rattle.log_core.specs.Files.{entries}
 use Rattle.log_core.specs.Cores.{Core, current, generation_at, is_named, head_floor}
@@ -18,7 +17,7 @@ use Rattle.log_core.specs.Walks.{WalkHolds, IsKeptWord}
 use Rattle.log_core.specs.Giving.{GivingHolds, ScanHolds}
 use Rattle.log_core.specs.Synced.{SyncMarkHolds}
 use Rattle.log_core.specs.Invariant.{Invariant, KeptIn, around, names_by}
-use Rattle.log_core.specs.Knows.{with_seat, Knows}
+use Rattle.log_core.specs.Knows.{Knows}
 use Rattle.log_core.proofs.Heads.{head_generation, was_head, some_generation, kept_current, floor_low}
 
 -- the hold and the readiness after the load, by whether the pin word holds the head's generation
@@ -61,7 +60,6 @@ ready_same true h ready e = by (h.pin == h.generation) refl e
 
 module _ (o : Origin) (c : Core) (n : ℕ) (s : Seat) (g : Ghost) (pin began word : ℕ) (inv : Invariant o c) (f : Knows o c n s g pin began)
     (found : word ≡ (cell c.memory head_place).present) where
-
   generation : field HEAD_GENERATION word ≡ current o c.generations
   generation = ap (field HEAD_GENERATION) found ∙ head_generation o c inv
 
@@ -94,14 +92,14 @@ module _ (o : Origin) (c : Core) (n : ℕ) (s : Seat) (g : Ghost) (pin began wor
   -- the kept words are of the pinned chain: there are none where the pin was not valid before
   kept_words : (b valid : Bool) → s.hold.valid ≡ valid → WalkHolds (around o c) s.hold s.walk →
       AllByRecursion (IsKeptWord (shape o) c.memory.now.words (λ block. is_named o c.logs (entries o c.history) (generation_at o c.generations (if b then s.hold.pin else s.hold.generation)) block)
-        (Rattle.std.proofs.Common.drop (generation_at o c.generations (if b then s.hold.pin else s.hold.generation)).cut c.logs)) s.walk.kept
+      (Rattle.std.proofs.Common.drop (generation_at o c.generations (if b then s.hold.pin else s.hold.generation)).cut c.logs)) s.walk.kept
   kept_words b true valid w = subst
       (λ (generation : ℕ). AllByRecursion (IsKeptWord (shape o) c.memory.now.words (λ block. is_named o c.logs (entries o c.history) (generation_at o c.generations generation) block)
-        (Rattle.std.proofs.Common.drop (generation_at o c.generations generation).cut c.logs)) s.walk.kept)
+      (Rattle.std.proofs.Common.drop (generation_at o c.generations generation).cut c.logs)) s.walk.kept)
       (sym (valid_same b valid)) (w.kept_words valid)
   kept_words b false valid w = subst
       (λ (kept : List KeptWord). AllByRecursion (IsKeptWord (shape o) c.memory.now.words (λ block. is_named o c.logs (entries o c.history) (generation_at o c.generations (if b then s.hold.pin else s.hold.generation)) block)
-        (Rattle.std.proofs.Common.drop (generation_at o c.generations (if b then s.hold.pin else s.hold.generation)).cut c.logs)) kept)
+      (Rattle.std.proofs.Common.drop (generation_at o c.generations (if b then s.hold.pin else s.hold.generation)).cut c.logs)) kept)
       (sym (w.unpinned valid)) tt
 
   walk_loaded : (b : Bool) → WalkHolds (around o c) s.hold s.walk → WalkHolds (around o c) (hold_by b s.hold word) (loaded_by b s word).walk

@@ -1,26 +1,11 @@
 -- One view is replaced by another: what has to hold of it, so that the invariant stays.
-use Rattle.std.proofs.Common.{◌≡◌, ◌≢◌, ◌<◌, ◌≤◌, ◌+◌, ◌-◌, ◌==◌, ℕ, zero, suc, Bool, true, false, List, [], ◌∷◌, length, set, get_or, refl, sym, ◌∙◌, ap, subst, arith, ◌⊎◌, inl, inr, slice_set, slice_index}
+use Rattle.std.proofs.Common.{◌≡◌, ◌≢◌, ◌<◌, ◌+◌, ◌==◌, ℕ, zero, suc, Bool, true, false, List, [], ◌∷◌, length, refl, sym, ◌∙◌, ap, subst, arith, slice_set}
 use Rattle.std.specs.List.{AllByRecursion}
 use Rattle.std.proofs.lemmas.Bool.{eqb-true, eq-eqb}
-use Rattle.std.proofs.lemmas.List.{get_or-set_same, get_or-set_other, length-set}
-use Rattle.log_entry.specs.declared.calls.Call.{Call}
-use Rattle.seat_state.specs.Seats.{Seat, Hold}
-use Rattle.persistence.specs.Memory.{Memory, Noted, cell}
-use Rattle.log_core.specs.Entries.{has, head_place}
-use Rattle.log_core.specs.Views.{View, Ghost, view_of, spent_view}
-use Rattle.log_core.specs.Origin.{Origin, shape, first_generation, first_position}
-use Rattle.log_core.specs.Files.{entries, end_of}
-use Rattle.log_core.specs.Cores.{Core, generation_at, current, IsKept, IsPinned, head_floor}
-use Rattle.log_core.specs.Sizes.{Sizes, SeatFits, MemoryFits}
-use Rattle.log_core.specs.Owners.{SeatOwns}
-use Rattle.log_core.specs.Pins.{PinHolds, PinWordsFit}
-use Rattle.log_core.specs.Walks.{Around, WalkHolds}
-use Rattle.log_core.specs.Owned.{OwnedHold}
-use Rattle.log_core.specs.Giving.{GivingHolds, ScanHolds}
-use Rattle.log_core.specs.Records.{WritesFit, WritesOnce, SeatsOnce, PutFits, CallHolds, TailHolds, MarksFit, parts_with, count_in, collected_by, collected_in, putting, CollectedOnce}
-use Rattle.log_core.specs.Synced.{SyncHolds}
-use Rattle.log_core.specs.Invariant.{Invariant, KeptIn, around, names_by}
-use Rattle.log_core.specs.Knows.{with_seat, Knows}
+use Rattle.std.proofs.lemmas.List.{get_or-set_same, get_or-set_other}
+use Rattle.log_core.specs.Views.{View, view_of, spent_view}
+use Rattle.log_core.specs.Cores.{Core}
+use Rattle.log_core.specs.Records.{parts_with, count_in, collected_by, collected_in, putting}
 
 -- the core with another view at one place, other pin words, and another list of ends
 abbrev pub with_view : Core → ℕ → View → List ℕ → List ℕ → Core

@@ -1,8 +1,7 @@
 -- So does every run: each ask of an offered kind is one of the three.
-use Rattle.std.proofs.Common.{◌≡◌, ◌≢◌, ◌<◌, ◌==◌, ◌%◌, not, ℕ, Bool, true, false, if◌then◌else◌, List, [], ◌∷◌, length, refl, sym, subst, slice_index, arith}
+use Rattle.std.proofs.Common.{◌≡◌, ◌<◌, ◌==◌, ◌%◌, not, ℕ, Bool, true, false, if◌then◌else◌, List, [], ◌∷◌, length, refl, sym, subst, slice_index}
 use Rattle.std.specs.List.{list_all}
 use Rattle.std.proofs.lemmas.Bool.{eqb-true}
-use Rattle.pmem_words.specs.declared.asks.Place.{Place}
 use Rattle.pmem_words.specs.declared.asks.Place.TheVariants.{Image, Pin, Map, FenceOf}
 use Rattle.pmem_words.specs.declared.asks.Ask.{Ask}
 use Rattle.pmem_words.specs.declared.asks.Ask.TheVariants.{Load, Store, Exchange, SetBits, ClearBits, Mark, Fence}
@@ -12,10 +11,9 @@ use Rattle.log_core.specs.Views.{View, view_of}
 use Rattle.log_core.specs.Origin.{Origin, q_of}
 use Rattle.log_core.specs.Cores.{Core, first_core}
 use Rattle.log_core.specs.Steps.{Note, Step, Does, Splits, Joins, Kind, LoadsHead, StoresOwnPin, LoadsPinWord, LoadsImageWord, NoKind, kind_of, exchange_kind}
-use Rattle.log_core.specs.After.{stepped, after}
+use Rattle.log_core.specs.After.{stepped}
 use Rattle.log_core.specs.May.{is_offered}
-use Rattle.log_core.specs.Runs.{MayStep, MayDo, DoesOffered, Allowed, IsRun, end, is_offered_work}
-use Rattle.log_core.specs.Starts.{IsStart}
+use Rattle.log_core.specs.Runs.{MayStep, IsRun, end, is_offered_work}
 use Rattle.log_core.specs.Invariant.{Invariant}
 use Rattle.log_core.specs.Laws.{StepKeeps}
 use Rattle.log_core.proofs.StepHolds.{head_holds, pin_holds, seen_holds}

@@ -1,30 +1,25 @@
 -- A machine that is lawful leads to its end within a core, whatever others do; and over a plain memory whose words are a core's.
-use Rattle.std.proofs.Common.{◌≡◌, ◌≢◌, ◌<◌, ◌≤◌, ◌+◌, ◌==◌, ◌&&◌, ℕ, zero, suc, Bool, true, false, List, [], ◌∷◌, ◌++◌, length, refl, sym, ◌∙◌, ap, subst, arith, slice_index, slice_set, Option, Some, None, append-nil}
+use Rattle.std.proofs.Common.{◌≡◌, ◌<◌, ℕ, Bool, true, false, List, [], ◌++◌, length, refl, sym, ◌∙◌, ap, subst, slice_index, Option, Some, None, append-nil}
 use Rattle.std.specs.List.{list_all}
-use Rattle.std.proofs.lemmas.List.{get_or-set_same, length-set}
 use Rattle.log_entry.specs.declared.calls.Op.{Op}
 use Rattle.log_entry.specs.declared.calls.Call.{Call}
 use Rattle.seat_state.specs.Seats.{Seat}
-use Rattle.pmem_words.specs.Scripts.{After, Script, Lowers}
-use Rattle.pmem_words.specs.Courses.{Course}
+use Rattle.pmem_words.specs.Scripts.{Script, Lowers}
 use Rattle.pmem_words.specs.Leads.{Leads, Keeps}
-use Rattle.pmem_words.specs.declared.asks.Ask.{Ask}
-use Rattle.pmem_words.specs.declared.asks.Turn.{Turn}
 use Rattle.pmem_words.specs.declared.asks.Turn.TheVariants.{Go, Done}
 use Rattle.pmem_words.proofs.LeadsLemmas.{leads_by}
 use Rattle.persistence.specs.Memory.{found_answer}
-use Rattle.log_core.specs.Views.{View, Ghost, Running, view_of, spent_view, op_in}
+use Rattle.log_core.specs.Views.{View, Ghost, Running, view_of, op_in}
 use Rattle.log_core.specs.Origin.{Origin, q_of}
 use Rattle.log_core.specs.Cores.{Core, first_core}
-use Rattle.log_core.specs.Works.{Computes, worked_all}
-use Rattle.log_core.specs.Steps.{Note, Step, Does, Kind, kind_of, effect, is_begun, ghost_begun, ghost_after, ghost_ended, call_if, view_after}
-use Rattle.log_core.specs.After.{after, began_if}
+use Rattle.log_core.specs.Works.{Computes}
+use Rattle.log_core.specs.Steps.{Does, Kind, kind_of, effect, is_begun, ghost_begun, ghost_after, ghost_ended, call_if, view_after}
+use Rattle.log_core.specs.After.{began_if}
 use Rattle.log_core.specs.Files.{end_of}
-use Rattle.log_core.specs.May.{May}
-use Rattle.log_core.specs.Runs.{MayNumber, Allowed, IsRun, end, IsReached, is_offered_work, ghost_at}
+use Rattle.log_core.specs.Runs.{MayNumber, Allowed, IsReached, is_offered_work}
 use Rattle.log_core.specs.Invariant.{Invariant}
 use Rattle.log_core.specs.Knows.{Knows}
-use Rattle.log_core.specs.Within.{adds_at, note_of, Did, IsReadyIn, within, Lawful, Serves, IsLinked, IsLeft}
+use Rattle.log_core.specs.Within.{note_of, Did, within, Lawful, Serves, IsLinked, IsLeft}
 use Rattle.log_core.proofs.Facts.{facts_of}
 use Rattle.log_core.proofs.StepHolds.{works_hold}
 use Rattle.log_core.proofs.RunHolds.{run_from}
@@ -53,18 +48,17 @@ module _ (o : Origin) (start : Invariant o (first_core o)) (seat number : ℕ) w
   knows_here : (c : Core) (s : Seat) → Invariant o c → seat < length c.views → (begins : Computes (view_of c.views seat).ghost (view_of c.views seat).seat s) → list_all is_offered_work begins.works ≡ true →
       MayNumber (is_begun (op_in (view_of c.views seat).seat) (op_in s)) (view_of c.views seat).ghost.call.number number →
       Knows o c seat s (ghost_begun (view_of c.views seat).ghost (view_of c.views seat).seat s number) (slice_index c.memory.now.pins seat)
-        (slice_index (began_if (is_begun (op_in (view_of c.views seat).seat) (op_in s)) c.began seat (end_of o c.history)) seat)
+      (slice_index (began_if (is_begun (op_in (view_of c.views seat).seat) (op_in s)) c.began seat (end_of o c.history)) seat)
   knows_here c s inv here begins offered number_is = subst
       (λ (t : Seat). MayNumber (is_begun (op_in (view_of c.views seat).seat) (op_in t)) (view_of c.views seat).ghost.call.number number →
-        Knows o c seat t (ghost_begun (view_of c.views seat).ghost (view_of c.views seat).seat t number) (slice_index c.memory.now.pins seat) (slice_index (began_if (is_begun (op_in (view_of c.views seat).seat) (op_in t)) c.began seat (end_of o c.history)) seat))
+      Knows o c seat t (ghost_begun (view_of c.views seat).ghost (view_of c.views seat).seat t number) (slice_index c.memory.now.pins seat) (slice_index (began_if (is_begun (op_in (view_of c.views seat).seat) (op_in t)) c.began seat (end_of o c.history)) seat))
       (sym begins.gives)
       (λ higher. works_hold o c seat (slice_index c.memory.now.pins seat) number (view_of c.views seat).seat begins.works offered begins.may
-        (rw (stays (op_in (view_of c.views seat).seat)) (facts_of o c seat inv here)) (λ e. e) higher)
+      (rw (stays (op_in (view_of c.views seat).seat)) (facts_of o c seat inv here)) (λ e. e) higher)
       number_is
 
   module _ {M Out : Type 0} (script : Script M Out) (rec : Out → Seat → List Call) (P : M → Seat → Ghost → Type 0) (R : Out → Seat → Ghost → Type 0)
       (serves : Serves o seat script rec P R) (lowers : Lowers script) (rest : List Call) where
-
     abbrev kind : M → Seat → Kind
     kind m s = kind_of (q_of o) seat (script.asks m s)
 
@@ -75,8 +69,8 @@ module _ (o : Origin) (start : Invariant o (first_core o)) (seat number : ℕ) w
     admitted_at : (m : M) (s : Seat) (c : Core) → Invariant o c → seat < length c.views → IsLinked number rest (P m) s (view_of c.views seat) → script.admits m s (found_answer c.memory (script.asks m s))
     admitted_at m s c inv here linked =
         (serves m s (ghost_begun (view_of c.views seat).ghost (view_of c.views seat).seat s number) linked.fits).admitted c (slice_index c.memory.now.pins seat)
-          (slice_index (began_if (is_begun (op_in (view_of c.views seat).seat) (op_in s)) c.began seat (end_of o c.history)) seat) inv
-          (knows_here c s inv here linked.begins linked.offered linked.number_is)
+        (slice_index (began_if (is_begun (op_in (view_of c.views seat).seat) (op_in s)) c.began seat (end_of o c.history)) seat) inv
+        (knows_here c s inv here linked.begins linked.offered linked.number_is)
 
     -- and the ask is a step
     can_at : (m : M) (s : Seat) (c : Core) → Invariant o c → seat < length c.views → IsLinked number rest (P m) s (view_of c.views seat) →
@@ -132,27 +126,27 @@ module _ (o : Origin) (start : Invariant o (first_core o)) (seat number : ℕ) w
             (let admits = admitted_here m s v linked f w did in
             let u = view_after v (kind m s) (note_of script rec number m s f) f in
             subst (λ (x : View). IsLinked number rest (P (script.after m s f).machine) (script.after m s f).seat x) (sym did.left)
-              (record {
-                unspent = linked.unspent;
-                begins = record { works = []; may = tt; gives = refl };
-                offered = refl;
-                number_is = number_stays (op_in (script.after m s f).seat) u.ghost.call.number number
-                    (number_after (is_begun (op_in v.seat) (op_in s)) v.ghost.call number linked.number_is);
-                done = done_of m s v f admits linked;
-                fits = subst (λ (g : Ghost). P (script.after m s f).machine (script.after m s f).seat g)
-                    (sym (ghost_of m s v f admits linked) ∙ sym (begun_self u.ghost (script.after m s f).seat number)) (laws.goes f admits go);
-              }))
+            (record {
+              unspent = linked.unspent;
+              begins = record { works = []; may = tt; gives = refl };
+              offered = refl;
+              number_is = number_stays (op_in (script.after m s f).seat) u.ghost.call.number number
+                  (number_after (is_begun (op_in v.seat) (op_in s)) v.ghost.call number linked.number_is);
+              done = done_of m s v f admits linked;
+              fits = subst (λ (g : Ghost). P (script.after m s f).machine (script.after m s f).seat g)
+                  (sym (ghost_of m s v f admits linked) ∙ sym (begun_self u.ghost (script.after m s f).seat number)) (laws.goes f admits go);
+            }))
 
         ends_so : (f : ℕ) (w : View) (out : Out) → Did o seat v (script.asks m s) (note_of script rec number m s) f w → (script.after m s f).turn ≡ Done out → IsLeft rest rec R out (script.after m s f).seat w
         ends_so f w out did stop =
             (let admits = admitted_here m s v linked f w did in
             subst (λ (x : View). IsLeft rest rec R out (script.after m s f).seat x) (sym did.left)
-              (record {
-                unspent = linked.unspent;
-                seat = refl;
-                done = done_of m s v f admits linked;
-                fits = subst (λ (g : Ghost). R out (script.after m s f).seat g) (sym (ghost_of m s v f admits linked)) (laws.ends f out admits stop);
-              }))
+            (record {
+              unspent = linked.unspent;
+              seat = refl;
+              done = done_of m s v f admits linked;
+              fits = subst (λ (g : Ghost). R out (script.after m s f).seat g) (sym (ghost_of m s v f admits linked)) (laws.ends f out admits stop);
+            }))
 
     -- a lawful machine leads to its end within a core, for every interleaving
     pub leads_within : (m : M) (s : Seat) (v : View) → IsLinked number rest (P m) s v → Leads script (within o seat number script rec) (IsLeft rest rec R) m s v

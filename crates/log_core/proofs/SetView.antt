@@ -1,34 +1,31 @@
 -- The invariant stays where one view is replaced, and what has to hold of the new one does.
-use Rattle.std.proofs.Common.{◌≡◌, ◌≢◌, ◌<◌, ◌≤◌, ◌+◌, ◌-◌, ◌==◌, ℕ, zero, suc, Bool, true, false, nat_lt, List, [], ◌∷◌, length, set, get_or, refl, sym, ◌∙◌, ap, subst, arith, ◌⊎◌, inl, inr, ⊎_elim, slice_set, slice_index}
+use Rattle.std.proofs.Common.{◌≡◌, ◌≢◌, ◌<◌, ◌≤◌, ◌+◌, ◌-◌, ℕ, true, nat_lt, List, [], length, refl, sym, ◌∙◌, ap, subst, inl, inr, ⊎_elim, slice_set, slice_index}
 use Rattle.std.specs.List.{AllByRecursion}
-use Rattle.std.proofs.lemmas.List.{get_or-set_same, get_or-set_other, length-set}
+use Rattle.std.proofs.lemmas.List.{length-set}
 use Rattle.log_entry.specs.declared.calls.Call.{Call}
-use Rattle.seat_state.specs.Seats.{Seat, Hold}
-use Rattle.persistence.specs.Memory.{Memory, Noted, cell}
+use Rattle.seat_state.specs.Seats.{Seat}
+use Rattle.persistence.specs.Memory.{Noted, cell}
 use Rattle.log_core.specs.Entries.{has, head_place}
-use Rattle.log_core.specs.Views.{View, Ghost, view_of, spent_view}
-use Rattle.log_core.specs.Origin.{Origin, shape, first_generation, first_position}
+use Rattle.log_core.specs.Views.{View, Ghost, view_of}
+use Rattle.log_core.specs.Origin.{Origin, first_generation}
 use Rattle.log_core.specs.Files.{entries, end_of}
-use Rattle.log_core.specs.Cores.{Core, generation_at, current, IsKept, IsPinned, head_floor}
-use Rattle.log_core.specs.Sizes.{Sizes, SeatFits, MemoryFits}
-use Rattle.log_core.specs.Owners.{SeatOwns, NamesOnce}
-use Rattle.log_core.specs.Contents.{GenerationHolds}
-use Rattle.log_core.specs.Pins.{PinHolds, PinWordsFit}
-use Rattle.log_core.specs.Order.{LogsStand, nth_generation}
-use Rattle.log_core.specs.Walks.{Around, WalkHolds}
+use Rattle.log_core.specs.Cores.{Core, current, head_floor}
+use Rattle.log_core.specs.Sizes.{Sizes, SeatFits}
+use Rattle.log_core.specs.Owners.{SeatOwns}
+use Rattle.log_core.specs.Pins.{PinHolds}
+use Rattle.log_core.specs.Walks.{WalkHolds}
 use Rattle.log_core.specs.Owned.{OwnedHold}
 use Rattle.log_core.specs.Giving.{GivingHolds, ScanHolds}
-use Rattle.log_core.specs.Records.{WritesFit, WritesOnce, SeatsOnce, PutFits, CallHolds, TailHolds, MarksFit, RecordHolds, NeverFall, parts_with, one_if}
+use Rattle.log_core.specs.Records.{WritesFit, WritesOnce, SeatsOnce, PutFits, CallHolds, TailHolds, MarksFit, RecordHolds, NeverFall, one_if}
 use Rattle.log_core.specs.Synced.{SyncHolds}
 use Rattle.log_core.specs.Invariant.{Invariant, KeptIn, around, names_by, Order, Owners, Pins, Givings, Records, Syncs}
 use Rattle.log_core.specs.Knows.{with_seat, Knows}
-use Rattle.log_core.proofs.OneView.{with_view, same_or_other, each_set, parts_set, collected_set, all_set, all_at}
+use Rattle.log_core.proofs.OneView.{with_view, each_set, parts_set, collected_set, all_set, all_at}
 
 module _ (o : Origin) (c : Core) (n : ℕ) (s : Seat) (g : Ghost) (pins began : List ℕ) (inv : Invariant o c) (here : n < length c.views)
     (facts : Knows o c n s g (slice_index pins n) (slice_index began n))
     (same_pins : length pins ≡ length c.memory.now.pins) (other_pins : (k : ℕ) → k ≢ n → slice_index pins k ≡ slice_index c.memory.now.pins k)
     (same_began : length began ≡ length c.began) (other_began : (k : ℕ) → k ≢ n → slice_index began k ≡ slice_index c.began k) where
-
   abbrev w : View
   w = with_seat (view_of c.views n) s g
 
@@ -69,8 +66,8 @@ module _ (o : Origin) (c : Core) (n : ℕ) (s : Seat) (g : Ghost) (pins began : 
     begun = same_began ∙ (inv.sizes.begun ∙ sym count);
     made = λ unspent. subst (λ (m : ℕ). (view_of views 0).made ≡ m) (sym count)
         (each_set (λ (k : ℕ) (v : View). k ≡ 0 → v.parts ≢ [] → v.made ≡ length c.views) c.views n w here
-          (λ zero_is some. subst (λ (k : ℕ). (view_of c.views k).parts ≢ [] → (view_of c.views k).made ≡ length c.views) (sym zero_is) inv.sizes.made some)
-          (λ k other zero_is some. subst (λ (j : ℕ). (view_of c.views j).parts ≢ [] → (view_of c.views j).made ≡ length c.views) (sym zero_is) inv.sizes.made some) 0 refl unspent);
+        (λ zero_is some. subst (λ (k : ℕ). (view_of c.views k).parts ≢ [] → (view_of c.views k).made ≡ length c.views) (sym zero_is) inv.sizes.made some)
+        (λ k other zero_is some. subst (λ (j : ℕ). (view_of c.views j).parts ≢ [] → (view_of c.views j).made ≡ length c.views) (sym zero_is) inv.sizes.made some) 0 refl unspent);
     each = λ number inside unspent. each_set (λ (k : ℕ) (v : View). k < length c.views → v.parts ≢ [] → SeatFits o k v) c.views n w here
         (λ low some. facts.fits some) (λ k other low some. inv.sizes.each k low some) number (subst (λ (m : ℕ). number < m) count inside) unspent;
   }

@@ -1,33 +1,25 @@
 -- Each step that is offered keeps the invariant.
-use Rattle.std.proofs.Common.{◌≡◌, ◌≢◌, ◌<◌, ◌≤◌, ◌+◌, ◌==◌, ◌&&◌, not, ℕ, zero, suc, Bool, true, false, if◌then◌else◌, List, [], ◌∷◌, ◌++◌, take, length, refl, sym, ◌∙◌, ap, subst, arith, ◌⊎◌, inl, inr, ⊎_elim, slice_index, slice_set, set, Option, Some, None, append-nil}
-use Rattle.std.specs.List.{AllByRecursion, list_all}
-use Rattle.std.proofs.lemmas.Bool.{eqb-true, eq-eqb}
+use Rattle.std.proofs.Common.{◌≡◌, ◌≢◌, ◌<◌, ◌&&◌, ℕ, Bool, true, false, List, [], ◌∷◌, ◌++◌, length, refl, sym, ◌∙◌, ap, subst, arith, ⊎_elim, slice_index, slice_set, Option, Some, None, append-nil}
+use Rattle.std.specs.List.{list_all}
 use Rattle.std.proofs.lemmas.List.{get_or-set_same, get_or-set_other, length-set, set-get_or}
-use Rattle.log_entry.specs.Fields.{field}
-use Rattle.log_entry.specs.declared.layouts.TheConstants.{HEAD_GENERATION}
 use Rattle.log_entry.specs.declared.calls.Op.{Op}
 use Rattle.log_entry.specs.declared.calls.Call.{Call}
 use Rattle.seat_parts.specs.declared.keeps.Task.{Task}
 use Rattle.seat_state.specs.Seats.{Seat}
-use Rattle.pmem_words.specs.Asks.{answer}
-use Rattle.pmem_words.specs.declared.asks.Place.{Place}
-use Rattle.pmem_words.specs.declared.asks.Place.TheVariants.{Image, Pin, Map, FenceOf}
-use Rattle.pmem_words.specs.declared.asks.Ask.{Ask}
-use Rattle.pmem_words.specs.declared.asks.Ask.TheVariants.{Load, Store, Exchange, SetBits, ClearBits, Mark, Fence}
-use Rattle.persistence.specs.Memory.{Memory, cell, found, memory_after}
+use Rattle.pmem_words.specs.declared.asks.Place.TheVariants.{Image, Pin}
+use Rattle.pmem_words.specs.declared.asks.Ask.TheVariants.{Load, Store}
+use Rattle.persistence.specs.Memory.{found}
 use Rattle.log_core.specs.Entries.{head_place}
 use Rattle.log_core.specs.Views.{View, Ghost, view_of, op_in, op_of}
-use Rattle.log_core.specs.Origin.{Origin, q_of}
+use Rattle.log_core.specs.Origin.{Origin}
 use Rattle.log_core.specs.Files.{end_of}
 use Rattle.log_core.specs.Cores.{Core}
 use Rattle.log_core.specs.Works.{Work, Begins, KeepsTable, StartsFromLog, StartsFromSnapshot, ReadsRun, NextSnapshot, EndsReading, TakesEntry, TakesSeal, Follows, Forgets, OpensBase, AddsBaseWord, Lays, SetsWord, CountsFilled, NotesNamed, KeepsReplaced, NotesHeld, worked, worked_all, MayBegin, MayWorkAll, is_going_on, ended}
 use Rattle.log_core.specs.Steps.{Note, Step, Does, Splits, Joins, Kind, LoadsHead, StoresOwnPin, LoadsPinWord, LoadsImageWord, NoKind, ExchangesHead, ExchangesLink, ExchangesSlot, kind_of, exchange_kind, effect, is_begun, ghost_begun, view_after}
-use Rattle.log_core.specs.After.{stepped, after, began_if}
-use Rattle.log_core.specs.May.{is_offered}
-use Rattle.log_core.specs.Runs.{MayNumber, MayStep, MayDo, DoesOffered, Allowed, ghost_at, effect_at, ghost_left, is_offered_work}
+use Rattle.log_core.specs.After.{stepped, began_if}
+use Rattle.log_core.specs.Runs.{MayNumber, MayStep, ghost_at, effect_at, ghost_left, is_offered_work}
 use Rattle.log_core.specs.Invariant.{Invariant}
 use Rattle.log_core.specs.Knows.{with_seat, Knows}
-use Rattle.log_core.proofs.OneView.{with_view, same_or_other}
 use Rattle.log_core.proofs.SetView.{set_view}
 use Rattle.log_core.proofs.Facts.{facts_of, forgotten, forget_facts}
 use Rattle.log_core.proofs.Begun.{begun_facts}
@@ -102,8 +94,8 @@ module _ (o : Origin) (c : Core) (n pin number : ℕ) where
   begin_one s task bytes facts start may higher =
       (let same : ghost_begun v.ghost v.seat s number ≡ v.ghost = rw (no_begin (op_in v.seat) (op_in s) may.none_runs) refl in
       begun_facts o c n s v.ghost pin (slice_index (began_at s) n) (slice_index (began_at (worked s (Begins task bytes))) n)
-        (subst (λ (g : Ghost). Knows o c n s g pin (slice_index (began_at s) n)) same facts) task bytes number
-        (is_begun (op_in v.seat) (op_of task bytes)) may higher (begins_from_none (op_in v.seat) (op_of task bytes) (start may.none_runs)))
+      (subst (λ (g : Ghost). Knows o c n s g pin (slice_index (began_at s) n)) same facts) task bytes number
+      (is_begun (op_in v.seat) (op_of task bytes)) may higher (begins_from_none (op_in v.seat) (op_of task bytes) (start may.none_runs)))
 
   -- what a seat computes before a step
   pub works_hold : (s : Seat) (works : List Work) → list_all is_offered_work works ≡ true → MayWorkAll v.ghost s works → FactsAt s → (op_in s ≡ None → op_in v.seat ≡ None) →
@@ -111,11 +103,11 @@ module _ (o : Origin) (c : Core) (n pin number : ℕ) where
   works_hold s [] offered may facts start higher = facts
   works_hold s (Begins task bytes ∷ works) offered may facts start higher =
       works_hold (worked s (Begins task bytes)) works offered may.1
-        (begin_one s task bytes facts start may.0
-          (λ begun. number_higher (is_begun (op_in v.seat) (op_in (worked_all (worked s (Begins task bytes)) works))) v.ghost.call.number number
-            (ap (λ (op : Option Op). is_begun (op_in v.seat) op) (runs_on v.ghost (worked s (Begins task bytes)) works offered may.1 (begun_some (op_in v.seat) (op_of task bytes) begun)) ∙ begun)
-            higher))
-        (λ none. start may.0.none_runs) higher
+      (begin_one s task bytes facts start may.0
+      (λ begun. number_higher (is_begun (op_in v.seat) (op_in (worked_all (worked s (Begins task bytes)) works))) v.ghost.call.number number
+      (ap (λ (op : Option Op). is_begun (op_in v.seat) op) (runs_on v.ghost (worked s (Begins task bytes)) works offered may.1 (begun_some (op_in v.seat) (op_of task bytes) begun)) ∙ begun)
+      higher))
+      (λ none. start may.0.none_runs) higher
   works_hold s (Forgets ∷ works) offered may facts start higher =
       works_hold (forgotten s) works offered may.1 (forget_facts o c n s (ghost_begun v.ghost v.seat s number) pin (slice_index (began_at s) n) facts) start higher
   works_hold s (KeepsTable ∷ works) offered may facts start higher = cc
@@ -186,7 +178,7 @@ module _ (o : Origin) (c : Core) (n : ℕ) (inv : Invariant o c) (here : n < len
     at_ask = subst (λ (s : Seat). Knows o c n s (ghost_begun mine.ghost mine.seat s note.number) (slice_index c.memory.now.pins n) (slice_index (began_if (is_begun (op_in mine.seat) (op_in s)) c.began n (end_of o c.history)) n))
         (sym step.begins.gives)
         (works_hold o c n (slice_index c.memory.now.pins n) note.number mine.seat step.begins.works before step.begins.may start (λ e. e)
-          (subst (λ (s : Seat). MayNumber (is_begun (op_in mine.seat) (op_in s)) mine.ghost.call.number note.number) step.begins.gives step.number))
+        (subst (λ (s : Seat). MayNumber (is_begun (op_in mine.seat) (op_in s)) mine.ghost.call.number note.number) step.begins.gives step.number))
       where
         begun_same : (op : Option Op) → is_begun op op ≡ false
         begun_same None = refl
@@ -229,10 +221,10 @@ module _ (o : Origin) (c : Core) (n : ℕ) (inv : Invariant o c) (here : n < len
   head_holds step before later no_record =
       (let f = slice_index c.memory.now.words head_place in
       let facts = at_end LoadsHead f step before later no_record (slice_index c.memory.now.pins n)
-          (load_facts o c n note.before (ghost_at mine note) (slice_index c.memory.now.pins n) (slice_index began n) f inv (at_ask LoadsHead f step before later no_record) refl) in
+      (load_facts o c n note.before (ghost_at mine note) (slice_index c.memory.now.pins n) (slice_index began n) f inv (at_ask LoadsHead f step before later no_record) refl) in
       subst (λ (words : List ℕ). Invariant o (core_by words c.memory.now.pins (view_after mine LoadsHead note f))) (sym (set-get_or c.memory.now.words head_place 0))
-        (by_view c.memory.now.pins (with_seat mine note.seat (ghost_left mine note LoadsHead f)) (view_after mine LoadsHead note f) (view_is LoadsHead f step before later no_record)
-          (set_view o c n note.seat (ghost_left mine note LoadsHead f) c.memory.now.pins began inv here facts refl (λ k other. refl) began_fits began_others)))
+      (by_view c.memory.now.pins (with_seat mine note.seat (ghost_left mine note LoadsHead f)) (view_after mine LoadsHead note f) (view_is LoadsHead f step before later no_record)
+      (set_view o c n note.seat (ghost_left mine note LoadsHead f) c.memory.now.pins began inv here facts refl (λ k other. refl) began_fits began_others)))
 
   -- a store of the own pin word
   pub pin_holds : (value : ℕ) (step : MayStep o c mine (StoresOwnPin value) note 0) → list_all is_offered_work step.begins.works ≡ true → list_all is_offered_work step.enters.computed.works ≡ true → note.adds ≡ [] →
@@ -240,11 +232,11 @@ module _ (o : Origin) (c : Core) (n : ℕ) (inv : Invariant o c) (here : n < len
   pin_holds value step before later no_record found =
       (let inside : n < length c.memory.now.pins = (let few = inv.sizes.few in let many = inv.sizes.words.pins in omega (arith, here, few, many)) in
       let facts = at_end (StoresOwnPin value) 0 step before later no_record value
-          (store_facts o c n note.before (ghost_at mine note) (slice_index c.memory.now.pins n) (slice_index began n) value (at_ask (StoresOwnPin value) 0 step before later no_record) step.may) in
+      (store_facts o c n note.before (ghost_at mine note) (slice_index c.memory.now.pins n) (slice_index began n) value (at_ask (StoresOwnPin value) 0 step before later no_record) step.may) in
       by_view (slice_set c.memory.now.pins n value) (with_seat mine note.seat (ghost_left mine note (StoresOwnPin value) 0)) (view_after mine (StoresOwnPin value) note 0) (view_is (StoresOwnPin value) 0 step before later no_record)
-        (set_view o c n note.seat (ghost_left mine note (StoresOwnPin value) 0) (slice_set c.memory.now.pins n value) began inv here
-          (subst (λ (pin : ℕ). Knows o c n note.seat (ghost_left mine note (StoresOwnPin value) 0) pin (slice_index began n)) (sym (get_or-set_same c.memory.now.pins n value 0 inside)) facts)
-          (length-set c.memory.now.pins n value) (λ k other. get_or-set_other c.memory.now.pins n k value 0 other) began_fits began_others))
+      (set_view o c n note.seat (ghost_left mine note (StoresOwnPin value) 0) (slice_set c.memory.now.pins n value) began inv here
+      (subst (λ (pin : ℕ). Knows o c n note.seat (ghost_left mine note (StoresOwnPin value) 0) pin (slice_index began n)) (sym (get_or-set_same c.memory.now.pins n value 0 inside)) facts)
+      (length-set c.memory.now.pins n value) (λ k other. get_or-set_other c.memory.now.pins n k value 0 other) began_fits began_others))
 
   -- a load of a pin word
   pub seen_holds : (other : ℕ) (step : MayStep o c mine (LoadsPinWord other) note (slice_index c.memory.now.pins other)) → list_all is_offered_work step.begins.works ≡ true → list_all is_offered_work step.enters.computed.works ≡ true → note.adds ≡ [] →
@@ -255,11 +247,11 @@ module _ (o : Origin) (c : Core) (n : ℕ) (inv : Invariant o c) (here : n < len
       let asked = at_ask (LoadsPinWord other) f step before later no_record in
       let inside : other < length c.memory.now.pins = (let low = step.may.inside in let many = inv.sizes.words.pins in omega (arith, low, many)) in
       let facts = at_end (LoadsPinWord other) f step before later no_record (slice_index c.memory.now.pins n)
-          (seen_facts o c n note.before (ghost_at mine note) (slice_index c.memory.now.pins n) (slice_index began n) other f inv asked
-            (⊎_elim (λ (none : other ≡ 0). (let m = length note.before.giving.pins_seen in omega (arith, none))) (λ (last : other ≡ length note.before.giving.pins_seen). omega (arith, last)) step.may.in_order)
-            (λ apart. inv.pins.words other inside)
-            (λ own. ap (λ (k : ℕ). slice_index c.memory.now.pins k) own ∙ asked.pin_is)) in
+      (seen_facts o c n note.before (ghost_at mine note) (slice_index c.memory.now.pins n) (slice_index began n) other f inv asked
+      (⊎_elim (λ (none : other ≡ 0). (let m = length note.before.giving.pins_seen in omega (arith, none))) (λ (last : other ≡ length note.before.giving.pins_seen). omega (arith, last)) step.may.in_order)
+      (λ apart. inv.pins.words other inside)
+      (λ own. ap (λ (k : ℕ). slice_index c.memory.now.pins k) own ∙ asked.pin_is)) in
       by_view (slice_set c.memory.now.pins other f) (with_seat mine note.seat (ghost_left mine note (LoadsPinWord other) f)) (view_after mine (LoadsPinWord other) note f) (view_is (LoadsPinWord other) f step before later no_record)
-        (set_view o c n note.seat (ghost_left mine note (LoadsPinWord other) f) (slice_set c.memory.now.pins other f) began inv here
-          (subst (λ (pin : ℕ). Knows o c n note.seat (ghost_left mine note (LoadsPinWord other) f) pin (slice_index began n)) (sym (ap (λ (pins : List ℕ). slice_index pins n) same)) facts)
-          (ap length same) (λ k apart. ap (λ (pins : List ℕ). slice_index pins k) same) began_fits began_others))
+      (set_view o c n note.seat (ghost_left mine note (LoadsPinWord other) f) (slice_set c.memory.now.pins other f) began inv here
+      (subst (λ (pin : ℕ). Knows o c n note.seat (ghost_left mine note (LoadsPinWord other) f) pin (slice_index began n)) (sym (ap (λ (pins : List ℕ). slice_index pins n) same)) facts)
+      (ap length same) (λ k apart. ap (λ (pins : List ℕ). slice_index pins k) same) began_fits began_others))

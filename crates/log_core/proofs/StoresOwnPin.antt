@@ -1,18 +1,17 @@
 -- A store of the own pin word keeps what holds of the seat's state.
-use Rattle.std.proofs.Common.{◌≡◌, ◌≢◌, ◌<◌, ◌≤◌, ◌+◌, ◌==◌, ℕ, Bool, true, false, List, [], ◌∷◌, map, length, refl, sym, ◌∙◌, ap, subst, arith}
-use Rattle.std.specs.List.{AllByRecursion}
+use Rattle.std.proofs.Common.{◌≡◌, ℕ, false, [], refl, sym, ◌∙◌}
 use Rattle.seat_parts.specs.declared.keeps.Task.TheVariants.{Sync}
-use Rattle.seat_state.specs.Seats.{Seat, Hold, Giving}
-use Rattle.persistence.specs.Memory.{Noted, cell, notes_of}
-use Rattle.log_core.specs.Views.{View, Ghost, Marked, view_of}
-use Rattle.log_core.specs.Origin.{Origin, first_generation}
+use Rattle.seat_state.specs.Seats.{Seat, Giving}
+use Rattle.persistence.specs.Memory.{cell, notes_of}
+use Rattle.log_core.specs.Views.{Ghost, view_of}
+use Rattle.log_core.specs.Origin.{Origin}
 use Rattle.log_core.specs.Cores.{Core}
 use Rattle.log_core.specs.May.{MayStoreOwnPin}
 use Rattle.log_core.specs.Walks.{WalkHolds}
 use Rattle.log_core.specs.Giving.{ScanHolds}
 use Rattle.log_core.specs.Records.{mark_of}
 use Rattle.log_core.specs.Invariant.{around}
-use Rattle.log_core.specs.Knows.{with_seat, Knows}
+use Rattle.log_core.specs.Knows.{Knows}
 use Rattle.log_core.proofs.Begun.{no_notes}
 
 abbrev pub pinned_at : Seat → ℕ → Seat

@@ -1,5 +1,5 @@
 -- The core after a step.
-use Rattle.std.specs.Prelude.{ℕ, ◌+◌, ◌==◌, ◌&&◌, max, not, Bool, true, false, if◌then◌else◌, List, [], ◌∷◌, ◌++◌, length, map, take, slice_index, slice_set, Option, Some, None}
+use Rattle.std.specs.Prelude.{ℕ, ◌==◌, ◌&&◌, max, not, Bool, true, false, if◌then◌else◌, List, [], ◌∷◌, ◌++◌, map, take, slice_set, Option, Some, None}
 use Rattle.std.specs.List.{flat_map}
 use Rattle.log_entry.specs.declared.layouts.TheConstants.{SEAL}
 use Rattle.log_entry.specs.declared.calls.Op.{Op}
@@ -9,9 +9,9 @@ use Rattle.log_image.specs.Blocks.{entry_count as snapshot_count, slots_of}
 use Rattle.seat_state.specs.Seats.{Seat}
 use Rattle.pmem_words.specs.Asks.{answer}
 use Rattle.pmem_words.specs.declared.asks.Ask.{Ask}
-use Rattle.persistence.specs.Memory.{found, found_answer, memory_after}
-use Rattle.log_core.specs.Entries.{has, LogEntry}
-use Rattle.log_core.specs.Views.{View, view_of, spent_view, op_in}
+use Rattle.persistence.specs.Memory.{found, memory_after}
+use Rattle.log_core.specs.Entries.{has}
+use Rattle.log_core.specs.Views.{view_of, spent_view, op_in}
 use Rattle.log_core.specs.Origin.{Origin, q_of, Owner, Free, Header, InChain, OwnedBy, LeftTo, LogBlock, Generation}
 use Rattle.log_core.specs.Files.{Write, end_of}
 use Rattle.log_core.specs.Cores.{Core, number_at}

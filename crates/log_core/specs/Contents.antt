@@ -1,5 +1,5 @@
 -- What the blocks of kept generations hold.
-use Rattle.std.specs.Prelude.{ℕ, ◌-◌, ◌<◌, ◌≤◌, ◌≡◌, ◌⊎◌, true, Bool, List, ◌++◌, length, slice_index, slice_index_or, None}
+use Rattle.std.specs.Prelude.{ℕ, ◌-◌, ◌<◌, ◌≤◌, ◌≡◌, ◌⊎◌, true, List, ◌++◌, length, slice_index, slice_index_or, None}
 use Rattle.log_image.specs.Image.{Shape, words_in}
 use Rattle.log_image.specs.Entries.{all_names}
 use Rattle.persistence.specs.Memory.{Cell}

@@ -1,13 +1,13 @@
 -- The state of a core, and what is read off it.
-use Rattle.std.specs.Prelude.{ℕ, ◌+◌, ◌-◌, ◌*◌, ◌≤◌, ◌<◌, ◌≡◌, ◌⊎◌, ◌==◌, ◌&&◌, ◌||◌, Bool, true, false, if◌then◌else◌, List, [], ◌∷◌, ◌++◌, length, map, drop, replicate, slice_index_or}
+use Rattle.std.specs.Prelude.{ℕ, ◌+◌, ◌-◌, ◌≤◌, ◌<◌, ◌≡◌, ◌⊎◌, ◌==◌, ◌||◌, Bool, true, if◌then◌else◌, List, [], ◌∷◌, ◌++◌, length, map, drop, replicate, slice_index_or}
 use Rattle.std.specs.List.{list_any}
 use Rattle.log_entry.specs.declared.layouts.TheConstants.{SEAL}
 use Rattle.log_image.specs.Image.{Shape, words_in}
 use Rattle.log_image.specs.Blocks.{entry_words}
-use Rattle.persistence.specs.Memory.{Memory, Cell, cell}
+use Rattle.persistence.specs.Memory.{Memory, cell}
 use Rattle.log_core.specs.Entries.{has, place_in, head_place, LogEntry, entry_names}
 use Rattle.log_core.specs.Views.{View, view_of}
-use Rattle.log_core.specs.Origin.{Origin, shape, Owner, LogBlock, no_log, Generation, no_generation, first_base, first_position, first_generation, start_generation, first_logs, first_owner, first_recorded, first_memory, first_views}
+use Rattle.log_core.specs.Origin.{Origin, Owner, LogBlock, no_log, Generation, no_generation, first_base, first_position, first_generation, start_generation, first_logs, first_owner, first_recorded, first_memory, first_views}
 use Rattle.log_core.specs.Files.{Write}
 
 -- the state of a core: the memory; the views, a seat's number being its view's place; the accepted writes, the oldest first; the

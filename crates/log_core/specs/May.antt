@@ -1,6 +1,6 @@
 -- The condition of each kind of step, over the parts that it reads.
-use Rattle.std.specs.Prelude.{ℕ, ◌+◌, ◌-◌, ◌*◌, ◌/◌, ◌%◌, ◌^◌, ◌<◌, ◌≤◌, ◌≡◌, ◌≢◌, ◌⊎◌, ◌==◌, ◌&&◌, not, max, min, Bool, true, false, if◌then◌else◌, List, [], ◌∷◌, length, map, filter, drop, replicate, slice_index, Option, Some, None}
-use Rattle.std.specs.List.{range_with_len, list_any, list_all}
+use Rattle.std.specs.Prelude.{ℕ, ◌+◌, ◌-◌, ◌*◌, ◌/◌, ◌^◌, ◌<◌, ◌≤◌, ◌≡◌, ◌≢◌, ◌⊎◌, ◌==◌, ◌&&◌, not, max, Bool, true, false, if◌then◌else◌, List, [], ◌∷◌, length, filter, drop, replicate, slice_index, Option, Some, None}
+use Rattle.std.specs.List.{range_with_len, list_any}
 use Rattle.log_entry.specs.Fields.{field}
 use Rattle.log_entry.specs.Shape.{longest_of}
 use Rattle.log_entry.specs.Words.{head_word, block_word}
@@ -8,23 +8,20 @@ use Rattle.log_entry.specs.Legal.{is_write, file_after, write_refusal, touched_b
 use Rattle.log_entry.specs.declared.layouts.TheConstants.{SEAL, HEAD_GENERATION, INDIRECT_BLOCK}
 use Rattle.log_entry.specs.declared.words.BlockKind.TheVariants.{Log as LogKind}
 use Rattle.log_entry.specs.declared.shapes.Area.{Area}
-use Rattle.log_entry.specs.declared.shapes.Area.TheVariants.{Data, Log, Spare}
-use Rattle.log_entry.specs.declared.calls.Held.{Held}
 use Rattle.log_entry.specs.declared.calls.Op.{Op}
 use Rattle.log_entry.specs.declared.calls.Op.TheVariants.{Pwrite, Append}
 use Rattle.log_entry.specs.declared.calls.WriteRefusal.{WriteRefusal}
-use Rattle.log_entry.specs.declared.calls.Call.{Call}
-use Rattle.log_image.specs.Image.{Shape, words_in, is_in_data, is_in_log}
+use Rattle.log_image.specs.Image.{Shape, is_in_data, is_in_log}
 use Rattle.log_image.specs.Entries.{Meaning, names}
-use Rattle.log_image.specs.Maps.{map_of, block_in, end_of as entry_end}
+use Rattle.log_image.specs.Maps.{block_in, end_of as entry_end}
 use Rattle.log_image.specs.Chains.{all_different}
 use Rattle.log_image.specs.Format.{fits, is_direct, is_indirect, is_indirect_block}
 use Rattle.seat_parts.specs.declared.keeps.Task.TheVariants.{Sync, Collect}
 use Rattle.seat_parts.specs.declared.owned.OwnedBlock.{OwnedBlock}
 use Rattle.seat_state.specs.Seats.{Seat}
-use Rattle.log_core.specs.Entries.{has, place_in, head_place, LogEntry, meaning_by}
+use Rattle.log_core.specs.Entries.{has, place_in, head_place, meaning_by}
 use Rattle.log_core.specs.Views.{Marked, Ghost, op_in}
-use Rattle.log_core.specs.Origin.{Origin, shape, q_of, LogBlock, Generation}
+use Rattle.log_core.specs.Origin.{Origin, shape}
 use Rattle.log_core.specs.Files.{Write, entries, map_at, file_at, accepted_reply, byte_in}
 use Rattle.log_core.specs.Cores.{Core, generation_at, is_named, log_at, TrailWord, trail}
 use Rattle.log_core.specs.Works.{shape_of, words_of, tail_index}
@@ -96,7 +93,7 @@ refusal_at block_bytes position size _ = None
 abbrev pub is_log_entry_by : (ℕ → List ℕ) → Shape → ℕ → Bool
 is_log_entry_by content image word =
     (if is_direct word then true
-     else is_indirect word && is_in_data image (field INDIRECT_BLOCK word) && is_indirect_block image (content (field INDIRECT_BLOCK word)))
+    else is_indirect word && is_in_data image (field INDIRECT_BLOCK word) && is_indirect_block image (content (field INDIRECT_BLOCK word)))
     && fits image (longest_of image.block_bytes) (meaning_by content word)
 
 -- the view stands at its chain's tail: its pin is valid, it is ready, and its call has put in no entry
@@ -182,7 +179,7 @@ pub record MayExchangeHead (o : Origin) (c : Core) (g : Ghost) (s : Seat) (befor
   pub apart : AreApart (snapshot_meanings (λ block. content_of s block) (new_snapshots s next))
   pub replaced : (block : ℕ) → has (replaced_by s) block
       ≡ (is_named o c.logs (entries o c.history) (generation_at o c.generations s.hold.generation) block
-         && not (is_named o c.logs (entries o c.history) (new_generation s c.logs next) block))
+      && not (is_named o c.logs (entries o c.history) (new_generation s c.logs next) block))
 
 -- whether a place is marked
 abbrev pub is_marked : List Marked → ℕ → Bool

@@ -1,12 +1,12 @@
 -- What a run starts from, and the parts of a core that are read off its chain.
-use Rattle.std.specs.Prelude.{ℕ, zero, suc, ◌+◌, ◌-◌, ◌==◌, Bool, true, false, ◌||◌, if◌then◌else◌, List, [], ◌∷◌, ◌++◌, length, map, replicate}
+use Rattle.std.specs.Prelude.{ℕ, zero, suc, ◌==◌, Bool, true, false, if◌then◌else◌, List, [], ◌∷◌, length, map, replicate}
 use Rattle.std.specs.List.{range_with_len}
 use Rattle.log_entry.specs.declared.layouts.TheConstants.{EMPTY, SEAL}
 use Rattle.log_entry.specs.declared.shapes.Geometry.{Geometry}
 use Rattle.log_image.specs.Image.{Shape, words_in, block_words}
 use Rattle.log_image.specs.Header.{generation_of}
 use Rattle.log_image.specs.Entries.{Meaning, all_names}
-use Rattle.log_image.specs.Blocks.{base_of, slots_of, entry_words}
+use Rattle.log_image.specs.Blocks.{base_of, slots_of}
 use Rattle.log_image.specs.Chains.{snapshots_of, logs_of, snapshot_base, snapshot_size}
 use Rattle.log_image.specs.Positions.{snapshot_entries, log_words, position_of}
 use Rattle.log_image.specs.Taken.{named_blocks}

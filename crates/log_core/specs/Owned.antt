@@ -1,5 +1,5 @@
 -- What is known of the words of owned blocks.
-use Rattle.std.specs.Prelude.{ℕ, ◌*◌, ◌+◌, ◌/◌, ◌==◌, ◌&&◌, ◌<◌, ◌≤◌, ◌≡◌, ◌⊎◌, true, Bool, List, [], length, Some}
+use Rattle.std.specs.Prelude.{ℕ, ◌*◌, ◌/◌, ◌==◌, ◌&&◌, ◌<◌, ◌≡◌, ◌⊎◌, true, Bool, List, length}
 use Rattle.std.specs.List.{AllByRecursion, list_any}
 use Rattle.seat_parts.specs.Owned.{owned_at}
 use Rattle.seat_parts.specs.declared.owned.OwnedBlock.{OwnedBlock}
@@ -7,7 +7,7 @@ use Rattle.seat_state.specs.Seats.{Seat}
 use Rattle.persistence.specs.Memory.{Replaced, Noted, Cell, index_at, notes_of}
 use Rattle.log_core.specs.Entries.{has, place_in}
 use Rattle.log_core.specs.Views.{View, view_of, Ghost, Stored}
-use Rattle.log_core.specs.Works.{shape_of, words_of, owned_block, content_word, stored_at, MayCountFilled}
+use Rattle.log_core.specs.Works.{shape_of, words_of, owned_block, content_word, MayCountFilled}
 use Rattle.log_core.specs.Needs.{owned_numbers}
 use Rattle.log_core.specs.Steps.{area_of}
 use Rattle.log_core.specs.Certain.{IsCertain}

@@ -1,5 +1,5 @@
 -- The views' records against the history, and what a running call has of it.
-use Rattle.std.specs.Prelude.{ℕ, ◌+◌, ◌-◌, ◌*◌, ◌^◌, ◌<◌, ◌≤◌, ◌≡◌, ◌≢◌, ◌==◌, ◌&&◌, nat_lt, Bool, true, false, if◌then◌else◌, List, [], ◌∷◌, length, map, filter, slice_index, slice_index_or, Option, Some, None}
+use Rattle.std.specs.Prelude.{ℕ, ◌+◌, ◌-◌, ◌*◌, ◌^◌, ◌<◌, ◌≤◌, ◌≡◌, ◌≢◌, ◌==◌, ◌&&◌, nat_lt, Bool, true, false, if◌then◌else◌, List, [], ◌∷◌, length, map, slice_index, Option, Some, None}
 use Rattle.std.specs.List.{AllByRecursion}
 use Rattle.log_entry.specs.ByteFile.{read}
 use Rattle.log_entry.specs.WordBytes.{word_bytes}
@@ -13,7 +13,7 @@ use Rattle.seat_state.specs.Seats.{Seat}
 use Rattle.persistence.specs.Memory.{Replaced, Noted, Cell, index_at, notes_of}
 use Rattle.persistence.specs.Survivors.{value_at}
 use Rattle.log_core.specs.Entries.{has}
-use Rattle.log_core.specs.Views.{Marked, Ghost, HeadPut, View, op_in}
+use Rattle.log_core.specs.Views.{Marked, HeadPut, View, op_in}
 use Rattle.log_core.specs.Origin.{Origin, first_position, first_generation, Generation}
 use Rattle.log_core.specs.Files.{Write, write_at, call_of, file_at, end_of}
 use Rattle.log_core.specs.Works.{words_of, laid_bytes}

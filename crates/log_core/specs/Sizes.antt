@@ -2,7 +2,7 @@
 use Rattle.std.specs.Prelude.{ℕ, ◌*◌, ◌<◌, ◌≤◌, ◌≡◌, ◌≢◌, ◌⊎◌, List, [], length}
 use Rattle.std.specs.List.{AllByRecursion}
 use Rattle.log_image.specs.Image.{words_in, total}
-use Rattle.seat_state.specs.Seats.{Seat, bitmap_words, q_of as words_in_block, owned_room, kept_room}
+use Rattle.seat_state.specs.Seats.{bitmap_words}
 use Rattle.seat_state.specs.declared.TheConstants.{SEATS}
 use Rattle.persistence.specs.Memory.{Memory, Noted}
 use Rattle.log_core.specs.Views.{View, view_of}

@@ -1,9 +1,8 @@
 -- Blocks that hold the map at a position as a snapshot.
-use Rattle.std.specs.Prelude.{ℕ, ◌+◌, ◌<◌, ◌≡◌, ◌&&◌, Bool, true, List, [], ◌∷◌, length, slice_index, Option}
+use Rattle.std.specs.Prelude.{ℕ, ◌<◌, ◌≡◌, true, List, [], ◌∷◌, length, slice_index, Option}
 use Rattle.log_entry.specs.Words.{block_word, snapshot_word}
 use Rattle.log_entry.specs.declared.words.BlockKind.TheVariants.{Snapshot}
 use Rattle.log_image.specs.Image.{Shape}
-use Rattle.log_image.specs.Entries.{Meaning}
 use Rattle.log_image.specs.Maps.{map_of}
 use Rattle.log_image.specs.Blocks.{entry_count}
 use Rattle.log_image.specs.Format.{is_snapshot_block}

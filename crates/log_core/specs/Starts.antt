@@ -1,5 +1,5 @@
 -- What a run may start from.
-use Rattle.std.specs.Prelude.{ℕ, ◌^◌, ◌<◌, ◌≡◌, List}
+use Rattle.std.specs.Prelude.{ℕ, ◌^◌, ◌<◌, List}
 use Rattle.std.specs.List.{AllByRecursion}
 use Rattle.log_entry.specs.Geometry.{HasShape}
 use Rattle.log_entry.specs.declared.shapes.Geometry.{Geometry}

@@ -8,16 +8,13 @@ use Rattle.log_entry.specs.declared.shapes.Area.{Area}
 use Rattle.log_entry.specs.declared.shapes.Area.TheVariants.{Data, Log, Spare}
 use Rattle.log_entry.specs.declared.calls.Call.{Call}
 use Rattle.log_entry.specs.declared.calls.Op.{Op}
-use Rattle.log_image.specs.Image.{Shape, words_in, total, is_in_data}
+use Rattle.log_image.specs.Image.{Shape, total, is_in_data}
 use Rattle.log_image.specs.Entries.{Meaning, names}
 use Rattle.seat_parts.specs.declared.keeps.KeptWord.{KeptWord}
 use Rattle.seat_parts.specs.declared.keeps.Task.{Task}
 use Rattle.seat_parts.specs.declared.keeps.Task.TheVariants.{Sync}
 use Rattle.seat_parts.specs.declared.owned.OwnedBlock.{OwnedBlock}
-use Rattle.seat_state.specs.Seats.{Seat, Hold, Walk, Calling, Blocks, Giving, without_bits}
-use Rattle.seat_state.specs.Maps.{map_at}
-use Rattle.pmem_words.specs.Asks.{answer}
-use Rattle.pmem_words.specs.declared.asks.Place.{Place}
+use Rattle.seat_state.specs.Seats.{Seat, Hold, Walk, Blocks, without_bits}
 use Rattle.pmem_words.specs.declared.asks.Place.TheVariants.{Image, Pin, Map, FenceOf}
 use Rattle.pmem_words.specs.declared.asks.Ask.{Ask}
 use Rattle.pmem_words.specs.declared.asks.Ask.TheVariants.{Load, Store, Exchange, SetBits, ClearBits, Mark, Fence}
@@ -243,11 +240,13 @@ effect marks s (StoresOwnPin value) f = record s { hold = record (s.hold) { pin 
 effect marks s (LoadsPinWord seat) f = record s { giving = record (s.giving) { pins_seen = take seat s.giving.pins_seen ++ f ∷ [] } }
 effect marks s (LoadsImageWord word) f = record s { walk = record (s.walk) { kept = kept_with (words_of s) s.walk.kept word f; at_tail = s.walk.at_tail || is_tail_found s word f } }
 effect marks s (LoadsBitmapWord word) f = record s { blocks = record (s.blocks) { found = slice_set s.blocks.found word (bit_or (slice_index s.blocks.found word) f) } }
-effect marks s (SetsBits word bits) f = record s { blocks = record (s.blocks) {
-  owned = s.blocks.owned ++ map (taken_block (shape_of s)) (gained word bits f);
-  contents = s.blocks.contents ++ replicate (length (gained word bits f) * words_of s) 0;
-  found = slice_set s.blocks.found word (bit_or (slice_index s.blocks.found word) (bit_or f bits));
-} }
+effect marks s (SetsBits word bits) f = record s {
+  blocks = record (s.blocks) {
+    owned = s.blocks.owned ++ map (taken_block (shape_of s)) (gained word bits f);
+    contents = s.blocks.contents ++ replicate (length (gained word bits f) * words_of s) 0;
+    found = slice_set s.blocks.found word (bit_or (slice_index s.blocks.found word) (bit_or f bits));
+  };
+}
 effect marks s (ClearsBits word bits) f = given_back s word bits
 effect marks s (StoresWord word value) f = record s { blocks = record (s.blocks) { owned = owned_with (word / words_of s) (λ o. record o { filled = false; fenced = false }) s.blocks.owned } }
 effect marks s (ExchangesSlot word entry) f = if entry == SEAL then slot_sealed s word f (f == 0) else slot_exchanged s word entry f (f == 0)

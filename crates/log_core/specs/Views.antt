@@ -1,5 +1,5 @@
 -- What one seat knows: its state, and what contracts alone see of it.
-use Rattle.std.specs.Prelude.{ℕ, ◌<◌, ◌≤◌, refl, List, [], ◌∷◌, ◌++◌, slice_index_or, Bool, true, false, Option, Some, None}
+use Rattle.std.specs.Prelude.{ℕ, ◌<◌, ◌≤◌, refl, List, [], ◌∷◌, slice_index_or, Bool, Option, Some, None}
 use Rattle.std.proofs.Common.{arith}
 use Rattle.log_entry.specs.Shape.{total_of}
 use Rattle.log_entry.specs.declared.shapes.Area.{Area}

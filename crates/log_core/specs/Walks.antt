@@ -8,13 +8,11 @@ use Rattle.log_image.specs.Blocks.{entry_count as snapshot_count, slots_of}
 use Rattle.seat_parts.specs.declared.keeps.KeptWord.{KeptWord}
 use Rattle.seat_state.specs.Seats.{Hold, Walk}
 use Rattle.seat_state.specs.Maps.{map_at as mapped_at}
-use Rattle.persistence.specs.Memory.{Memory}
 use Rattle.log_core.specs.Entries.{has, place_in, LogEntry}
 use Rattle.log_core.specs.Views.{View, view_of}
 use Rattle.log_core.specs.Origin.{Origin, shape, first_position, first_generation, LogBlock, Generation}
 use Rattle.log_core.specs.Files.{map_at, size_at}
 use Rattle.log_core.specs.Cores.{generation_at, is_named, log_at, log_blocks, entry_count, is_full}
-use Rattle.log_core.specs.After.{snapshot_meanings}
 
 -- the entries of a snapshot up to a slot of one of its blocks
 abbrev pub read_meanings : (ℕ → List ℕ) → List ℕ → ℕ → ℕ → List Meaning
@@ -72,7 +70,7 @@ pub record WalkHolds (a : Around) (h : Hold) (w : Walk) : Type 0 where
   pub read : w.reading ≡ true → a.kept (w.reading_generation - first_generation a.origin) → HasRead a.recorded (generation_at a.origin a.generations w.reading_generation) w
   pub kept_words : h.valid ≡ true →
       AllByRecursion (IsKeptWord (shape a.origin) a.words (λ block. is_named a.origin a.logs a.es (generation_at a.origin a.generations h.generation) block)
-        (drop (generation_at a.origin a.generations h.generation).cut a.logs)) w.kept
+      (drop (generation_at a.origin a.generations h.generation).cut a.logs)) w.kept
   pub unpinned : h.valid ≡ false → w.kept ≡ []
   pub walked : w.tail_block ≢ 0 → w.reading ≡ false → HasWalked a.origin a.es a.logs w
   pub ready_walked : w.ready ≡ true → (w.tail_block ≢ 0) × (w.reading ≡ false) × (h.generation ≢ 0)

@@ -1,11 +1,10 @@
 -- A machine within a core, at one seat, whatever other seats do between its steps; and what it owes there.
-use Rattle.std.specs.Prelude.{ℕ, ◌<◌, ◌≡◌, ◌≢◌, true, List, [], ◌++◌, length}
+use Rattle.std.specs.Prelude.{ℕ, ◌<◌, ◌≡◌, ◌≢◌, true, List, [], length}
 use Rattle.std.specs.List.{list_all}
 use Rattle.log_entry.specs.declared.calls.Call.{Call}
 use Rattle.seat_state.specs.Seats.{Seat}
-use Rattle.pmem_words.specs.Scripts.{After, Script}
+use Rattle.pmem_words.specs.Scripts.{Script}
 use Rattle.pmem_words.specs.Courses.{Course}
-use Rattle.pmem_words.specs.Parts.{Next, Into, End}
 use Rattle.pmem_words.specs.declared.asks.Ask.{Ask}
 use Rattle.pmem_words.specs.declared.asks.Turn.{Turn}
 use Rattle.pmem_words.specs.declared.asks.Turn.TheVariants.{Go, Done}
@@ -13,8 +12,8 @@ use Rattle.persistence.specs.Memory.{found_answer}
 use Rattle.log_core.specs.Views.{View, Ghost, view_of, op_in}
 use Rattle.log_core.specs.Origin.{Origin, q_of}
 use Rattle.log_core.specs.Cores.{Core}
-use Rattle.log_core.specs.Works.{Computes, is_going_on}
-use Rattle.log_core.specs.Steps.{Note, Does, Kind, kind_of, effect, is_begun, ghost_begun, ghost_after, ghost_ended, view_after}
+use Rattle.log_core.specs.Works.{Computes}
+use Rattle.log_core.specs.Steps.{Note, Does, kind_of, effect, is_begun, ghost_begun, ghost_after, view_after}
 use Rattle.log_core.specs.May.{May, is_offered}
 use Rattle.log_core.specs.Answers.{Enters}
 use Rattle.log_core.specs.Runs.{MayNumber, Allowed, IsReached, is_offered_work}

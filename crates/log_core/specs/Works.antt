@@ -1,6 +1,6 @@
 -- What a call computes between two of its steps: small computations over the seat's state alone. Each has a name, a condition, and
 -- what it makes of the state.
-use Rattle.std.specs.Prelude.{ℕ, zero, suc, ◌+◌, ◌-◌, ◌*◌, ◌/◌, ◌%◌, ◌^◌, ◌<◌, ◌≤◌, ◌≡◌, ◌≢◌, ◌⊎◌, ◌==◌, ◌&&◌, nat_le, nat_lt, max, Bool, true, false, if◌then◌else◌, List, [], ◌∷◌, ◌++◌, length, map, filter, take, drop, not, replicate, slice_index, slice_index_or, slice_set, Option, Some, None}
+use Rattle.std.specs.Prelude.{ℕ, ◌+◌, ◌-◌, ◌*◌, ◌/◌, ◌%◌, ◌^◌, ◌<◌, ◌≤◌, ◌≡◌, ◌≢◌, ◌⊎◌, ◌==◌, ◌&&◌, nat_le, nat_lt, max, Bool, true, false, if◌then◌else◌, List, [], ◌∷◌, ◌++◌, length, map, filter, take, drop, not, replicate, slice_index, slice_set, Option, Some, None}
 use Rattle.std.specs.List.{range_with_len}
 use Rattle.std.specs.Option.{option_or}
 use Rattle.log_entry.specs.Fields.{field}
@@ -10,7 +10,7 @@ use Rattle.log_entry.specs.Legal.{touched_blocks, appended_blocks}
 use Rattle.log_entry.specs.declared.layouts.TheConstants.{ENTRY_KIND, INDIRECT, INDIRECT_BLOCK, SEAL, HEAD_BLOCK, HEAD_GENERATION, BLOCK_BASE, BLOCK_KIND, LOG, SNAPSHOT, SNAPSHOT_SIZE}
 use Rattle.log_entry.specs.declared.calls.Held.{Held}
 use Rattle.log_entry.specs.declared.calls.Op.{Op}
-use Rattle.log_entry.specs.declared.calls.Op.TheVariants.{Pwrite as PwriteOp, Append as AppendOp, Pread as PreadOp}
+use Rattle.log_entry.specs.declared.calls.Op.TheVariants.{Pwrite as PwriteOp, Append as AppendOp}
 use Rattle.log_entry.specs.declared.calls.Call.{Call}
 use Rattle.log_image.specs.Entries.{Meaning, direct_meaning}
 use Rattle.log_image.specs.Maps.{block_in}
@@ -20,7 +20,7 @@ use Rattle.seat_parts.specs.declared.keeps.Task.{Task}
 use Rattle.seat_parts.specs.declared.keeps.Task.TheVariants.{Idle, Pread, Collect}
 use Rattle.seat_parts.specs.declared.keeps.KeptWord.{KeptWord}
 use Rattle.seat_state.specs.Maps.{unmapped, map_at}
-use Rattle.seat_state.specs.Seats.{Seat, Walk, Calling, Blocks, Giving, q_of}
+use Rattle.seat_state.specs.Seats.{Seat, Walk, Calling, q_of}
 use Rattle.log_core.specs.Entries.{place_in, meaning_by}
 use Rattle.log_core.specs.Views.{Ghost, Stored, op_in, op_of}
 
@@ -239,11 +239,13 @@ worked s (Begins task bytes) = record s {
 worked s KeepsTable = record s { walk = record (s.walk) { ready = true; snapshot_base = front_base s } }
 worked s StartsFromLog = record s { walk = walk_from_log s.walk (front s) (front_base s) }
 worked s StartsFromSnapshot = record s { walk = walk_from_snapshot s.walk s.hold.generation (front s) (front_base s) (front_size s) }
-worked s ReadsRun = record s { walk = record (s.walk) {
-  map = with_entry (direct_meaning (kept_word s s.walk.reading_block s.walk.reading_slot)) s.walk.map;
-  reading_slot = s.walk.reading_slot + 1;
-  kept = [];
-} }
+worked s ReadsRun = record s {
+  walk = record (s.walk) {
+    map = with_entry (direct_meaning (kept_word s s.walk.reading_block s.walk.reading_slot)) s.walk.map;
+    reading_slot = s.walk.reading_slot + 1;
+    kept = [];
+  };
+}
 worked s NextSnapshot = record s { walk = record (s.walk) { reading_block = kept_word s s.walk.reading_block 0; reading_slot = 3; kept = [] } }
 worked s EndsReading = record s { walk = walk_read s.walk (kept_word s s.walk.reading_block 0) }
 worked s TakesEntry = record s { walk = walk_past (shape_of s) s.walk (tail_meaning s); calling = without_bases (words_of s) (tail_meaning s) s.calling }
@@ -253,17 +255,21 @@ worked s Forgets = record s { walk = record (s.walk) { kept = [] } }
 worked s (OpensBase virt) = record s { calling = record (s.calling) { bases = s.calling.bases ++ virt ∷ [] } }
 worked s AddsBaseWord = record s { calling = record (s.calling) { base_words = s.calling.base_words ++ word_of_block s (base_block s) (base_slot s) ∷ [] } }
 worked s (Lays bytes) = record s { calling = record (s.calling) { bytes = s.calling.bytes ++ bytes } }
-worked s (SetsWord place word value) = record s { blocks = record (s.blocks) {
-  owned = with_fenced (with_filled s.blocks.owned place false) place false;
-  contents = slice_set s.blocks.contents (place * words_of s + word) value;
-} }
+worked s (SetsWord place word value) = record s {
+  blocks = record (s.blocks) {
+    owned = with_fenced (with_filled s.blocks.owned place false) place false;
+    contents = slice_set s.blocks.contents (place * words_of s + word) value;
+  };
+}
 worked s (CountsFilled place) = record s { blocks = record (s.blocks) { owned = with_filled s.blocks.owned place true } }
 worked s (NotesNamed words) = record s { blocks = record (s.blocks) { named = words } }
-worked s KeepsReplaced = record s { giving = record (s.giving) {
-  replaced = [];
-  limbo = s.giving.limbo ++ s.giving.replaced;
-  limbo_generation = max s.giving.limbo_generation s.giving.replaced_generation;
-} }
+worked s KeepsReplaced = record s {
+  giving = record (s.giving) {
+    replaced = [];
+    limbo = s.giving.limbo ++ s.giving.replaced;
+    limbo_generation = max s.giving.limbo_generation s.giving.replaced_generation;
+  };
+}
 worked s (NotesHeld held) = record s { giving = record (s.giving) { limbo_held = held } }
 
 -- the present call may still take in what it finds: it has put in no entry and no head, laid no byte, and is not synced

@@ -1,35 +1,27 @@
 -- Taking a pin, and giving it up, is lawful within a core.
-use Rattle.std.proofs.Common.{◌≡◌, ◌≢◌, ◌<◌, ◌≤◌, ◌+◌, ◌-◌, ◌^◌, ◌==◌, ◌&&◌, ◌||◌, not, ℕ, zero, suc, Bool, true, false, if◌then◌else◌, List, [], ◌∷◌, length, refl, sym, ◌∙◌, ap, subst, arith, ◌⊎◌, inl, inr, slice_index}
+use Rattle.std.proofs.Common.{◌≡◌, ◌≢◌, ◌≤◌, ◌==◌, ◌&&◌, ◌||◌, not, ℕ, Bool, true, false, if◌then◌else◌, List, [], refl, sym, ◌∙◌, ap, subst, arith, ◌⊎◌, inl, inr}
 use Rattle.std.proofs.lemmas.Bool.{eqb-true, eq-eqb, eqb-false}
 use Rattle.log_entry.specs.Fields.{field}
 use Rattle.log_entry.specs.declared.layouts.TheConstants.{HEAD_GENERATION}
 use Rattle.log_entry.specs.declared.words.Head.{Head}
 use Rattle.log_entry.specs.declared.calls.Call.{Call}
-use Rattle.seat_parts.specs.declared.keeps.Task.TheVariants.{Sync}
 use Rattle.seat_state.specs.Seats.{Seat, Hold}
-use Rattle.pmem_words.specs.Scripts.{After}
-use Rattle.pmem_words.specs.Leads.{Leads}
 use Rattle.pmem_words.specs.declared.asks.Turn.{Turn}
 use Rattle.pmem_words.specs.declared.asks.Turn.TheVariants.{Go, Done}
-use Rattle.persistence.specs.Memory.{cell, Cell}
-use Rattle.persistence.specs.Survivors.{value_at}
+use Rattle.persistence.specs.Memory.{cell}
 use Rattle.log_core.specs.Entries.{head_place}
-use Rattle.log_core.specs.Views.{View, Ghost}
-use Rattle.log_core.specs.Origin.{Origin, q_of, first_generation}
-use Rattle.log_core.specs.Cores.{Core, first_core, current}
-use Rattle.log_core.specs.Pins.{WasHead}
-use Rattle.log_core.specs.Works.{Computes}
+use Rattle.log_core.specs.Views.{Ghost}
+use Rattle.log_core.specs.Origin.{Origin, q_of}
+use Rattle.log_core.specs.Cores.{Core}
 use Rattle.log_core.specs.Steps.{Kind, LoadsHead, StoresOwnPin, NoKind, effect, ghost_after, kind_of}
 use Rattle.log_core.specs.May.{May, MayStoreOwnPin, is_offered}
 use Rattle.log_core.specs.Invariant.{Invariant}
 use Rattle.log_core.specs.Knows.{Knows}
-use Rattle.log_core.specs.Within.{no_record, adds_at, EntersOffered, Lawful, Serves, within, IsLinked, IsLeft}
+use Rattle.log_core.specs.Within.{no_record, adds_at, EntersOffered, Lawful, Serves}
 use Rattle.log_core.proofs.Heads.{head_generation, was_low}
 use Rattle.log_core.proofs.Serving.{leads_within}
 use Rattle.log_core.proofs.StartMeets.{start_meets}
-use Rattle.pins.specs.declared.pin.Pin.{Pin}
 use Rattle.pins.specs.declared.pin.Pin.TheVariants.{Begin, Publish, Confirm}
-use Rattle.pins.specs.declared.unpin.Unpin.{Unpin}
 use Rattle.pins.specs.Steps.{generation_in, head_of, head_found, head_found_if, pin_stored}
 use Rattle.pins.specs.Pinning.{pin_script, pin_lowers, confirm_after, confirm_turn}
 use Rattle.pins.specs.Unpinning.{unpin_of, unpin_script, unpin_lowers}

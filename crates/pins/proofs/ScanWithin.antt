@@ -1,15 +1,14 @@
 -- A scan of the pins is lawful within a core.
-use Rattle.std.proofs.Common.{◌≡◌, ◌≢◌, ◌<◌, ◌≤◌, ◌+◌, ◌==◌, nat_lt, ℕ, zero, suc, Bool, true, false, List, [], ◌∷◌, ◌++◌, take, length, refl, sym, ◌∙◌, ap, subst, arith, ◌⊎◌, inl, inr, slice_index}
+use Rattle.std.proofs.Common.{◌≡◌, ◌≢◌, ◌<◌, ◌≤◌, ◌+◌, ◌==◌, nat_lt, ℕ, zero, suc, Bool, true, false, List, [], ◌∷◌, take, length, refl, sym, ◌∙◌, ap, subst, arith, ◌⊎◌, inl, inr, slice_index}
 use Rattle.std.proofs.lemmas.Bool.{eqb-true, eqb-false, ltb-true, ltb-false}
 use Rattle.std.proofs.lemmas.List.{get_or_push, get_or_append_left, get_or-take, length-take-le, length_push}
 use Rattle.log_entry.specs.declared.calls.Held.{Held as HeldPin}
 use Rattle.log_entry.specs.declared.calls.Call.{Call}
 use Rattle.seat_state.specs.Seats.{Seat}
-use Rattle.pmem_words.specs.declared.asks.Turn.{Turn}
 use Rattle.pmem_words.specs.declared.asks.Turn.TheVariants.{Go, Done}
-use Rattle.log_core.specs.Views.{View, Ghost}
+use Rattle.log_core.specs.Views.{Ghost}
 use Rattle.log_core.specs.Origin.{Origin}
-use Rattle.log_core.specs.Within.{no_record, adds_at, EntersOffered, Lawful, Serves, IsLinked}
+use Rattle.log_core.specs.Within.{no_record, adds_at, EntersOffered, Serves}
 use Rattle.log_core.proofs.OneView.{same_or_other}
 use Rattle.log_core.proofs.Serving.{leads_within}
 use Rattle.log_core.proofs.StartMeets.{start_meets}
@@ -17,7 +16,7 @@ use Rattle.pins.specs.declared.scan.Scan.{Scan}
 use Rattle.pins.specs.declared.scan.Scanned.{Scanned}
 use Rattle.pins.specs.declared.scan.Scanned.TheVariants.{Clear, Held}
 use Rattle.pins.specs.Steps.{pin_found, seen_after}
-use Rattle.pins.specs.Scanning.{needs, scan_of, scan_script, scan_lowers, scan_turn, if_left, HasSeat}
+use Rattle.pins.specs.Scanning.{needs, scan_of, scan_script, scan_lowers, scan_turn, if_left}
 use Rattle.pins.specs.Within.{ScanStands, HasScanned, ScansWithin}
 use Rattle.pins.proofs.PinWithin.{none_at, entered}
 
@@ -70,16 +69,20 @@ module _ (o : Origin) (seat generation : ℕ) where
       clear = λ clear. (let never : Held (record { seat = m.next; generation = f }) ≡ Clear = same ∙ clear in cc);
       held = λ held e. (let pin : record { seat = m.next; generation = f } ≡ held = (let both : Held (record { seat = m.next; generation = f }) ≡ Held held = same ∙ e in cc) in
           subst (λ (p : HeldPin). (length (seen_after m.next s.giving.pins_seen f) ≡ p.seat + 1) × (p.seat < o.seats) × (slice_index (seen_after m.next s.giving.pins_seen f) p.seat ≡ p.generation) × (needs m.generation p.generation ≡ true)
-            × ((k : ℕ) → k < p.seat → needs m.generation (slice_index (seen_after m.next s.giving.pins_seen f) k) ≡ false)) pin
-            (many_seen s.giving.pins_seen m.next f low, (let l = stands.left in let e = stands.seats in omega (arith, l, e)), last_seen s.giving.pins_seen m.next f low, is,
-              (λ k less. ap (needs m.generation) (before_seen s.giving.pins_seen m.next f k low less) ∙ stands.free k less)));
+          × ((k : ℕ) → k < p.seat → needs m.generation (slice_index (seen_after m.next s.giving.pins_seen f) k) ≡ false)) pin (
+            many_seen s.giving.pins_seen m.next f low,
+            (let l = stands.left in let e = stands.seats in omega (arith, l, e)),
+            last_seen s.giving.pins_seen m.next f low,
+            is,
+            (λ k less. ap (needs m.generation) (before_seen s.giving.pins_seen m.next f k low less) ∙ stands.free k less),
+          ));
     })
     ends_by false true out is more done = (let never : if_left true ≡ Done out = ap if_left (sym more) ∙ done in cc)
     ends_by false false out is more done = (let same : Clear ≡ out = (let e : if_left false ≡ Done out = ap if_left (sym more) ∙ done in cc) in
         let count : m.next + 1 ≡ o.seats = (let l = stands.left in let e = stands.seats in let last = ltb-false (m.next + 1) s.seats more in omega (arith, l, e, last)) in record {
-      clear = λ clear. (many_seen s.giving.pins_seen m.next f low ∙ count, (λ k inside. free_to is k (omega (arith, inside, count))));
-      held = λ held e. (let never : Clear ≡ Held held = same ∙ e in cc);
-    })
+          clear = λ clear. (many_seen s.giving.pins_seen m.next f low ∙ count, (λ k inside. free_to is k (omega (arith, inside, count))));
+          held = λ held e. (let never : Clear ≡ Held held = same ∙ e in cc);
+        })
 
     none : adds_at no_record (pin_found s m.next f) (scan_turn (needs m.generation f) m s f) ≡ []
     none = none_at (pin_found s m.next f) (scan_turn (needs m.generation f) m s f)

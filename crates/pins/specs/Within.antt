@@ -1,5 +1,5 @@
 -- The machines of pins within a core: when each may run at a seat, and what holds at its end, whatever other seats do meanwhile.
-use Rattle.std.specs.Prelude.{ℕ, ◌+◌, ◌<◌, ◌≤◌, ◌≡◌, ◌≢◌, Bool, true, false, List, [], length, slice_index}
+use Rattle.std.specs.Prelude.{ℕ, ◌+◌, ◌<◌, ◌≤◌, ◌≡◌, ◌≢◌, true, false, List, [], length, slice_index}
 use Rattle.log_entry.specs.declared.words.Head.{Head}
 use Rattle.log_entry.specs.declared.calls.Call.{Call}
 use Rattle.seat_parts.specs.declared.keeps.Task.TheVariants.{Sync}

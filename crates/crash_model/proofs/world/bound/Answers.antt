@@ -1,4 +1,4 @@
-use Rattle.std.proofs.Common.{rules, arith, ◌<◌, ℕ}
+use Rattle.std.proofs.Common.{arith}
 use Rattle.crash_model.proofs.world.bound.Goals as goal
 
 pub returns : goal.returns

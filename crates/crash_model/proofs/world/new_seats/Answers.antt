@@ -1,6 +1,3 @@
-use Rattle.std.proofs.Common.{rules, ◌≡◌, ℕ, ◌∙◌, sym, ap, ◌++◌, ◌∷◌, [], List, refl}
-use Rattle.std.proofs.lemmas.List.FromFn.{map-range_with_len_more}
-use Rattle.seat_state.specs.Seats.{Seat, new_seat}
 use Rattle.crash_model.proofs.Standing.{seats_more}
 use Rattle.crash_model.proofs.world.new_seats.Goals as goal
 

@@ -1,9 +1,7 @@
-use Rattle.std.proofs.Common.{rules, ◌≡◌, ◌<◌, ◌≤◌, ◌+◌, ◌^◌, ℕ, length, sym, ap, subst, ◌∙◌, arith}
-use Rattle.persistence.specs.Memory.{found_answer}
-use Rattle.persistence.specs.Cells.{CellsNow, cells_after}
+use Rattle.std.proofs.Common.{ℕ, sym, subst, arith}
 use Rattle.seat_state.specs.Seats.{new_seat}
 use Rattle.log_core.specs.Views.{no_geometry}
-use Rattle.crash_model.specs.Worlds.{WorldNow, StandsForSome, StandsAfter, world_after, seat_of}
+use Rattle.crash_model.specs.Worlds.{WorldNow, StandsForSome, StandsAfter, world_after}
 use Rattle.crash_model.proofs.Standing.{takes, seat_made, low, rises_small, stands_some, stands_each, world_is}
 use Rattle.log_core.specs.Steps.{kind_of}
 use Rattle.std.proofs.lemmas.List.{get_or_read}
@@ -23,30 +21,30 @@ invariant_of-self c = let f = rw (← c.self.view_is) at c.requires.fits in
     let w : WorldNow = record { geometry = c.self.inside.geometry; cells = c.self.inside.cells; seats = c.self.inside.seats.items; position = c.self.inside.position; synced = c.self.inside.synced } in
     let made = seat_made w c.args.seat c.args.ask f in
     subst (λ (x : WorldNow). StandsForSome x)
-      (sym (world_is w c.args.seat c.args.ask c.perform-answer.new.self c.perform-answer.result c.q.result c.rise.result c.synced_by-self-inside.result c.index.result.now
-        c.perform-answer.ensures.cells c.perform-answer.ensures.answer c.q.ensures c.rise.ensures (get_or_read c.self.inside.seats.items c.args.seat c.index.result.now made c.index.ensures (new_seat no_geometry 0 0 0))
-        (c.synced_by-self-inside.ensures c.q.result c.args.seat)))
-      (stands_some w c.args.seat c.args.ask f)
+    (sym (world_is w c.args.seat c.args.ask c.perform-answer.new.self c.perform-answer.result c.q.result c.rise.result c.synced_by-self-inside.result c.index.result.now
+    c.perform-answer.ensures.cells c.perform-answer.ensures.answer c.q.ensures c.rise.ensures (get_or_read c.self.inside.seats.items c.args.seat c.index.result.now made c.index.ensures (new_seat no_geometry 0 0 0))
+    (c.synced_by-self-inside.ensures c.q.result c.args.seat)))
+    (stands_some w c.args.seat c.args.ask f)
 
 pub returns-clause-same : goal.returns-clause-same
 returns-clause-same c = let f = rw (← c.self.view_is) at c.requires.fits in
     let w : WorldNow = record { geometry = c.self.inside.geometry; cells = c.self.inside.cells; seats = c.self.inside.seats.items; position = c.self.inside.position; synced = c.self.inside.synced } in
     let made = seat_made w c.args.seat c.args.ask f in
     rw (← c.self.view_is)
-      (world_is w c.args.seat c.args.ask c.perform-answer.new.self c.perform-answer.result c.q.result c.rise.result c.synced_by-self-inside.result c.index.result.now
-        c.perform-answer.ensures.cells c.perform-answer.ensures.answer c.q.ensures c.rise.ensures (get_or_read c.self.inside.seats.items c.args.seat c.index.result.now made c.index.ensures (new_seat no_geometry 0 0 0))
-        (c.synced_by-self-inside.ensures c.q.result c.args.seat))
+    (world_is w c.args.seat c.args.ask c.perform-answer.new.self c.perform-answer.result c.q.result c.rise.result c.synced_by-self-inside.result c.index.result.now
+    c.perform-answer.ensures.cells c.perform-answer.ensures.answer c.q.ensures c.rise.ensures (get_or_read c.self.inside.seats.items c.args.seat c.index.result.now made c.index.ensures (new_seat no_geometry 0 0 0))
+    (c.synced_by-self-inside.ensures c.q.result c.args.seat))
 
 pub returns-clause-stands : goal.returns-clause-stands
 returns-clause-stands c = let f = rw (← c.self.view_is) at c.requires.fits in
     let w : WorldNow = record { geometry = c.self.inside.geometry; cells = c.self.inside.cells; seats = c.self.inside.seats.items; position = c.self.inside.position; synced = c.self.inside.synced } in
     let made = seat_made w c.args.seat c.args.ask f in
     rw (← c.self.view_is)
-      (subst (λ (x : WorldNow). StandsAfter w c.args.seat c.args.ask c.perform-answer.result x)
-        (sym (world_is w c.args.seat c.args.ask c.perform-answer.new.self c.perform-answer.result c.q.result c.rise.result c.synced_by-self-inside.result c.index.result.now
-          c.perform-answer.ensures.cells c.perform-answer.ensures.answer c.q.ensures c.rise.ensures (get_or_read c.self.inside.seats.items c.args.seat c.index.result.now made c.index.ensures (new_seat no_geometry 0 0 0))
-          (c.synced_by-self-inside.ensures c.q.result c.args.seat)))
-        (subst (λ (a : ℕ). StandsAfter w c.args.seat c.args.ask a (world_after w c.args.seat c.args.ask)) (sym c.perform-answer.ensures.answer) (stands_each w c.args.seat c.args.ask)))
+    (subst (λ (x : WorldNow). StandsAfter w c.args.seat c.args.ask c.perform-answer.result x)
+    (sym (world_is w c.args.seat c.args.ask c.perform-answer.new.self c.perform-answer.result c.q.result c.rise.result c.synced_by-self-inside.result c.index.result.now
+    c.perform-answer.ensures.cells c.perform-answer.ensures.answer c.q.ensures c.rise.ensures (get_or_read c.self.inside.seats.items c.args.seat c.index.result.now made c.index.ensures (new_seat no_geometry 0 0 0))
+    (c.synced_by-self-inside.ensures c.q.result c.args.seat)))
+    (subst (λ (a : ℕ). StandsAfter w c.args.seat c.args.ask a (world_after w c.args.seat c.args.ask)) (sym c.perform-answer.ensures.answer) (stands_each w c.args.seat c.args.ask)))
 
 pub overflow_add-self : goal.overflow_add-self
 overflow_add-self c = let f = rw (← c.self.view_is) at c.requires.fits in

@@ -1,4 +1,3 @@
-use Rattle.std.proofs.Common.{rules, ℕ}
 use Rattle.crash_model.proofs.Standing.{lent_stands}
 use Rattle.crash_model.proofs.world.World.seat.Goals as goal
 

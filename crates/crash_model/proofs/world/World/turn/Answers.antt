@@ -1,6 +1,6 @@
-use Rattle.std.proofs.Common.{rules, ℕ, ◌≡◌, ◌<◌, length, sym, subst}
+use Rattle.std.proofs.Common.{◌<◌, length, sym, subst}
 use Rattle.pmem_words.specs.declared.asks.Ask.{Ask}
-use Rattle.crash_model.specs.Worlds.{WorldNow, HasFitting, seat_of}
+use Rattle.crash_model.specs.Worlds.{WorldNow, HasFitting}
 use Rattle.crash_model.proofs.Standing.{seat_made}
 use Rattle.crash_model.proofs.world.World.turn.Goals as goal
 
