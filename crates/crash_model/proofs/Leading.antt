@@ -1,5 +1,5 @@
 -- A machine that leads to its end within a core does so in a world, turn by turn.
-use Rattle.std.proofs.Common.{◌≡◌, ◌≢◌, ◌<◌, ◌≤◌, ◌^◌, get_or, ℕ, Bool, List, [], length, refl, sym, ◌∙◌, ap, subst, arith, slice_set}
+use Rattle.std.proofs.Common.{◌≡◌, ◌≢◌, ◌<◌, ◌≤◌, ◌^◌, get_or, map, ℕ, Bool, List, [], length, refl, sym, ◌∙◌, ap, subst, arith, slice_set}
 use Rattle.std.proofs.Math.Logic.{∥∥₁_elim, ∥∥₁_map}
 use Rattle.std.proofs.lemmas.List.{get_or-set_same, get_or-set_other, length-set}
 use Rattle.log_entry.specs.declared.calls.Call.{Call}
@@ -13,7 +13,8 @@ use Rattle.std.proofs.lemmas.List.FromFn.{get_or-map-range_with_len, length-map-
 use Rattle.log_entry.specs.declared.shapes.Geometry.{Geometry}
 use Rattle.log_image.specs.Keeps.{Keeps}
 use Rattle.seat_state.specs.declared.TheConstants.{SEATS}
-use Rattle.persistence.specs.Cells.{fresh_memory}
+use Rattle.std.specs.List.{range_with_len}
+use Rattle.persistence.specs.Cells.{CellsNow, fresh_memory}
 use Rattle.log_core.specs.Views.{View, Ghost, view_of, spent_view, new_view, no_geometry, op_in}
 use Rattle.log_core.specs.Origin.{Origin, q_of, first_position, first_views, made_by}
 use Rattle.log_core.specs.Cores.{Core, first_core}
@@ -177,21 +178,25 @@ begins_led {M} {Out} seat script m P R Q w promise holds weaker inside resting =
           others = λ other apart low. rests.seats other low;
         })
 
--- a world in which nothing was done is at rest, whatever room it has
-pub new_rests : (geometry : Geometry) (words taken : List ℕ) (generation position size seats room : ℕ) → ((place : ℕ) → get_or words place 0 < 2 ^ 64) → 0 < seats → seats ≤ SEATS →
-    ∥ Keeps geometry words taken generation position size ∥₁ → (w : WorldNow) → w ≡ record (new_world geometry words taken position seats) { cells = record { memory = fresh_memory words taken seats; room = room } } → IsResting w
-new_rests geometry words taken generation position size seats room small some few kept w w_is = subst (λ (x : WorldNow). IsResting x) (sym w_is) (∥∥₁_map kept (λ k. (origin k, first_core (origin k), rests k)))
+-- room is no part of rest
+pub rests_room : (w : WorldNow) (room : ℕ) → IsResting w → IsResting (record w { cells = record (w.cells) { room = room } })
+rests_room w room resting = ∥∥₁_map resting (λ r. (r.0, r.1, record {
+  stands = (let s = r.2.stands in record { start = s.start; geometry = s.geometry; seats = s.seats; reached = s.reached; memory = s.memory; position = s.position; synced = s.synced });
+  seats = λ seat inside. (let at = r.2.seats seat inside in record { made = at.made; unspent = at.unspent; same = at.same });
+}))
+
+-- a world in which nothing was done is at rest
+pub new_rests : (geometry : Geometry) (words taken : List ℕ) (generation position size seats : ℕ) → ((place : ℕ) → get_or words place 0 < 2 ^ 64) → 0 < seats → seats ≤ SEATS →
+    ∥ Keeps geometry words taken generation position size ∥₁ → IsResting (new_world geometry words taken position seats)
+new_rests geometry words taken generation position size seats small some few kept = ∥∥₁_map kept (λ k. (origin k, first_core (origin k), rests k))
   where
     origin : Keeps geometry words taken generation position size → Origin
     origin k = origin_of geometry seats seats words taken k.chain k.file
 
-    roomy : WorldNow
-    roomy = record (new_world geometry words taken position seats) { cells = record { memory = fresh_memory words taken seats; room = room } }
-
-    rests : (k : Keeps geometry words taken generation position size) → RestsIn roomy (origin k) (first_core (origin k))
+    rests : (k : Keeps geometry words taken generation position size) → RestsIn (new_world geometry words taken position seats) (origin k) (first_core (origin k))
     rests k = (let st = new_stands_by geometry words taken generation position size seats small some few k in
         let same = same_position geometry words taken generation position size seats seats k in record {
-          stands = record { start = st.start; geometry = st.geometry; seats = st.seats; reached = st.reached; memory = st.memory; position = st.position; synced = st.synced };
+          stands = st;
           seats = λ seat low. (let inside : seat < seats = (let e = length-map-range_with_len (λ (n : ℕ). new_seat geometry n seats position) 0 seats in omega (arith, e, low)) in
               let view_is : view_of (first_views (origin k)) seat ≡ new_view geometry seats (first_position (origin k)) (made_by seats seat) seat =
               get_or-map-range_with_len (λ (n : ℕ). new_view geometry seats (first_position (origin k)) (made_by seats n) n) 0 seats seat seat spent_view inside (omega arith) in
@@ -202,3 +207,10 @@ new_rests geometry words taken generation position size seats room small some fe
                     ∙ (ap (λ (p : ℕ). new_seat geometry seat seats p) (sym same) ∙ ap (λ (v : View). v.seat) (sym view_is));
               });
         })
+
+pub made_rests : (geometry : Geometry) (words taken : List ℕ) (generation position size seats : ℕ) → ((place : ℕ) → get_or words place 0 < 2 ^ 64) → 0 < seats → seats ≤ SEATS →
+    ∥ Keeps geometry words taken generation position size ∥₁ → (g : Geometry) (p : ℕ) (cells : CellsNow) (states : List Seat) → g ≡ geometry → p ≡ position →
+    cells ≡ record { memory = fresh_memory words taken seats; room = 0 } → states ≡ map (λ (n : ℕ). new_seat g n seats p) (range_with_len 0 seats) →
+    IsResting (record { geometry = g; cells = cells; seats = states; position = p; synced = p })
+made_rests geometry words taken generation position size seats small some few kept g p cells states g_is p_is cells_is states_is =
+    rw (states_is, cells_is, g_is, p_is) (new_rests geometry words taken generation position size seats small some few kept)

@@ -45,6 +45,7 @@ impl World {
     ghost use Rattle.std.specs.Borrow.{sem};
     ghost use Rattle.persistence.specs.Memory.{found_answer};
     ghost use Rattle.crash_model.specs.Worlds.{new_world, world_after, HasFitting, StandsAfter, seat_of, set_seat, answer_in, told_in, turned};
+    ghost use Rattle.crash_model.specs.Led.{IsResting};
     ghost use Rattle.crash_model.specs.Lending.{LendsSeat};
 
     /// The position of the last entry of the log.
@@ -77,11 +78,13 @@ impl World {
         self.cells.survivors(alloc, choice)
     }
 
-    /// A world in which nothing was done on this image, with this many seats, from 1 to 16. Only want of memory refuses it.
+    /// A world in which nothing was done on this image, with this many seats, from 1 to 16, each at rest. Only want of memory refuses
+    /// it.
     pub fn new(alloc: Global, start: Start, seats: u8) -> Result<World, AllocError>
         requires some { 0 < seats }
         requires few { seats ≤ SEATS }
-        ensures { IfOk result (λ world. world ≡ new_world start.geometry start.words.items start.taken.items start.position seats) }
+        ensures made { IfOk result (λ world. world ≡ new_world start.geometry start.words.items start.taken.items start.position seats) }
+        ensures rests { IfOk result (λ world. IsResting world) }
     {
         let geometry = *start.geometry();
         let position = start.position();
