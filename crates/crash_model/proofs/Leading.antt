@@ -1,6 +1,7 @@
 -- A machine that leads to its end within a core does so in a world, turn by turn.
 use Rattle.std.proofs.Common.{◌≡◌, ◌≢◌, ◌<◌, ◌≤◌, ◌^◌, get_or, map, ℕ, Bool, List, [], length, refl, sym, ◌∙◌, ap, subst, arith, slice_set}
 use Rattle.std.proofs.Math.Logic.{∥∥₁_elim, ∥∥₁_map}
+use Rattle.std.proofs.Math.Bridge.{le_prop}
 use Rattle.std.proofs.lemmas.List.{get_or-set_same, get_or-set_other, length-set}
 use Rattle.log_entry.specs.declared.calls.Call.{Call}
 use Rattle.seat_state.specs.Seats.{Seat, new_seat}
@@ -180,10 +181,14 @@ begins_led {M} {Out} seat script m P R Q w promise holds weaker inside resting =
 
 -- room is no part of rest
 pub rests_room : (w : WorldNow) (room : ℕ) → IsResting w → IsResting (record w { cells = record (w.cells) { room = room } })
-rests_room w room resting = ∥∥₁_map resting (λ r. (r.0, r.1, record {
-  stands = (let s = r.2.stands in record { start = s.start; geometry = s.geometry; seats = s.seats; reached = s.reached; memory = s.memory; position = s.position; synced = s.synced });
-  seats = λ seat inside. (let at = r.2.seats seat inside in record { made = at.made; unspent = at.unspent; same = at.same });
-}))
+rests_room w room resting = ∥∥₁_map resting (λ r. (
+  r.0,
+  r.1,
+  record {
+    stands = (let s = r.2.stands in record { start = s.start; geometry = s.geometry; seats = s.seats; reached = s.reached; memory = s.memory; position = s.position; synced = s.synced });
+    seats = λ seat inside. (let at = r.2.seats seat inside in record { made = at.made; unspent = at.unspent; same = at.same });
+  },
+))
 
 -- a world in which nothing was done is at rest
 pub new_rests : (geometry : Geometry) (words taken : List ℕ) (generation position size seats : ℕ) → ((place : ℕ) → get_or words place 0 < 2 ^ 64) → 0 < seats → seats ≤ SEATS →
@@ -214,3 +219,7 @@ pub made_rests : (geometry : Geometry) (words taken : List ℕ) (generation posi
     IsResting (record { geometry = g; cells = cells; seats = states; position = p; synced = p })
 made_rests geometry words taken generation position size seats small some few kept g p cells states g_is p_is cells_is states_is =
     rw (states_is, cells_is, g_is, p_is) (new_rests geometry words taken generation position size seats small some few kept)
+
+-- the seat of a machine that leads is there
+pub inside_led : {M Out : Type 0} (seat : ℕ) (script : Script M Out) (rec : Out → Seat → List Call) (Q : Out → Seat → View → Type 0) (m : M) (w : WorldNow) → IsLed seat script rec Q m w → seat < length w.seats
+inside_led seat script rec Q m w led = ∥∥₁_elim led le_prop (λ l. seat_here seat script rec Q m w l.0 l.1 l.2)

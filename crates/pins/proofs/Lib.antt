@@ -8,3 +8,4 @@ pub mod ScanOverPlain
 pub mod UnpinOverPlain
 pub mod PinWithin
 pub mod ScanWithin
+pub mod WorldLemmas

@@ -4,3 +4,4 @@ pub mod Scanning
 pub mod Steps
 pub mod Unpinning
 pub mod Within
+pub mod Seated
