@@ -1,9 +1,7 @@
 -- What a world stands for, after each of its calls.
-use Rattle.std.proofs.Common.{◌≡◌, ◌<◌, ◌≤◌, ◌+◌, ◌*◌, ◌^◌, ◌==◌, ◌&&◌, not, ℕ, suc, Bool, true, false, if◌then◌else◌, List, [], ◌∷◌, ◌++◌, length, map, max, inr, refl, sym, ◌∙◌, ap, subst, arith, length-append, slice_index, slice_set, Result, Ok, Err, IfOk, IsErr}
+use Rattle.std.proofs.Common.{◌≡◌, ◌<◌, ◌≤◌, ◌+◌, ◌^◌, ◌==◌, ◌&&◌, not, ℕ, suc, Bool, true, false, if◌then◌else◌, List, [], ◌∷◌, ◌++◌, length, map, max, inr, refl, sym, ◌∙◌, ap, subst, arith, length-append, slice_index, slice_set, Result, Ok, Err, IfOk, IsErr}
 use Rattle.std.proofs.Math.Logic.{∥∥₁_elim, ∥∥₁_map}
 use Rattle.std.proofs.Math.Bridge.{le_prop}
-use Rattle.std.proofs.Math.Nat.{mul-le-mul_right}
-use Rattle.std.proofs.lemmas.Bool.{eqb-true}
 use Rattle.std.proofs.lemmas.List.{length-set}
 use Rattle.std.specs.List.{AllByRecursion, range_with_len}
 use Rattle.std.proofs.lemmas.List.FromFn.{map-range_with_len_more, length-map-range_with_len}
@@ -11,7 +9,6 @@ use Rattle.log_image.specs.Keeps.{Keeps}
 use Rattle.log_core.specs.Starts.{origin_of}
 use Rattle.log_core.proofs.StartKept.{kept_start, same_position}
 use Rattle.log_entry.specs.declared.layouts.TheConstants.{SEAL}
-use Rattle.log_image.specs.Image.{words_in, total}
 use Rattle.seat_state.specs.Seats.{Seat, q_of, new_seat}
 use Rattle.seat_state.specs.declared.TheConstants.{SEATS}
 use Rattle.pmem_words.specs.Asks.{answer}
@@ -20,20 +17,17 @@ use Rattle.pmem_words.specs.declared.asks.Ask.{Ask}
 use Rattle.pmem_words.specs.declared.asks.Ask.TheVariants.{Load, Store, Exchange, SetBits, ClearBits, Mark, Fence}
 use Rattle.persistence.specs.Memory.{Memory, found, found_answer, memory_after}
 use Rattle.persistence.specs.Cells.{CellsNow, TakesAsk, cells_after, fresh_memory}
-use Rattle.log_core.specs.Entries.{head_place}
-use Rattle.log_core.specs.Origin.{Origin, shape, first_position}
+use Rattle.log_core.specs.Origin.{Origin, first_position}
 use Rattle.log_core.specs.Origin.{q_of as words_in_block}
 use Rattle.log_core.specs.Files.{Write}
 use Rattle.log_core.specs.Cores.{Core, first_core}
 use Rattle.log_core.specs.Steps.{Note, Does, Kind, LoadsHead, StoresOwnPin, LoadsPinWord, LoadsImageWord, LoadsBitmapWord, SetsBits, ClearsBits, StoresWord, ExchangesSlot, ExchangesLink, ExchangesHead, MarksWord, Fences, NoKind, kind_of}
 use Rattle.log_core.specs.After.{after, history_after, history_if, write_of, synced_after}
-use Rattle.log_core.specs.May.{is_offered}
-use Rattle.log_core.specs.Runs.{Allowed, IsReached, MayStep}
+use Rattle.log_core.specs.Runs.{Allowed, IsReached}
 use Rattle.log_core.specs.Invariant.{Invariant}
-use Rattle.log_core.specs.Views.{view_of}
 use Rattle.log_core.proofs.Serving.{reached_keeps}
 use Rattle.log_core.proofs.StartMeets.{start_meets}
-use Rattle.log_core.proofs.RunHolds.{no_exchange}
+use Rattle.log_core.proofs.Takes.{takes_asked}
 use Rattle.crash_model.specs.Worlds.{WorldNow, Stands, StandsForSome, FitsCore, HasFitting, StandsAfter, seat_of, rises, rise_if, synced_by, kind_in, world_after, new_world}
 
 -- room is no part of what a world stands for
@@ -140,56 +134,8 @@ module _ (w : WorldNow) (seat : ℕ) (ask : Ask) (o : Origin) (c : Core) (note :
   low_one : w.position < 2 ^ 40
   low_one = (let limit = inv.order.log.limit in let is = fits.stands.position in omega (arith, limit, is))
 
-  wide_enough : (q blocks : ℕ) → 8 ≤ q → 1 ≤ blocks → 8 ≤ blocks * q
-  wide_enough q blocks wide some = (let times : 1 * q ≤ blocks * q = mul-le-mul_right q some in omega (arith, times, wide))
-
-  head_inside : head_place < length c.memory.now.words
-  head_inside =
-      (let image = inv.sizes.image in
-      let many = inv.sizes.words.words in
-      let long : 8 ≤ total (shape o) * words_in (shape o) = wide_enough (words_in (shape o)) (total (shape o)) image.wide (omega arith) in
-      let whole = image.whole in
-      omega (arith, long, whole, many))
-
-  pins_inside : (other : ℕ) → other < o.seats → other < length c.memory.now.pins
-  pins_inside other inside = (let many = inv.sizes.words.pins in omega (arith, inside, many))
-
-  -- each ask of an offered kind is on a word that the memory has
-  by_head : (word : ℕ) (b : Bool) → (word == head_place) ≡ b → is_offered (if b then LoadsHead else LoadsImageWord word) ≡ true → word < length c.memory.now.words
-  by_head word true e offered = subst (λ (k : ℕ). k < length c.memory.now.words) (sym (eqb-true word head_place e)) head_inside
-  by_head word false e offered = cc
-
-  by_own : (other value : ℕ) (b : Bool) → (other == seat) ≡ b → is_offered (if b then StoresOwnPin value else NoKind) ≡ true → other < length c.memory.now.pins
-  by_own other value true e offered = (let same = eqb-true other seat e in let made = fits.step.fits.made in let few = inv.sizes.few in pins_inside other (omega (arith, same, made, few)))
-  by_own other value false e offered = cc
-
-  takes_by : (ask : Ask) → is_offered (kind_of (words_in_block o) seat ask) ≡ true →
-      (fits : MayStep o c (view_of c.views seat) (kind_of (words_in_block o) seat ask) note (found_answer c.memory ask)) → TakesAsk c.memory ask
-  takes_by (Load (Image word)) offered may = by_head word (word == head_place) refl offered
-  takes_by (Load (Pin other)) offered may = pins_inside other may.may.inside
-  takes_by (Load (Map word)) offered may = cc
-  takes_by (Load (FenceOf other)) offered may = cc
-  takes_by (Store (Image word) value) offered may = cc
-  takes_by (Store (Pin other) value) offered may = by_own other value (other == seat) refl offered
-  takes_by (Store (Map word) value) offered may = cc
-  takes_by (Store (FenceOf other) value) offered may = cc
-  takes_by (Exchange (Image word) before next) offered may = absurd (no_exchange (words_in_block o) word before next offered)
-  takes_by (Exchange (Pin other) before next) offered may = cc
-  takes_by (Exchange (Map word) before next) offered may = cc
-  takes_by (Exchange (FenceOf other) before next) offered may = cc
-  takes_by (SetBits (Image word) bits) offered may = cc
-  takes_by (SetBits (Pin other) bits) offered may = cc
-  takes_by (SetBits (Map word) bits) offered may = cc
-  takes_by (SetBits (FenceOf other) bits) offered may = cc
-  takes_by (ClearBits (Image word) bits) offered may = cc
-  takes_by (ClearBits (Pin other) bits) offered may = cc
-  takes_by (ClearBits (Map word) bits) offered may = cc
-  takes_by (ClearBits (FenceOf other) bits) offered may = cc
-  takes_by (Mark word) offered may = cc
-  takes_by Fence offered may = tt
-
   takes_one : TakesAsk w.cells.memory ask
-  takes_one = subst (λ (m : Memory). TakesAsk m ask) fits.stands.memory (takes_by ask fits.step.offered.kind fits.step.fits.step)
+  takes_one = subst (λ (m : Memory). TakesAsk m ask) fits.stands.memory (takes_asked o c seat ask note inv fits.step)
 
   made_one : seat < length w.seats
   made_one = (let made = fits.step.fits.made in let few = inv.sizes.few in let many = fits.stands.seats in omega (arith, made, few, many))

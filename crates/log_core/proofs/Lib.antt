@@ -44,3 +44,5 @@ pub mod RowsOwners
 pub mod RowsRun
 pub mod RowsLate
 pub mod RowsTurns
+pub mod Takes
+pub mod Parts

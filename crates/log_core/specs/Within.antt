@@ -1,5 +1,5 @@
 -- A machine within a core, at one seat, whatever other seats do between its steps; and what it owes there.
-use Rattle.std.specs.Prelude.{ℕ, ◌<◌, ◌≡◌, ◌≢◌, true, List, [], length}
+use Rattle.std.specs.Prelude.{ℕ, ◌<◌, ◌≤◌, ◌≡◌, ◌≢◌, true, List, [], length, slice_index}
 use Rattle.std.specs.List.{list_all}
 use Rattle.log_entry.specs.declared.calls.Call.{Call}
 use Rattle.seat_state.specs.Seats.{Seat}
@@ -8,7 +8,9 @@ use Rattle.pmem_words.specs.Courses.{Course}
 use Rattle.pmem_words.specs.declared.asks.Ask.{Ask}
 use Rattle.pmem_words.specs.declared.asks.Turn.{Turn}
 use Rattle.pmem_words.specs.declared.asks.Turn.TheVariants.{Go, Done}
-use Rattle.persistence.specs.Memory.{found_answer}
+use Rattle.pmem_words.specs.Parts.{Next, Into, End}
+use Rattle.pmem_words.specs.PlainWords.{PlainWords}
+use Rattle.persistence.specs.Memory.{Memory, found_answer}
 use Rattle.log_core.specs.Views.{View, Ghost, view_of, op_in}
 use Rattle.log_core.specs.Origin.{Origin, q_of}
 use Rattle.log_core.specs.Cores.{Core}
@@ -100,3 +102,24 @@ pub record IsLeft {Out : Type 0} (rest : List Call) (rec : Out → Seat → List
   pub seat : w.seat ≡ t
   pub done : w.done ≡ rest
   pub fits : R out t w.ghost
+
+-- where a part of a machine has ended: the whole computes and goes into its next part, or ends with its record
+abbrev pub FitsNext : {C Out : Type 0} → (Out → Seat → List Call) → (C → Seat → Ghost → Type 0) → (Out → Seat → Ghost → Type 0) → Seat → Ghost → Next C Out → Type 0
+FitsNext rec P R t g (Into m s) = EntersOffered g t s [] × P m s g
+FitsNext rec P R t g (End out s) = EntersOffered g t s (rec out s) × (rec out s ≡ []) × R out s g
+
+-- a memory of one caller has the words of a core's: the pin words of the seats that there are, and perhaps more
+pub record Agrees (p : PlainWords) (memory : Memory) : Type 0 where
+  pub words : p.words ≡ memory.now.words
+  pub taken : p.taken ≡ memory.now.taken
+  pub long : length memory.now.pins ≤ length p.pins
+  pub pins : (seat : ℕ) → seat < length memory.now.pins → slice_index p.pins seat ≡ slice_index memory.now.pins seat
+
+-- where a machine that ran alone on such a memory has ended: it has the words of a core that a run reaches, in which the seat has this
+-- view
+pub record EndsAlone {Out : Type 0} (o : Origin) (seat : ℕ) (Q : Out → Seat → View → Type 0) (out : Out) (t : Seat) (p : PlainWords) : Type 0 where
+  pub core : Core
+  pub reached : IsReached o core
+  pub made : seat < length core.views
+  pub agrees : Agrees p core.memory
+  pub ends : Q out t (view_of core.views seat)
