@@ -105,6 +105,7 @@ impl World {
     /// one that a run from the start of the image reaches and that the world stands for, in which the ask is a step of that seat,
     /// whose view with what was computed since its last step is the seat's state. For each of these the world afterwards stands for
     /// the core state after the step. It takes no memory.
+    #[inline(always)]
     pub fn perform(&mut self, seat: u8, ask: Ask) -> u64
         requires room { 0 < self.old.cells.room }
         requires fits { HasFitting self.old seat ask }

@@ -1,10 +1,12 @@
-//! Drives a machine of many loads and stores, makes seats, and performs steps on cells, so that all can be timed or weighed.
+//! Drives a machine of many loads and stores, makes seats, and performs steps on cells and turns of a world, so that all can be timed or
+//! weighed.
 #![tactic(auto)]
 
 ghost use Rattle.std.specs.Prelude.{◌≡◌, IfOk, length};
 
 mod cells;
 mod closed;
+mod world;
 
 use cells::drawn_steps;
 use closed::{Closed, carry_closed};
@@ -13,6 +15,7 @@ use pmem_words::{Plain, SeatState};
 use sample_machines::carry_alone;
 use std::alloc::{AllocError, Global};
 use std::io;
+use world::world_steps;
 
 /// How many words one round carries.
 const CARRIED: u16 = 32_768;
@@ -93,8 +96,8 @@ fn seats(alloc: Global, count: u8) -> Result<u64, AllocError> {
     Ok(made.len() as u64)
 }
 
-/// Does what a line asks: `carry` or `closed` and a number of rounds, `cells` and a number of steps, or `seats` and a number of seats.
-/// Another line comes to 0.
+/// Does what a line asks: `carry` or `closed` and a number of rounds, `cells` or `world` and a number of steps, or `seats` and a number of
+/// seats. Another line comes to 0.
 fn answer(alloc: Global, line: &str) -> Result<u64, AllocError> {
     match line.split_once(' ') {
         Some(("carry", rounds)) => match rounds.parse::<u32>() {
@@ -107,6 +110,10 @@ fn answer(alloc: Global, line: &str) -> Result<u64, AllocError> {
         },
         Some(("cells", steps)) => match steps.parse::<u32>() {
             Ok(steps) => drawn_steps(alloc, steps),
+            Err(_) => Ok(0),
+        },
+        Some(("world", steps)) => match steps.parse::<u32>() {
+            Ok(steps) => world_steps(alloc, steps),
             Err(_) => Ok(0),
         },
         Some(("seats", count)) => match count.parse::<u8>() {

@@ -1,5 +1,5 @@
 use Rattle.pmem_words.specs.Courses.{over}
-use Rattle.pmem_words.specs.PlainWords.{PlainWords, plain}
+use Rattle.pmem_words.specs.PlainWords.{plain}
 use Rattle.pmem_words.proofs.LeadsLemmas.{safe_by, ends_by}
 use Rattle.sample_machines.specs.Carrying.{carry_script}
 use Rattle.sample_machines.proofs.CarryOverPlain.{carried_alone}
