@@ -46,3 +46,4 @@ pub mod RowsLate
 pub mod RowsTurns
 pub mod Takes
 pub mod Parts
+pub mod OverPlain

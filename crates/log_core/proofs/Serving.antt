@@ -1,4 +1,5 @@
--- A machine that is lawful leads to its end within a core, whatever others do; and over a plain memory whose words are a core's.
+-- A machine that is lawful leads to its end within a core, whatever others do. `OverPlain` says the same over a plain memory whose
+-- words are a core's.
 use Rattle.std.proofs.Common.{◌≡◌, ◌<◌, ℕ, Bool, true, false, List, [], ◌++◌, length, refl, sym, ◌∙◌, ap, subst, slice_index, Option, Some, None, append-nil}
 use Rattle.std.specs.List.{list_all}
 use Rattle.log_entry.specs.declared.calls.Op.{Op}
