@@ -23,11 +23,12 @@ use Rattle.log_core.specs.Files.{Write}
 use Rattle.log_core.specs.Cores.{Core, first_core}
 use Rattle.log_core.specs.Steps.{Note, Does, Kind, LoadsHead, StoresOwnPin, LoadsPinWord, LoadsImageWord, LoadsBitmapWord, SetsBits, ClearsBits, StoresWord, ExchangesSlot, ExchangesLink, ExchangesHead, MarksWord, Fences, NoKind, kind_of}
 use Rattle.log_core.specs.After.{after, history_after, history_if, write_of, synced_after}
-use Rattle.log_core.specs.Runs.{Allowed, IsReached}
+use Rattle.log_core.specs.Runs.{IsReached}
 use Rattle.log_core.specs.Invariant.{Invariant}
 use Rattle.log_core.proofs.Serving.{reached_keeps}
 use Rattle.log_core.proofs.StartMeets.{start_meets}
 use Rattle.log_core.proofs.Takes.{takes_asked}
+use Rattle.log_core.proofs.OverPlain.{reached_next}
 use Rattle.crash_model.specs.Worlds.{WorldNow, Stands, StandsForSome, FitsCore, HasFitting, StandsAfter, seat_of, rises, rise_if, synced_by, kind_in, world_after, new_world}
 
 -- room is no part of what a world stands for
@@ -97,11 +98,7 @@ module _ (w : WorldNow) (seat : ℕ) (ask : Ask) (o : Origin) (c : Core) (note :
   kind_same = ap (λ (g : Rattle.log_entry.specs.declared.shapes.Geometry.Geometry). kind_of (q_of g) seat ask) fits.stands.geometry
 
   pub reached_after : IsReached o (after o c (Does seat ask note))
-  reached_after = (let r = fits.stands.reached in record {
-    steps = Does seat ask note ∷ r.steps;
-    is_run = (r.is_run, subst (λ (x : Core). Allowed o x (Does seat ask note)) (sym r.ends) fits.step);
-    ends = ap (λ (x : Core). after o x (Does seat ask note)) r.ends;
-  })
+  reached_after = reached_next o c (Does seat ask note) fits.stands.reached fits.step
 
   -- the world after the step stands for the core after it
   pub stands_after : Stands (world_after w seat ask) o (after o c (Does seat ask note))
