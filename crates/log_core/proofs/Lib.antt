@@ -1,6 +1,7 @@
 pub mod OneView
 pub mod SetView
 pub mod Facts
+pub mod Narrows
 pub mod Begun
 pub mod Heads
 pub mod LoadsHead
