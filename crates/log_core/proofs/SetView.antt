@@ -59,6 +59,7 @@ module _ (o : Origin) (c : Core) (n : ℕ) (s : Seat) (g : Ghost) (pins began : 
       taken = inv.sizes.words.taken;
       pins = same_pins ∙ inv.sizes.words.pins;
       floors = inv.sizes.words.floors;
+      reached = inv.sizes.words.reached;
       notes = subst (λ (m : ℕ). AllByRecursion (λ (note : Noted). (note.seat < m) × (note.word < length o.words) × (note.time ≤ length c.memory.past)) c.memory.notes) (sym count) inv.sizes.words.notes;
     };
     some = subst (λ (m : ℕ). 0 < m) (sym count) inv.sizes.some;
