@@ -2,6 +2,8 @@ pub mod OneView
 pub mod SetView
 pub mod Facts
 pub mod Narrows
+pub mod Each
+pub mod MemoryMoves
 pub mod Begun
 pub mod Heads
 pub mod LoadsHead
