@@ -4,6 +4,7 @@ pub mod Facts
 pub mod Narrows
 pub mod Each
 pub mod MemoryMoves
+pub mod OwnedLists
 pub mod Begun
 pub mod Heads
 pub mod LoadsHead
