@@ -1,5 +1,5 @@
 -- Facts of each element of a list.
-use Rattle.std.proofs.Common.{◌≡◌, Bool, true, false, ◌||◌, List, [], ◌∷◌, ◌++◌, filter, cond, refl}
+use Rattle.std.proofs.Common.{◌≡◌, Bool, true, false, ◌||◌, List, [], ◌∷◌, ◌++◌, filter, cond, map, refl, ap, ◌∙◌}
 use Rattle.std.specs.List.{AllByRecursion, list_any}
 
 pub each_weaker : {X : Type 0} (P Q : X → Type 0) (xs : List X) → ((x : X) → P x → Q x) → AllByRecursion P xs → AllByRecursion Q xs
@@ -31,3 +31,12 @@ any_each {X} {R} P f (x ∷ xs) any all gives = by (f x) (λ passes. gives x pas
     by : (b : Bool) → (b ≡ true → R) → (list_any f xs ≡ true → R) → (b || list_any f xs) ≡ true → R
     by true here later e = here refl
     by false here later e = later e
+
+-- two tests that agree at each element
+pub any_same : {X : Type 0} (f g : X → Bool) (xs : List X) → AllByRecursion (λ (x : X). f x ≡ g x) xs → list_any f xs ≡ list_any g xs
+any_same f g [] same = refl
+any_same f g (x ∷ xs) same = ap (λ (b : Bool). b || list_any f xs) same.0 ∙ ap (λ (b : Bool). g x || b) (any_same f g xs same.1)
+
+pub each_map : {X Y : Type 0} (P : Y → Type 0) (f : X → Y) (xs : List X) → AllByRecursion (λ (x : X). P (f x)) xs → AllByRecursion P (map f xs)
+each_map P f [] all = tt
+each_map P f (x ∷ xs) all = (all.0, each_map P f xs all.1)

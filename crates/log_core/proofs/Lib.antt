@@ -5,6 +5,7 @@ pub mod Narrows
 pub mod Each
 pub mod MemoryMoves
 pub mod OwnedLists
+pub mod MarkedNow
 pub mod Begun
 pub mod Heads
 pub mod LoadsHead
