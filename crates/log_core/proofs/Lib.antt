@@ -6,6 +6,7 @@ pub mod Each
 pub mod MemoryMoves
 pub mod OwnedLists
 pub mod MarkedNow
+pub mod OwnedStored
 pub mod Begun
 pub mod Heads
 pub mod LoadsHead
