@@ -7,6 +7,8 @@ pub mod MemoryMoves
 pub mod OwnedLists
 pub mod MarkedNow
 pub mod OwnedStored
+pub mod OwnedMarked
+pub mod OwnedFenced
 pub mod Begun
 pub mod Heads
 pub mod LoadsHead
