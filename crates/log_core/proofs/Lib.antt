@@ -1,9 +1,12 @@
 pub mod OneView
-pub mod SetView
-pub mod Facts
-pub mod Narrows
-pub mod Begun
 pub mod Heads
+pub mod Narrows
+pub mod Leaves
+pub mod Apart
+pub mod Others
+pub mod SetCore
+pub mod Facts
+pub mod Begun
 pub mod LoadsHead
 pub mod StoresOwnPin
 pub mod LoadsPinWord
