@@ -1,7 +1,11 @@
 pub mod OneView
-pub mod SetView
-pub mod Facts
+pub mod Heads
 pub mod Narrows
+pub mod Leaves
+pub mod Apart
+pub mod Others
+pub mod SetCore
+pub mod SetBlocks
 pub mod Each
 pub mod MemoryMoves
 pub mod OwnedLists
@@ -9,8 +13,8 @@ pub mod MarkedNow
 pub mod OwnedStored
 pub mod OwnedMarked
 pub mod OwnedFenced
+pub mod Facts
 pub mod Begun
-pub mod Heads
 pub mod LoadsHead
 pub mod StoresOwnPin
 pub mod LoadsPinWord
