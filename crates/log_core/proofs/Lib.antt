@@ -13,6 +13,8 @@ pub mod MarkedNow
 pub mod OwnedStored
 pub mod OwnedMarked
 pub mod OwnedFenced
+pub mod OwnWords
+pub mod StoresWord
 pub mod Facts
 pub mod Begun
 pub mod LoadsHead

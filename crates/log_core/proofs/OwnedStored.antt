@@ -51,6 +51,9 @@ still_fenced block o = by (o.block == block) refl
     by true e fenced = cc
     by false e fenced = ((λ same. (let never : true ≡ false = sym (eq-eqb o.block block same) ∙ e in cc)), fenced)
 
+pub stored_numbers : (s : Seat) (word : ℕ) → owned_numbers (stored_seat s word).blocks.owned ≡ owned_numbers s.blocks.owned
+stored_numbers s word = numbers_map (λ o. unfilled_if (word / words_of s) o) (λ o. unfilled_same (word / words_of s) o) s.blocks.owned
+
 module _ (before after : ℕ → Cell) (past later : List Replaced) (notes : List Noted) (seat word value : ℕ) (g : Ghost) (s : Seat) (held : OwnedHold before past notes seat g s)
     (others : (k : ℕ) → k ≢ word → Narrows (before k) (after k)) (here : (after word).present ≡ value)
     (times : (k : ℕ) → AllByRecursion (λ (note : Noted). index_at later note.time k ≡ index_at past note.time k) (notes_of seat notes))
@@ -65,7 +68,7 @@ module _ (before after : ℕ → Cell) (past later : List Replaced) (notes : Lis
   count = length-map s.blocks.owned (λ o. unfilled_if block o)
 
   numbers : owned_numbers t.blocks.owned ≡ owned_numbers s.blocks.owned
-  numbers = numbers_map (λ o. unfilled_if block o) (λ o. unfilled_same block o) s.blocks.owned
+  numbers = stored_numbers s word
 
   at_place : (place : ℕ) → place < length t.blocks.owned → owned_at t.blocks.owned place ≡ unfilled_if block (owned_at s.blocks.owned place)
   at_place place inside = owned_at_map (λ o. unfilled_if block o) (λ o. unfilled_same block o) s.blocks.owned place (subst (λ (m : ℕ). place < m) count inside)
