@@ -14,6 +14,9 @@ pub mod OwnedStored
 pub mod OwnedMarked
 pub mod OwnedFenced
 pub mod OwnWords
+pub mod OwnBlocks
+pub mod CountsFilled
+pub mod SetsWord
 pub mod StoresWord
 pub mod Facts
 pub mod Begun
