@@ -18,7 +18,7 @@ use Rattle.log_core.specs.Invariant.{Invariant, KeptIn}
 pub last_value : (c : Cell) → value_at c (length c.past) ≡ c.present
 last_value c = get_or_push c.past c.present 0 (length c.past) refl
 
-generation_field : (generation block : ℕ) → generation < 2 ^ 32 → block < 2 ^ 16 → field HEAD_GENERATION (head_word (record { generation = generation; block = block })) ≡ generation
+pub generation_field : (generation block : ℕ) → generation < 2 ^ 32 → block < 2 ^ 16 → field HEAD_GENERATION (head_word (record { generation = generation; block = block })) ≡ generation
 generation_field generation block few small = omega (arith, few, small)
 
 module _ (o : Origin) (c : Core) (inv : Invariant o c) where

@@ -18,6 +18,8 @@ pub mod OwnBlocks
 pub mod CountsFilled
 pub mod SetsWord
 pub mod StoresWord
+pub mod MarksWord
+pub mod Fences
 pub mod Facts
 pub mod Begun
 pub mod LoadsHead

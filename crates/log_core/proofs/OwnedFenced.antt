@@ -4,17 +4,17 @@ use Rattle.std.specs.List.{AllByRecursion}
 use Rattle.std.proofs.lemmas.List.{length-map}
 use Rattle.seat_parts.specs.Owned.{owned_at}
 use Rattle.seat_parts.specs.declared.owned.OwnedBlock.{OwnedBlock}
-use Rattle.seat_state.specs.Seats.{Seat}
+use Rattle.seat_state.specs.Seats.{Seat, Blocks}
 use Rattle.persistence.specs.Memory.{Noted, Replaced, Cell}
 use Rattle.log_core.specs.Entries.{place_in, has}
-use Rattle.log_core.specs.Views.{Ghost, Marked, Stored}
+use Rattle.log_core.specs.Views.{Ghost, Stored}
 use Rattle.log_core.specs.Works.{shape_of, words_of, owned_block, content_word, stored_at, MayCountFilled}
 use Rattle.log_core.specs.Needs.{owned_numbers}
-use Rattle.log_core.specs.Steps.{sync_fenced, is_head_marked}
 use Rattle.log_core.specs.Certain.{IsCertain}
 use Rattle.log_core.specs.Owned.{StoredHolds, OwnedHold, IsMarkedNow}
 use Rattle.log_core.proofs.Each.{each_weaker}
 use Rattle.log_core.proofs.Narrows.{Narrows, certain_narrows}
+use Rattle.log_core.proofs.SetBlocks.{with_blocks}
 use Rattle.log_core.proofs.OwnedLists.{IsSameBlock, numbers_map, areas_map, owned_at_map}
 
 abbrev pub fence_block : OwnedBlock → OwnedBlock
@@ -29,33 +29,32 @@ stored_fact P (q ∷ stored) place r all is = by (q.word == place) (stored_fact 
     by true later e = (let same : q ≡ r = cc in subst P same all.0)
     by false later e = later e
 
--- the seat after a fence, for the marks that it had
-abbrev pub fenced_seat : List Marked → Seat → Seat
-fenced_seat marks s = record s {
-  calling = record (s.calling) { sync_to = sync_fenced s.calling.job s.walk.at_tail s.walk.position s.calling.sync_to };
-  blocks = record (s.blocks) { owned = map (λ (o : OwnedBlock). fence_block o) s.blocks.owned };
-  giving = record (s.giving) { head_fenced = s.giving.head_fenced || is_head_marked s.giving.replaced_generation marks };
-}
+-- the blocks of a seat after a fence
+abbrev pub fenced_blocks : Seat → Blocks
+fenced_blocks s = record (s.blocks) { owned = map (λ (o : OwnedBlock). fence_block o) s.blocks.owned }
 
-module _ (before after : ℕ → Cell) (past : List Replaced) (notes left : List Noted) (seat : ℕ) (marks : List Marked) (g : Ghost) (s : Seat) (held : OwnedHold before past notes seat g s)
+abbrev pub fence_same : (o : OwnedBlock) → IsSameBlock o (fence_block o)
+fence_same o = record { block = refl; area = refl }
+
+pub fenced_numbers : (s : Seat) → owned_numbers (fenced_blocks s).owned ≡ owned_numbers s.blocks.owned
+fenced_numbers s = numbers_map (λ o. fence_block o) (λ o. fence_same o) s.blocks.owned
+
+module _ (before after : ℕ → Cell) (past : List Replaced) (notes left : List Noted) (seat : ℕ) (sure : Bool) (g : Ghost) (s : Seat) (held : OwnedHold before past notes seat g s)
     (narrows : (k : ℕ) → Narrows (before k) (after k)) (present : (k : ℕ) → IsMarkedNow before past notes seat k → (after k).floor ≡ length (after k).past) where
   abbrev t : Seat
-  t = fenced_seat marks s
-
-  fence_same : (o : OwnedBlock) → IsSameBlock o (fence_block o)
-  fence_same o = record { block = refl; area = refl }
+  t = with_blocks s (fenced_blocks s) sure
 
   count : length t.blocks.owned ≡ length s.blocks.owned
   count = length-map s.blocks.owned (λ o. fence_block o)
 
   numbers : owned_numbers t.blocks.owned ≡ owned_numbers s.blocks.owned
-  numbers = numbers_map (λ o. fence_block o) fence_same s.blocks.owned
+  numbers = fenced_numbers s
 
   inside_before : (place : ℕ) → place < length t.blocks.owned → place < length s.blocks.owned
   inside_before place inside = subst (λ (m : ℕ). place < m) count inside
 
   at_place : (place : ℕ) → place < length t.blocks.owned → owned_at t.blocks.owned place ≡ fence_block (owned_at s.blocks.owned place)
-  at_place place inside = owned_at_map (λ o. fence_block o) fence_same s.blocks.owned place (inside_before place inside)
+  at_place place inside = owned_at_map (λ o. fence_block o) (λ o. fence_same o) s.blocks.owned place (inside_before place inside)
 
   same_block : (place : ℕ) → place < length t.blocks.owned → owned_block t place ≡ owned_block s place
   same_block place inside = ap (λ (o : OwnedBlock). o.block) (at_place place inside)
@@ -94,7 +93,7 @@ module _ (before after : ℕ → Cell) (past : List Replaced) (notes left : List
   pub owned_fenced : (h : Ghost) → h.stored ≡ g.stored → OwnedHold after past left seat h t
   owned_fenced h kept = record {
     contents = held.contents ∙ ap (λ (m : ℕ). m * words_of s) (sym count);
-    areas = areas_map (λ o. fence_block o) fence_same (shape_of s) s.blocks.owned held.areas;
+    areas = areas_map (λ o. fence_block o) (λ o. fence_same o) (shape_of s) s.blocks.owned held.areas;
     stored = subst (λ (list : List Stored). AllByRecursion (StoredHolds after past left seat (words_of s) (owned_numbers t.blocks.owned)) list) (sym kept)
         (each_weaker (StoredHolds before past notes seat (words_of s) (owned_numbers s.blocks.owned)) (StoredHolds after past left seat (words_of s) (owned_numbers t.blocks.owned)) g.stored stays held.stored);
     filled = λ place inside filled. (let old = held.filled place (inside_before place inside) (subst (λ (o : OwnedBlock). o.filled ≡ true) (at_place place inside) filled) in record {
