@@ -11,6 +11,9 @@ pub mod Begun
 pub mod LoadsHead
 pub mod StoresOwnPin
 pub mod LoadsPinWord
+pub mod SetsWord
+pub mod CountsFilled
+pub mod Worked
 pub mod StepHolds
 pub mod RunHolds
 pub mod Serving
