@@ -1,4 +1,7 @@
 pub mod OneView
+pub mod BitWords
+pub mod BlockLists
+pub mod SetOwners
 pub mod SetView
 pub mod Facts
 pub mod Begun
