@@ -2,6 +2,7 @@ pub mod OneView
 pub mod BitWords
 pub mod BlockLists
 pub mod SetOwners
+pub mod ClearedOwners
 pub mod SetView
 pub mod Facts
 pub mod Begun
