@@ -1,6 +1,7 @@
 pub mod OneView
 pub mod BitWords
 pub mod BlockLists
+pub mod OwnedPlaces
 pub mod SetOwners
 pub mod ClearedOwners
 pub mod SetView
