@@ -5,6 +5,7 @@ pub mod OwnedPlaces
 pub mod SetOwners
 pub mod ClearedOwners
 pub mod SetOwned
+pub mod OwnedBut
 pub mod SetView
 pub mod Facts
 pub mod Begun
