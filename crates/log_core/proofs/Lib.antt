@@ -4,6 +4,7 @@ pub mod BlockLists
 pub mod OwnedPlaces
 pub mod SetOwners
 pub mod ClearedOwners
+pub mod BitmapFacts
 pub mod SetOwned
 pub mod OwnedBut
 pub mod SetView
