@@ -5,6 +5,7 @@ pub mod OwnedPlaces
 pub mod SetOwners
 pub mod ClearedOwners
 pub mod BitmapFacts
+pub mod BitmapLeaves
 pub mod SetOwned
 pub mod OwnedBut
 pub mod SetView
