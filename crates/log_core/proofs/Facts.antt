@@ -3,31 +3,19 @@ use Rattle.std.proofs.Common.{◌≡◌, ◌<◌, ◌≤◌, ◌+◌, ◌-◌, �
 use Rattle.seat_state.specs.Seats.{Seat}
 use Rattle.log_core.specs.Views.{View, Ghost, view_of}
 use Rattle.log_core.specs.Origin.{Origin, first_generation}
-use Rattle.log_core.specs.Cores.{Core, current}
+use Rattle.log_core.specs.Cores.{Core}
 use Rattle.log_core.specs.Walks.{WalkHolds}
 use Rattle.log_core.specs.Invariant.{Invariant, KeptIn, around}
 use Rattle.log_core.specs.Knows.{Knows}
-
--- a generation from the first to the present one has a place
-place_inside : (first place now count past : ℕ) → now ≡ first + count - 1 → count ≡ past + 1 → first + place ≤ now → place < count
-place_inside first place now count past e f h = omega (arith, e, f, h)
 
 module _ (o : Origin) (c : Core) (n : ℕ) (inv : Invariant o c) (here : n < length c.views) where
   abbrev v : View
   v = view_of c.views n
 
-  -- a pinned generation is kept
-  kept : (place : ℕ) → v.seat.hold.valid ≡ true → v.seat.hold.generation ≡ first_generation o + place → KeptIn o c place
-  kept place valid same = record {
-    inside = place_inside (first_generation o) place (current o c.generations) (length c.generations) _ refl inv.order.heads.count
-        (subst (λ (m : ℕ). m ≤ current o c.generations) same (((inv.pins.holds n).to_current) ((inv.pins.holds n).valid_some valid)));
-    why = inr (record { seat = n; valid = valid; same = same });
-  }
-
   pub facts_of : Knows o c n v.seat v.ghost (slice_index c.memory.now.pins n) (slice_index c.began n)
   facts_of = record {
     fits = inv.sizes.each n here;
-    kept = kept;
+    kept = λ place valid same. inr (record { seat = n; valid = valid; same = same });
     owns = inv.owners.seats n;
     pin_is = inv.pins.words n (let few = inv.sizes.few in let many = inv.sizes.words.pins in omega (arith, here, few, many));
     pin_holds = inv.pins.holds n;

@@ -5,7 +5,7 @@ use Rattle.log_image.specs.Image.{words_in, total}
 use Rattle.seat_state.specs.Seats.{bitmap_words}
 use Rattle.seat_state.specs.declared.TheConstants.{SEATS}
 use Rattle.persistence.specs.Memory.{Memory, Noted}
-use Rattle.log_core.specs.Views.{View, view_of}
+use Rattle.log_core.specs.Views.{View, view_of, spent_view}
 use Rattle.log_core.specs.Origin.{Origin, shape, first_position}
 
 -- as many seats as there may be, of which one or all were made at first
@@ -38,7 +38,7 @@ pub record SeatFits (o : Origin) (place : ℕ) (v : View) : Type 0 where
   pub named : length v.seat.blocks.named ≡ bitmap_words o.geometry
   pub map : length v.seat.walk.map ≡ 65536
 
--- there is a view for each seat made, and the end at a call's first step for each
+-- there is a view for each seat made, and the end at a call's first step for each. A spent view holds nothing
 pub record Sizes (o : Origin) (memory : Memory) (views : List View) (began : List ℕ) : Type 0 where
   pub seats : HasSeats o
   pub image : HasImage o
@@ -47,4 +47,5 @@ pub record Sizes (o : Origin) (memory : Memory) (views : List View) (began : Lis
   pub few : length views ≤ o.seats
   pub begun : length began ≡ length views
   pub made : (view_of views 0).parts ≢ [] → (view_of views 0).made ≡ length views
+  pub spent : (number : ℕ) → (view_of views number).parts ≡ [] → view_of views number ≡ spent_view
   pub each : (number : ℕ) → number < length views → (view_of views number).parts ≢ [] → SeatFits o number (view_of views number)
