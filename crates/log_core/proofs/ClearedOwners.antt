@@ -13,19 +13,22 @@ use Rattle.log_core.specs.Owners.{bit_for, BitsFit, IsListOf}
 use Rattle.log_core.proofs.BitWords.{taken_cleared}
 use Rattle.log_core.proofs.BlockLists.{has_filter, different_filter, numbers_but}
 
+-- who has each block then: these bits of a word are cleared
+abbrev pub owner_cleared : (ℕ → Owner) → ℕ → ℕ → ℕ → Owner
+owner_cleared owner word bits block = if is_among word bits block then Free else owner block
+
 module _ (image : Shape) (taken : List ℕ) (owner : ℕ → Owner) (n word bits : ℕ) (owned : List OwnedBlock) (fits : BitsFit image taken owner) (inside : word < length taken) (small : bits < 2 ^ 64)
     (list : IsListOf owner (owned_numbers owned) (OwnedBy n)) (mine : (block : ℕ) → is_among word bits block ≡ true → has (owned_numbers owned) block ≡ true) where
   abbrev among : ℕ → Bool
   among block = is_among word bits block
 
-  -- who has each block then
-  abbrev pub owner_cleared : ℕ → Owner
-  owner_cleared block = if among block then Free else owner block
+  abbrev whose : ℕ → Owner
+  whose block = owner_cleared owner word bits block
 
   was_mine : (block : ℕ) → among block ≡ true → owner block ≡ OwnedBy n
   was_mine block is = list.listed block (mine block is)
 
-  pub cleared_bits : BitsFit image (slice_set taken word (without_bits (slice_index taken word) bits)) owner_cleared
+  pub cleared_bits : BitsFit image (slice_set taken word (without_bits (slice_index taken word) bits)) whose
   cleared_bits = record {
     bits = λ block low. taken_cleared taken word inside bits block small ∙ bit_is block (among block) low;
     inside = λ block some. inside_is block (among block) some;
@@ -50,7 +53,7 @@ module _ (image : Shape) (taken : List ℕ) (owner : ℕ → Owner) (n word bits
       only_is block false is = fits.only block is
 
   -- a block stays with whom it was, or was the seat's and is free
-  pub cleared_changes : (block : ℕ) → (owner_cleared block ≡ owner block) ⊎ (((owner block ≡ Free) ⊎ (owner block ≡ OwnedBy n)) × ((owner_cleared block ≡ Free) ⊎ (owner_cleared block ≡ OwnedBy n)))
+  pub cleared_changes : (block : ℕ) → (whose block ≡ owner block) ⊎ (((owner block ≡ Free) ⊎ (owner block ≡ OwnedBy n)) × ((whose block ≡ Free) ⊎ (whose block ≡ OwnedBy n)))
   cleared_changes block = go (among block) refl
     where
       go : (is : Bool) → among block ≡ is →
@@ -59,8 +62,8 @@ module _ (image : Shape) (taken : List ℕ) (owner : ℕ → Owner) (n word bits
       go false is = inl refl
 
   -- the seat's owned blocks are the others
-  pub cleared_list : IsListOf owner_cleared (owned_numbers (owned_but among owned)) (OwnedBy n)
-  cleared_list = subst (λ (blocks : List ℕ). IsListOf owner_cleared blocks (OwnedBy n)) (sym (numbers_but among owned)) (record {
+  pub cleared_list : IsListOf whose (owned_numbers (owned_but among owned)) (OwnedBy n)
+  cleared_list = subst (λ (blocks : List ℕ). IsListOf whose blocks (OwnedBy n)) (sym (numbers_but among owned)) (record {
     listed = λ block some. listed_is block (among block) (and_parts (not (among block)) (has (owned_numbers owned) block) (sym (has_filter (λ (other : ℕ). not (among other)) (owned_numbers owned) block) ∙ some));
     all = λ block is. has_filter (λ (other : ℕ). not (among other)) (owned_numbers owned) block ∙ all_is block (among block) is;
     once = different_filter (λ (other : ℕ). not (among other)) (owned_numbers owned) list.once;

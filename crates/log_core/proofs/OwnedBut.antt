@@ -15,7 +15,7 @@ use Rattle.log_core.specs.Needs.{owned_numbers}
 use Rattle.log_core.specs.Steps.{area_of, owned_but, contents_but, stored_but}
 use Rattle.log_core.specs.Owned.{StoredHolds, OwnedHold}
 use Rattle.log_core.proofs.BlockLists.{has_filter, numbers_but}
-use Rattle.log_core.proofs.OwnedPlaces.{with_blocks, SamePlace, PlacesFit, owned_stays}
+use Rattle.log_core.proofs.OwnedPlaces.{owning, SamePlace, PlacesFit, owned_stays}
 
 -- each place of the list without some is the place of a block that stays, with its flags and its content
 record IsLeft (q : ℕ) (f : ℕ → Bool) (owned : List OwnedBlock) (contents : List ℕ) (place : ℕ) : Type 0 where
@@ -139,7 +139,7 @@ module _ (cells : ℕ → Cell) (past : List Replaced) (notes : List Noted) (n :
             (ap f (div-mul-add (owned_block s p.from) (words_of s) word low) ∙ p.stays);
       }))
 
-  pub left_hold : OwnedHold cells past notes n h (with_blocks s (blocks_left s f found))
+  pub left_hold : OwnedHold cells past notes n h (owning s (blocks_left s f found))
   left_hold = owned_stays cells past notes n s (blocks_left s f found) g h old (contents_left (words_of s) f s.blocks.owned s.blocks.contents old.contents)
       (each_left (λ (o : OwnedBlock). o.area ≡ area_of (shape_of s) o.block) (λ (o : OwnedBlock). o.area ≡ area_of (shape_of s) o.block) (λ (o : OwnedBlock). not (f o.block)) (λ o stays is. is) s.blocks.owned old.areas)
       stored_of_left places_of_left

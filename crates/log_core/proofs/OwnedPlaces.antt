@@ -20,8 +20,8 @@ each_weaker P Q gives [] all = tt
 each_weaker P Q gives (x ∷ xs) all = (gives x all.0, each_weaker P Q gives xs all.1)
 
 -- the blocks of a state of a seat
-abbrev pub with_blocks : Seat → Blocks → Seat
-with_blocks s b = record s { blocks = b }
+abbrev pub owning : Seat → Blocks → Seat
+owning s b = record s { blocks = b }
 
 -- a place of another list has the block of a place before, with its content, and the words stored in it
 pub record SamePlace (s : Seat) (b : Blocks) (before after : List Stored) (place : ℕ) : Type 0 where
@@ -32,19 +32,19 @@ pub record SamePlace (s : Seat) (b : Blocks) (before after : List Stored) (place
   pub stored : (word : ℕ) → word < words_of s → stored_at after (place_in (shape_of s) (owned_block s from) word) ≡ stored_at before (place_in (shape_of s) (owned_block s from) word)
 
 module _ (s : Seat) (b : Blocks) (g h : Ghost) (place : ℕ) (p : SamePlace s b g.stored h.stored place) (inside : place < length b.owned) where
-  same_block : owned_block (with_blocks s b) place ≡ owned_block s p.from
+  same_block : owned_block (owning s b) place ≡ owned_block s p.from
   same_block = ap (λ (o : OwnedBlock). o.block) p.same
 
-  pub same_filled : MayCountFilled g s p.from → MayCountFilled h (with_blocks s b) place
+  pub same_filled : MayCountFilled g s p.from → MayCountFilled h (owning s b) place
   same_filled may = record {
     owned = inside;
-    each = λ word low. subst (λ (block : ℕ). stored_at h.stored (place_in (shape_of s) block word) ≡ Some (record { word = place_in (shape_of s) block word; value = content_word (with_blocks s b) place word; marked = true })) (sym same_block)
+    each = λ word low. subst (λ (block : ℕ). stored_at h.stored (place_in (shape_of s) block word) ≡ Some (record { word = place_in (shape_of s) block word; value = content_word (owning s b) place word; marked = true })) (sym same_block)
         (p.stored word low ∙ (may.each word low ∙ ap (λ (value : ℕ). Some (record { word = place_in (shape_of s) (owned_block s p.from) word; value = value; marked = true })) (sym (p.words word low))));
   }
 
   pub same_fenced : (cells : ℕ → Cell) → ((word : ℕ) → word < words_of s → IsCertain (cells (place_in (shape_of s) (owned_block s p.from) word)) (content_word s p.from word)) →
-      (word : ℕ) → word < words_of s → IsCertain (cells (place_in (shape_of s) (owned_block (with_blocks s b) place) word)) (content_word (with_blocks s b) place word)
-  same_fenced cells certain word low = subst (λ (block : ℕ). IsCertain (cells (place_in (shape_of s) block word)) (content_word (with_blocks s b) place word)) (sym same_block)
+      (word : ℕ) → word < words_of s → IsCertain (cells (place_in (shape_of s) (owned_block (owning s b) place) word)) (content_word (owning s b) place word)
+  same_fenced cells certain word low = subst (λ (block : ℕ). IsCertain (cells (place_in (shape_of s) block word)) (content_word (owning s b) place word)) (sym same_block)
       (subst (λ (value : ℕ). IsCertain (cells (place_in (shape_of s) (owned_block s p.from) word)) value) (sym (p.words word low)) (certain word low))
 
 -- a place whose block is neither filled nor fenced
@@ -60,7 +60,7 @@ module _ (cells : ℕ → Cell) (past : List Replaced) (notes : List Noted) (n :
   pub owned_stays : length b.contents ≡ length b.owned * words_of s →
       AllByRecursion (λ (o : OwnedBlock). o.area ≡ area_of (shape_of s) o.block) b.owned →
       AllByRecursion (StoredHolds cells past notes n (words_of s) (owned_numbers b.owned)) h.stored →
-      PlacesFit s b g.stored h.stored → OwnedHold cells past notes n h (with_blocks s b)
+      PlacesFit s b g.stored h.stored → OwnedHold cells past notes n h (owning s b)
   owned_stays contents areas stored places = record {
     contents = contents;
     areas = areas;

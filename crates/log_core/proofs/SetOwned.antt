@@ -18,7 +18,7 @@ use Rattle.log_core.specs.Needs.{owned_numbers}
 use Rattle.log_core.specs.Steps.{area_of, taken_block}
 use Rattle.log_core.specs.Owned.{StoredHolds, OwnedHold}
 use Rattle.log_core.proofs.BlockLists.{numbers_taken}
-use Rattle.log_core.proofs.OwnedPlaces.{each_weaker, with_blocks, SamePlace, IsNewPlace, PlacesFit, owned_stays}
+use Rattle.log_core.proofs.OwnedPlaces.{each_weaker, owning, SamePlace, IsNewPlace, PlacesFit, owned_stays}
 
 -- blocks that are taken are in their areas, and neither filled nor fenced
 taken_areas : (image : Shape) (blocks : List ℕ) → AllByRecursion (λ (o : OwnedBlock). o.area ≡ area_of image o.block) (map (taken_block image) blocks)
@@ -82,7 +82,7 @@ module _ (cells : ℕ → Cell) (past : List Replaced) (notes : List Noted) (n :
         unfenced = ap (λ (o : OwnedBlock). o.fenced) (later from) ∙ taken_unfenced (shape_of s) blocks (place - length s.blocks.owned);
       })
 
-  pub taken_hold : OwnedHold cells past notes n h (with_blocks s (blocks_taken s blocks found))
+  pub taken_hold : OwnedHold cells past notes n h (owning s (blocks_taken s blocks found))
   taken_hold = owned_stays cells past notes n s (blocks_taken s blocks found) g h old contents_taken
       (each_join (λ (o : OwnedBlock). o.area ≡ area_of (shape_of s) o.block) s.blocks.owned (map (taken_block (shape_of s)) blocks) old.areas (taken_areas (shape_of s) blocks))
       stored_taken places_taken

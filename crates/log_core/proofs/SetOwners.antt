@@ -28,14 +28,17 @@ not_header n e = cc
 not_free : (n : ℕ) → OwnedBy n ≡ Free → ⊥
 not_free n e = cc
 
+-- who has each block then: a seat sets bits of a word, of which some were set
+abbrev pub owner_set : (ℕ → Owner) → ℕ → ℕ → ℕ → ℕ → ℕ → Owner
+owner_set owner n word bits found block = if is_gained word bits found block then OwnedBy n else owner block
+
 module _ (image : Shape) (taken : List ℕ) (owner : ℕ → Owner) (n word bits : ℕ) (fits : BitsFit image taken owner) (inside : word < length taken)
     (in_image : (block : ℕ) → is_among word bits block ≡ true → (0 < block) × (block < total image)) where
   abbrev gains : ℕ → Bool
   gains block = is_gained word bits (slice_index taken word) block
 
-  -- who has each block then
-  abbrev pub owner_set : ℕ → Owner
-  owner_set block = if gains block then OwnedBy n else owner block
+  abbrev whose : ℕ → Owner
+  whose block = owner_set owner n word bits (slice_index taken word) block
 
   gained_inside : (block : ℕ) → gains block ≡ true → (0 < block) × (block < total image)
   gained_inside block is = in_image block (and_parts (is_among word bits block) _ is).0
@@ -43,7 +46,7 @@ module _ (image : Shape) (taken : List ℕ) (owner : ℕ → Owner) (n word bits
   pub was_free : (block : ℕ) → gains block ≡ true → owner block ≡ Free
   was_free block is = free_from_bit (owner block) (sym (fits.bits block (gained_inside block is).1) ∙ gained_clear taken word inside bits block is)
 
-  pub set_bits : BitsFit image (slice_set taken word (bit_or (slice_index taken word) bits)) owner_set
+  pub set_bits : BitsFit image (slice_set taken word (bit_or (slice_index taken word) bits)) whose
   set_bits = record {
     bits = λ block low. taken_set taken word inside bits block ∙ bit_is block (gains block) low;
     inside = λ block some. inside_is block (gains block) refl some;
@@ -68,7 +71,7 @@ module _ (image : Shape) (taken : List ℕ) (owner : ℕ → Owner) (n word bits
       only_is block false is = fits.only block is
 
   -- a block stays with whom it was, or was free and is the seat's
-  pub set_changes : (block : ℕ) → (owner_set block ≡ owner block) ⊎ (((owner block ≡ Free) ⊎ (owner block ≡ OwnedBy n)) × ((owner_set block ≡ Free) ⊎ (owner_set block ≡ OwnedBy n)))
+  pub set_changes : (block : ℕ) → (whose block ≡ owner block) ⊎ (((owner block ≡ Free) ⊎ (owner block ≡ OwnedBy n)) × ((whose block ≡ Free) ⊎ (whose block ≡ OwnedBy n)))
   set_changes block = go (gains block) refl
     where
       go : (is : Bool) → gains block ≡ is →
@@ -77,9 +80,9 @@ module _ (image : Shape) (taken : List ℕ) (owner : ℕ → Owner) (n word bits
       go false is = inl refl
 
   -- the seat's owned blocks are those before, and the blocks gained
-  pub set_list : (owned : List OwnedBlock) → IsListOf owner (owned_numbers owned) (OwnedBy n) →
-      IsListOf owner_set (owned_numbers (owned ++ map (taken_block image) (gained word bits (slice_index taken word)))) (OwnedBy n)
-  set_list owned list = subst (λ (blocks : List ℕ). IsListOf owner_set blocks (OwnedBy n)) (sym (numbers_taken image owned (gained word bits (slice_index taken word)))) (record {
+  pub set_list : (areas : Shape) (owned : List OwnedBlock) → IsListOf owner (owned_numbers owned) (OwnedBy n) →
+      IsListOf whose (owned_numbers (owned ++ map (taken_block areas) (gained word bits (slice_index taken word)))) (OwnedBy n)
+  set_list areas owned list = subst (λ (blocks : List ℕ). IsListOf whose blocks (OwnedBy n)) (sym (numbers_taken areas owned (gained word bits (slice_index taken word)))) (record {
     listed = λ block some. listed_is block (gains block) refl (or_cases (has (owned_numbers owned) block) (has (gained word bits (slice_index taken word)) block) (sym (joined block) ∙ some));
     all = λ block is. joined block ∙ all_is block (gains block) refl is;
     once = different_join (owned_numbers owned) (gained word bits (slice_index taken word)) list.once (gained_once word bits (slice_index taken word)) apart;
