@@ -5,6 +5,7 @@ pub mod Leaves
 pub mod Apart
 pub mod Others
 pub mod SetCore
+pub mod SetBlocks
 pub mod Facts
 pub mod BitWords
 pub mod BlockLists

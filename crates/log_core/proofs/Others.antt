@@ -1,4 +1,5 @@
--- What a step of a seat leaves to another one: its walk, its owned blocks, its marks, and what it knows of syncs.
+-- What a step of a seat leaves: walks, pins and lists of blocks to give back of all seats; and of another seat its owned blocks, its marks,
+-- and what it knows of syncs.
 use Rattle.std.proofs.Common.{◌≡◌, ◌≢◌, ◌<◌, ◌≤◌, ◌+◌, ◌-◌, ◌*◌, ◌/◌, ◌==◌, ◌&&◌, ◌||◌, ◌⊎◌, inl, inr, ⊎_elim, ℕ, zero, suc, Bool, true, false, if◌then◌else◌, List, [], ◌∷◌, drop, filter, length, map, refl, sym, ◌∙◌, ap, subst, arith, slice_index}
 use Rattle.std.specs.List.{AllByRecursion, list_any}
 use Rattle.std.proofs.lemmas.Bool.{eq-eqb, eqb-true}
@@ -7,7 +8,7 @@ use Rattle.seat_parts.specs.Owned.{owned_at}
 use Rattle.seat_parts.specs.declared.owned.OwnedBlock.{OwnedBlock}
 use Rattle.seat_parts.specs.declared.keeps.KeptWord.{KeptWord}
 use Rattle.seat_parts.specs.declared.keeps.Task.TheVariants.{Sync}
-use Rattle.seat_state.specs.Seats.{Seat}
+use Rattle.seat_state.specs.Seats.{Seat, Hold, Walk, Giving}
 use Rattle.persistence.specs.Memory.{Memory, Replaced, Noted, Cell, cell, index_at, notes_of}
 use Rattle.persistence.specs.Survivors.{value_at}
 use Rattle.persistence.proofs.ValueLemmas.{index_at-most}
@@ -17,19 +18,20 @@ use Rattle.log_core.specs.Entries.{has, place_in, head_place}
 use Rattle.log_core.specs.Views.{View, Ghost, Stored, Marked, view_of, spent_view}
 use Rattle.log_core.specs.Origin.{Origin, shape, q_of, first_generation, Owner, OwnedBy}
 use Rattle.log_core.specs.Files.{entries}
-use Rattle.log_core.specs.Cores.{Core, generation_at, is_named, current}
+use Rattle.log_core.specs.Cores.{Core, generation_at, is_named, current, head_floor}
 use Rattle.log_core.specs.Sizes.{SeatFits}
 use Rattle.log_core.specs.Works.{shape_of, words_of, owned_block}
 use Rattle.log_core.specs.Needs.{owned_numbers}
 use Rattle.log_core.specs.Order.{nth_generation}
 use Rattle.log_core.specs.Pins.{PinHolds}
 use Rattle.log_core.specs.Walks.{WalkHolds, IsKeptWord}
+use Rattle.log_core.specs.Giving.{GivingHolds}
 use Rattle.log_core.specs.Owned.{OwnedHold, StoredHolds, IsMarkedNow, is_of_present}
 use Rattle.log_core.specs.Records.{MarksFit, mark_of}
 use Rattle.log_core.specs.Synced.{SyncHolds, SyncMarkHolds}
 use Rattle.log_core.specs.Invariant.{Invariant, KeptIn, around, names_by}
 use Rattle.log_core.proofs.Heads.{kept_place}
-use Rattle.log_core.proofs.Narrows.{Narrows, certain_narrows}
+use Rattle.log_core.proofs.Narrows.{Narrows, certain_narrows, was_head_narrows}
 use Rattle.log_core.proofs.Leaves.{Leaves, others_apart}
 use Rattle.log_core.proofs.Apart.{header_cells, block_cells, named_apart, named_cells}
 
@@ -71,7 +73,7 @@ unspent_made (v ∷ views) zero unspent = omega arith
 unspent_made (v ∷ views) (suc k) unspent = (let less = unspent_made views k unspent in omega (arith, less))
 
 -- the marks of a seat are as early as the memory's
-notes_early : (o : Origin) (c : Core) (k : ℕ) → Invariant o c → AllByRecursion (λ (note : Noted). note.time ≤ length c.memory.past) (notes_of k c.memory.notes)
+pub notes_early : (o : Origin) (c : Core) (k : ℕ) → Invariant o c → AllByRecursion (λ (note : Noted). note.time ≤ length c.memory.past) (notes_of k c.memory.notes)
 notes_early o c k inv = all_filter (λ (note : Noted). note.time ≤ length c.memory.past) (λ (note : Noted). note.seat == k) c.memory.notes
     (all_to (λ (note : Noted). (note.seat < length c.views) × (note.word < length o.words) × (note.time ≤ length c.memory.past)) (λ (note : Noted). note.time ≤ length c.memory.past) (λ note fits. fits.2) c.memory.notes inv.sizes.words.notes)
 
@@ -86,28 +88,52 @@ module _ (o : Origin) (c : Core) (n : ℕ) (m : Memory) (inv : Invariant o c) (l
     word_is = ⊎_elim (λ same. inl (same ∙ sym (named_cells o c n m inv leaves place word.block word.slot kept r.named r.inside).present)) (λ empty. inr empty) r.word_is;
   }
 
-  -- the place of a valid pin's generation
-  pin_place : (k : ℕ) → (view_of c.views k).seat.hold.valid ≡ true → (view_of c.views k).seat.hold.generation ≡ first_generation o + ((view_of c.views k).seat.hold.generation - first_generation o)
-  pin_place k valid = (let r = inv.pins.holds k in let from = r.from_first (r.valid_some valid) in omega (arith, from))
-
-  pin_kept : (k : ℕ) → (view_of c.views k).seat.hold.valid ≡ true → KeptIn o c ((view_of c.views k).seat.hold.generation - first_generation o)
-  pin_kept k valid = kept_place o c inv ((view_of c.views k).seat.hold.generation - first_generation o) (inr (record { seat = k; valid = valid; same = pin_place k valid }))
-
+  -- a walk of a seat whose valid pin is of a kept generation
   pub walk_left : (views : List View) (owner : ℕ → Owner) (began : List ℕ) → ((place : ℕ) → KeptIn o (record c { memory = m; views = views; owner = owner; began = began }) place → KeptIn o c place) →
-      (k : ℕ) → WalkHolds (around o c) (view_of c.views k).seat.hold (view_of c.views k).seat.walk →
-      WalkHolds (around o (record c { memory = m; views = views; owner = owner; began = began })) (view_of c.views k).seat.hold (view_of c.views k).seat.walk
-  walk_left views owner began kept_before k r = record {
+      (h : Hold) (w : Walk) → (h.valid ≡ true → KeptIn o c (h.generation - first_generation o)) → WalkHolds (around o c) h w → WalkHolds (around o (record c { memory = m; views = views; owner = owner; began = began })) h w
+  walk_left views owner began kept_before h w pinned r = record {
     unwalked = r.unwalked;
     to_end = r.to_end;
     from_first = r.from_first;
     to_current = r.to_current;
-    read = λ reading kept. r.read reading (kept_before ((view_of c.views k).seat.walk.reading_generation - first_generation o) kept);
-    kept_words = λ valid. all_to _ _ (kept_left ((view_of c.views k).seat.hold.generation - first_generation o) _ (pin_kept k valid)) (view_of c.views k).seat.walk.kept (r.kept_words valid);
+    read = λ reading kept. r.read reading (kept_before (w.reading_generation - first_generation o) kept);
+    kept_words = λ valid. all_to _ _ (kept_left (h.generation - first_generation o) _ (pinned valid)) w.kept (r.kept_words valid);
     unpinned = r.unpinned;
     walked = r.walked;
     ready_walked = r.ready_walked;
     ready_base = r.ready_base;
     ready_tail = r.ready_tail;
+  }
+
+  -- the place of a valid pin's generation
+  pub pin_place : (generation : ℕ) → first_generation o ≤ generation → generation ≡ first_generation o + (generation - first_generation o)
+  pin_place generation from = omega (arith, from)
+
+  pub pin_kept : (k : ℕ) → (view_of c.views k).seat.hold.valid ≡ true → KeptIn o c ((view_of c.views k).seat.hold.generation - first_generation o)
+  pin_kept k valid = kept_place o c inv ((view_of c.views k).seat.hold.generation - first_generation o)
+      (inr (record { seat = k; valid = valid; same = pin_place (view_of c.views k).seat.hold.generation ((inv.pins.holds k).from_first ((inv.pins.holds k).valid_some valid)) }))
+
+  -- no head that a crash may leave is of an earlier generation than before
+  pub floor_rises : head_floor c.memory ≤ head_floor m
+  floor_rises = (header_cells o c n m inv leaves head_place (omega arith)).floor
+
+  pub pin_left : (h : Hold) → PinHolds (first_generation o) (current o c.generations) (cell c.memory head_place) h → PinHolds (first_generation o) (current o c.generations) (cell m head_place) h
+  pin_left h r = record {
+    was = λ some. was_head_narrows (cell c.memory head_place) (cell m head_place) h.head (header_cells o c n m inv leaves head_place (omega arith)) (r.was some);
+    valid_is = r.valid_is;
+    valid_some = r.valid_some;
+    from_first = r.from_first;
+    to_current = r.to_current;
+  }
+
+  pub giving_left : (giving : Giving) → GivingHolds (names_by o c.logs (entries o c.history) c.generations) (current o c.generations) (first_generation o + head_floor c.memory) giving →
+      GivingHolds (names_by o c.logs (entries o c.history) c.generations) (current o c.generations) (first_generation o + head_floor m) giving
+  giving_left giving r = record {
+    replaced_past = r.replaced_past;
+    replaced = r.replaced;
+    limbo = r.limbo;
+    replaced_sure = λ fenced. (let sure = r.replaced_sure fenced in let rises = floor_rises in omega (arith, sure, rises));
+    limbo_sure = (let sure = r.limbo_sure in let rises = floor_rises in omega (arith, sure, rises));
   }
 
   -- a word of another seat's block
@@ -218,24 +244,24 @@ module _ (o : Origin) (c : Core) (n : ℕ) (m : Memory) (inv : Invariant o c) (l
   abbrev SyncMarked : (ℕ → Cell) → List Replaced → ℕ → Noted → Type 0
   SyncMarked cells past generation note = SyncMarkHolds (q_of o) (names_by o c.logs (entries o c.history) c.generations) cells past generation note
 
-  pub sync_marks_left : (k : ℕ) (s : Seat) → (s.hold.valid ≡ true → (place : ℕ) → s.hold.generation ≡ first_generation o + place → KeptIn o c place) → (s.hold.valid ≡ true → first_generation o ≤ s.hold.generation) →
+  pub sync_marks_left : (s : Seat) → (s.hold.valid ≡ true → (place : ℕ) → s.hold.generation ≡ first_generation o + place → KeptIn o c place) → (s.hold.valid ≡ true → first_generation o ≤ s.hold.generation) →
       (notes : List Noted) → (notes ≢ [] → s.hold.valid ≡ true) → AllByRecursion (λ (note : Noted). note.time ≤ length c.memory.past) notes →
       AllByRecursion (SyncMarked (λ word. cell c.memory word) c.memory.past s.hold.generation) notes → AllByRecursion (SyncMarked (λ word. cell m word) m.past s.hold.generation) notes
-  sync_marks_left k s kept from [] valid early all = tt
-  sync_marks_left k s kept from (note ∷ notes) valid early all =
+  sync_marks_left s kept from [] valid early all = tt
+  sync_marks_left s kept from (note ∷ notes) valid early all =
       (let pinned = valid (λ none. cc) in
       let low = from pinned in
       let same : s.hold.generation ≡ first_generation o + (s.hold.generation - first_generation o) = omega (arith, low) in
       let here = kept pinned (s.hold.generation - first_generation o) same in
       (sync_mark_left (s.hold.generation - first_generation o) s.hold.generation same here note early.0 all.0,
-      sync_marks_left k s kept from notes (λ some. pinned) early.1 all.1))
+      sync_marks_left s kept from notes (λ some. pinned) early.1 all.1))
 
   pub sync_left : (k : ℕ) → k ≢ n → SyncHolds (q_of o) (names_by o c.logs (entries o c.history) c.generations) (λ word. cell c.memory word) c.memory.past c.memory.notes c.synced k (view_of c.views k) →
       SyncHolds (q_of o) (names_by o c.logs (entries o c.history) c.generations) (λ word. cell m word) m.past m.notes c.synced k (view_of c.views k)
   sync_left k other r = record {
     to = r.to;
     marks = λ sync. subst (λ (notes : List Noted). AllByRecursion (SyncMarked (λ word. cell m word) m.past (view_of c.views k).seat.hold.generation) notes) (sym (leaves.notes k other))
-        (sync_marks_left k (view_of c.views k).seat (λ valid place same. kept_place o c inv place (inr (record { seat = k; valid = valid; same = same })))
+        (sync_marks_left (view_of c.views k).seat (λ valid place same. kept_place o c inv place (inr (record { seat = k; valid = valid; same = same })))
         (λ valid. (inv.pins.holds k).from_first ((inv.pins.holds k).valid_some valid)) (notes_of k c.memory.notes) (r.valid sync) (notes_early o c k inv) (r.marks sync));
     valid = λ sync some. r.valid sync (λ none. some (leaves.notes k other ∙ none));
     answered = r.answered;

@@ -28,7 +28,7 @@ use Rattle.log_core.proofs.Heads.{kept_place}
 use Rattle.log_core.proofs.Narrows.{Narrows, heads_narrow, log_narrows, recorded_narrow, synced_narrows, was_head_narrows}
 use Rattle.log_core.proofs.Leaves.{Leaves, Changes, moved, owner_was, owner_is, list_stays, still_taken, chain_apart, left_apart, others_apart}
 use Rattle.log_core.proofs.Apart.{header_cells, named_cells, log_cells, data_is_named}
-use Rattle.log_core.proofs.Others.{walk_left, owned_left, marks_left, sync_left}
+use Rattle.log_core.proofs.Others.{walk_left, pin_kept, floor_rises, pin_left, giving_left, owned_left, marks_left, sync_left}
 
 module _ (o : Origin) (c : Core) (n : ℕ) (s : Seat) (g : Ghost) (m : Memory) (owner : ℕ → Owner) (began : List ℕ) (inv : Invariant o c) (here : n < length c.views)
     (unspent : (view_of c.views n).parts ≢ []) (leaves : Leaves o c n m) (changes : Changes c n owner) (bits : BitsFit (shape o) m.now.taken owner)
@@ -46,9 +46,8 @@ module _ (o : Origin) (c : Core) (n : ℕ) (s : Seat) (g : Ghost) (m : Memory) (
   count : length views ≡ length c.views
   count = length-set c.views n w
 
-  -- no head that a crash may leave is of an earlier generation than before
-  floor_rises : head_floor c.memory ≤ head_floor m
-  floor_rises = (header_cells o c n m inv leaves head_place (omega arith)).floor
+  floor_up : head_floor c.memory ≤ head_floor m
+  floor_up = floor_rises o c n m inv leaves
 
   -- a generation that is kept now was kept before
   pinned : (place seat : ℕ) → (view_of views seat).seat.hold.valid ≡ true → (view_of views seat).seat.hold.generation ≡ first_generation o + place → place < length c.generations → KeptIn o c place
@@ -58,7 +57,7 @@ module _ (o : Origin) (c : Core) (n : ℕ) (s : Seat) (g : Ghost) (m : Memory) (
 
   pub kept_before : (place : ℕ) → KeptIn o new place → KeptIn o c place
   kept_before place kept = ⊎_elim
-      (λ floor. record { inside = kept.inside; why = inl (let rises = floor_rises in omega (arith, floor, rises)) })
+      (λ floor. record { inside = kept.inside; why = inl (let rises = floor_up in omega (arith, floor, rises)) })
       (λ pin. pinned place pin.seat pin.valid pin.same kept.inside)
       kept.why
 
@@ -142,22 +141,12 @@ module _ (o : Origin) (c : Core) (n : ℕ) (s : Seat) (g : Ghost) (m : Memory) (
     files = r.files;
   })
 
-  pin_left : (k : ℕ) → PinHolds (first_generation o) (current o c.generations) (cell c.memory head_place) (view_of c.views k).seat.hold →
-      PinHolds (first_generation o) (current o c.generations) (cell m head_place) (view_of c.views k).seat.hold
-  pin_left k r = record {
-    was = λ some. was_head_narrows (cell c.memory head_place) (cell m head_place) _ (header_cells o c n m inv leaves head_place (omega arith)) (r.was some);
-    valid_is = r.valid_is;
-    valid_some = r.valid_some;
-    from_first = r.from_first;
-    to_current = r.to_current;
-  }
-
   pins_hold : Pins o m views c.generations
   pins_hold = record {
     words = λ seat inside. each_set (λ (k : ℕ) (v : View). k < length m.now.pins → slice_index m.now.pins k ≡ v.seat.hold.pin) c.views n w here
         (λ low. facts.pin_is)
         (λ k other low. leaves.pins k other ∙ inv.pins.words k (let many = leaves.fits.pins in let were = inv.sizes.words.pins in omega (arith, low, many, were))) seat inside;
-    holds = each_set (λ (k : ℕ) (v : View). PinHolds (first_generation o) (current o c.generations) (cell m head_place) v.seat.hold) c.views n w here facts.pin_holds (λ k other. pin_left k (inv.pins.holds k));
+    holds = each_set (λ (k : ℕ) (v : View). PinHolds (first_generation o) (current o c.generations) (cell m head_place) v.seat.hold) c.views n w here facts.pin_holds (λ k other. pin_left o c n m inv leaves (view_of c.views k).seat.hold (inv.pins.holds k));
   }
 
   -- the walk of the seat, where fewer generations may be kept
@@ -178,7 +167,7 @@ module _ (o : Origin) (c : Core) (n : ℕ) (s : Seat) (g : Ghost) (m : Memory) (
 
   walks : (seat : ℕ) → (view_of views seat).parts ≢ [] → WalkHolds (around o new) (view_of views seat).seat.hold (view_of views seat).seat.walk
   walks = each_set (λ (k : ℕ) (v : View). v.parts ≢ [] → WalkHolds (around o new) v.seat.hold v.seat.walk) c.views n w here
-      (λ some. walk_mine (facts.walk some)) (λ k other some. walk_left o c n m inv leaves views owner began kept_before k (inv.walks k some))
+      (λ some. walk_mine (facts.walk some)) (λ k other some. walk_left o c n m inv leaves views owner began kept_before (view_of c.views k).seat.hold (view_of c.views k).seat.walk (pin_kept o c n m inv leaves k) (inv.walks k some))
 
   owned : (seat : ℕ) → OwnedHold (λ word. cell m word) m.past m.notes seat (view_of views seat).ghost (view_of views seat).seat
   owned = each_set (λ (k : ℕ) (v : View). OwnedHold (λ word. cell m word) m.past m.notes k v.ghost v.seat) c.views n w here facts.owned (λ k other. owned_left o c n m inv leaves k other)
@@ -188,20 +177,10 @@ module _ (o : Origin) (c : Core) (n : ℕ) (s : Seat) (g : Ghost) (m : Memory) (
       (each_set (λ (t : ℕ) (u : View). ScanHolds s.giving t u.seat.hold) c.views n w here facts.scan_self (λ t apart. facts.scan_others t apart) other)
       (λ k apart. each_set (λ (t : ℕ) (u : View). ScanHolds (view_of c.views k).seat.giving t u.seat.hold) c.views n w here (facts.scanned k apart) (λ t other. inv.givings.scans k t) other) seat
 
-  giving_left : (k : ℕ) → GivingHolds (names_by o c.logs (entries o c.history) c.generations) (current o c.generations) (first_generation o + head_floor c.memory) (view_of c.views k).seat.giving →
-      GivingHolds (names_by o c.logs (entries o c.history) c.generations) (current o c.generations) (first_generation o + head_floor m) (view_of c.views k).seat.giving
-  giving_left k r = record {
-    replaced_past = r.replaced_past;
-    replaced = r.replaced;
-    limbo = r.limbo;
-    replaced_sure = λ fenced. (let sure = r.replaced_sure fenced in let rises = floor_rises in omega (arith, sure, rises));
-    limbo_sure = (let sure = r.limbo_sure in let rises = floor_rises in omega (arith, sure, rises));
-  }
-
   givings : Givings o m views c.history c.generations c.logs
   givings = record {
     lists = each_set (λ (k : ℕ) (v : View). GivingHolds (names_by o c.logs (entries o c.history) c.generations) (current o c.generations) (first_generation o + head_floor m) v.seat.giving) c.views n w here
-        facts.giving (λ k other. giving_left k (inv.givings.lists k));
+        facts.giving (λ k other. giving_left o c n m inv leaves (view_of c.views k).seat.giving (inv.givings.lists k));
     scans = scans;
   }
 
@@ -231,9 +210,9 @@ module _ (o : Origin) (c : Core) (n : ℕ) (s : Seat) (g : Ghost) (m : Memory) (
   syncs : Syncs o m views c.history c.generations c.logs c.synced
   syncs = record {
     to_end = inv.syncs.to_end;
-    words = λ place number low inside cut less. (let kept : KeptIn o c place = record { inside = inside; why = inl (let rises = floor_rises in omega (arith, low, rises)) } in
+    words = λ place number low inside cut less. (let kept : KeptIn o c place = record { inside = inside; why = inl (let rises = floor_up in omega (arith, low, rises)) } in
         synced_narrows (shape o) (λ word. cell c.memory word) (λ word. cell m word) c.synced (nth_log c.logs number) (nth_log c.logs (number + 1)) (inv.order.log.inside number less)
-        (λ k within. log_cells o c n m inv leaves place number k kept cut less within) (inv.syncs.words place number (let rises = floor_rises in omega (arith, low, rises)) inside cut less));
+        (λ k within. log_cells o c n m inv leaves place number k kept cut less within) (inv.syncs.words place number (let rises = floor_up in omega (arith, low, rises)) inside cut less));
     views_hold = each_set (λ (k : ℕ) (v : View). SyncHolds (q_of o) (names_by o c.logs (entries o c.history) c.generations) (λ word. cell m word) m.past m.notes c.synced k v) c.views n w here facts.syncs
         (λ k other. sync_left o c n m inv leaves k other (inv.syncs.views_hold k));
   }
