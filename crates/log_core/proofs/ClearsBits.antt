@@ -4,7 +4,9 @@ use Rattle.std.specs.List.{range_with_len}
 use Rattle.std.proofs.lemmas.List.{length-set}
 use Rattle.image_steps.proofs.NameLemmas.{test_in}
 use Rattle.seat_state.specs.Seats.{Seat, without_bits}
-use Rattle.persistence.specs.Memory.{Memory, cell}
+use Rattle.pmem_words.specs.declared.asks.Place.TheVariants.{Map}
+use Rattle.pmem_words.specs.declared.asks.Ask.TheVariants.{ClearBits}
+use Rattle.persistence.specs.Memory.{Memory, cell, memory_after}
 use Rattle.log_core.specs.Entries.{has}
 use Rattle.log_core.specs.Views.{Ghost, view_of}
 use Rattle.log_core.specs.Origin.{Origin, shape, Owner}
@@ -19,7 +21,7 @@ use Rattle.log_core.specs.Knows.{Knows}
 use Rattle.log_core.proofs.Leaves.{Leaves, Changes, moved}
 use Rattle.log_core.proofs.SetBlocks.{set_blocks}
 use Rattle.log_core.proofs.BitmapFacts.{word_inside}
-use Rattle.log_core.proofs.BitmapLeaves.{with_map_word, bitmap_leaves}
+use Rattle.log_core.proofs.BitmapLeaves.{bitmap_leaves}
 use Rattle.log_core.proofs.BlockLists.{among_range}
 use Rattle.log_core.proofs.ClearedOwners.{owner_cleared, cleared_bits, cleared_changes, cleared_list}
 use Rattle.log_core.proofs.OwnedBut.{left_hold}
@@ -39,7 +41,7 @@ module _ (o : Origin) (c : Core) (n : ℕ) (s : Seat) (g : Ghost) (pin began wor
   value = slice_index c.memory.now.taken word
 
   abbrev left : Memory
-  left = with_map_word c.memory word (without_bits value bits)
+  left = memory_after c.memory n (ClearBits (Map word) bits)
 
   abbrev owner : ℕ → Owner
   owner block = owner_cleared c.owner word bits block

@@ -20,6 +20,9 @@ pub mod Begun
 pub mod LoadsHead
 pub mod StoresOwnPin
 pub mod LoadsPinWord
+pub mod LoadsBitmapWord
+pub mod SetsBits
+pub mod ClearsBits
 pub mod StepHolds
 pub mod RunHolds
 pub mod Serving

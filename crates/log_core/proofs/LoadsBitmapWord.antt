@@ -2,7 +2,9 @@
 use Rattle.std.proofs.Common.{◌≡◌, ℕ, List, length, refl, sym, ◌∙◌, subst, slice_index, slice_set, bit_or}
 use Rattle.std.proofs.lemmas.List.{length-set, set-get_or}
 use Rattle.seat_state.specs.Seats.{Seat, Blocks}
-use Rattle.persistence.specs.Memory.{Memory, cell}
+use Rattle.pmem_words.specs.declared.asks.Place.TheVariants.{Map}
+use Rattle.pmem_words.specs.declared.asks.Ask.TheVariants.{Load}
+use Rattle.persistence.specs.Memory.{Memory, cell, memory_after}
 use Rattle.log_core.specs.Views.{Ghost}
 use Rattle.log_core.specs.Origin.{Origin, shape}
 use Rattle.log_core.specs.Cores.{Core}
@@ -12,14 +14,14 @@ use Rattle.log_core.specs.Invariant.{Invariant}
 use Rattle.log_core.specs.Knows.{Knows}
 use Rattle.log_core.proofs.Leaves.{Leaves, Changes, moved, no_changes}
 use Rattle.log_core.proofs.SetBlocks.{set_blocks}
-use Rattle.log_core.proofs.BitmapLeaves.{with_map_word, bitmap_leaves}
+use Rattle.log_core.proofs.BitmapLeaves.{bitmap_leaves}
 
 module _ (o : Origin) (c : Core) (n : ℕ) (s : Seat) (g : Ghost) (pin began word : ℕ) (inv : Invariant o c) (f : Knows o c n s g pin began) where
   abbrev value : ℕ
   value = slice_index c.memory.now.taken word
 
   abbrev left : Memory
-  left = with_map_word c.memory word value
+  left = memory_after c.memory n (Load (Map word))
 
   abbrev after : Seat
   after = effect g.marks s (LoadsBitmapWord word) value

@@ -14,11 +14,6 @@ use Rattle.log_core.specs.Steps.{area_of}
 use Rattle.log_core.specs.Owned.{StoredHolds, OwnedHold}
 use Rattle.log_core.specs.Certain.{IsCertain}
 
--- a fact of each element gives another one
-pub each_weaker : {X : Type 0} (P Q : X → Type 0) → ((x : X) → P x → Q x) → (xs : List X) → AllByRecursion P xs → AllByRecursion Q xs
-each_weaker P Q gives [] all = tt
-each_weaker P Q gives (x ∷ xs) all = (gives x all.0, each_weaker P Q gives xs all.1)
-
 -- the blocks of a state of a seat
 abbrev pub owning : Seat → Blocks → Seat
 owning s b = record s { blocks = b }

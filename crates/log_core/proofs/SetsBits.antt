@@ -3,7 +3,9 @@ use Rattle.std.proofs.Common.{◌≡◌, ◌≢◌, ℕ, ◌*◌, ◌<◌, true,
 use Rattle.std.proofs.lemmas.List.{length-set}
 use Rattle.log_image.specs.Image.{total}
 use Rattle.seat_state.specs.Seats.{Seat}
-use Rattle.persistence.specs.Memory.{Memory, cell}
+use Rattle.pmem_words.specs.declared.asks.Place.TheVariants.{Map}
+use Rattle.pmem_words.specs.declared.asks.Ask.TheVariants.{SetBits}
+use Rattle.persistence.specs.Memory.{Memory, cell, memory_after}
 use Rattle.log_core.specs.Views.{Ghost, view_of}
 use Rattle.log_core.specs.Origin.{Origin, shape, Owner}
 use Rattle.log_core.specs.Cores.{Core}
@@ -16,7 +18,7 @@ use Rattle.log_core.specs.Knows.{Knows}
 use Rattle.log_core.proofs.Leaves.{Leaves, Changes, moved}
 use Rattle.log_core.proofs.SetBlocks.{set_blocks}
 use Rattle.log_core.proofs.BitmapFacts.{word_inside, block_inside}
-use Rattle.log_core.proofs.BitmapLeaves.{with_map_word, bitmap_leaves}
+use Rattle.log_core.proofs.BitmapLeaves.{bitmap_leaves}
 use Rattle.log_core.proofs.SetOwners.{owner_set, set_bits, set_changes, set_list}
 use Rattle.log_core.proofs.SetOwned.{taken_hold}
 
@@ -25,7 +27,7 @@ module _ (o : Origin) (c : Core) (n : ℕ) (s : Seat) (g : Ghost) (pin began wor
   value = slice_index c.memory.now.taken word
 
   abbrev left : Memory
-  left = with_map_word c.memory word (bit_or value bits)
+  left = memory_after c.memory n (SetBits (Map word) bits)
 
   abbrev owner : ℕ → Owner
   owner block = owner_set c.owner n word bits value block
