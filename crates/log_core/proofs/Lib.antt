@@ -7,6 +7,15 @@ pub mod Others
 pub mod SetCore
 pub mod SetBlocks
 pub mod Facts
+pub mod BitWords
+pub mod BlockLists
+pub mod SetOwners
+pub mod ClearedOwners
+pub mod OwnedPlaces
+pub mod SetOwned
+pub mod OwnedBut
+pub mod BitmapFacts
+pub mod BitmapLeaves
 pub mod Begun
 pub mod LoadsHead
 pub mod StoresOwnPin
@@ -14,6 +23,9 @@ pub mod LoadsPinWord
 pub mod SetsWord
 pub mod CountsFilled
 pub mod Worked
+pub mod LoadsBitmapWord
+pub mod SetsBits
+pub mod ClearsBits
 pub mod StepHolds
 pub mod RunHolds
 pub mod Serving
