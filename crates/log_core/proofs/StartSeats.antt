@@ -40,7 +40,7 @@ pub start_sizes : (o : Origin) → HasSeats o → HasImage o → Sizes o (first_
 start_sizes o seats image = record {
   seats = seats;
   image = image;
-  words = record { words = refl; taken = refl; pins = length-replicate o.seats 0; floors = length-replicate (length o.words) 0; notes = tt };
+  words = record { words = refl; taken = refl; pins = length-replicate o.seats 0; floors = length-replicate (length o.words) 0; reached = λ word. (let e = zeros_after [] (length o.words) word in omega (arith, e)); notes = tt };
   some = omega (arith, views_made o, (some_made o seats).0);
   few = omega (arith, views_made o, (some_made o seats).1);
   begun = length-replicate o.made 0 ∙ sym (views_made o);
