@@ -10,7 +10,8 @@ use Rattle.log_core.specs.Cores.{Core}
 use Rattle.log_core.specs.Sizes.{MemoryFits}
 use Rattle.log_core.specs.Contents.{IsStillTaken}
 use Rattle.log_core.specs.Owners.{IsListOf}
-use Rattle.log_core.proofs.Narrows.{Narrows}
+use Rattle.log_core.specs.Invariant.{Invariant}
+use Rattle.log_core.proofs.Narrows.{Narrows, floor_inside}
 
 -- the memory after a step of seat n
 pub record Leaves (o : Origin) (c : Core) (n : ℕ) (m : Memory) : Type 0 where
@@ -85,3 +86,15 @@ no_changes c n = record { each = λ block. inl refl }
 pub taken_apart : (n : ℕ) (whose : Owner) → IsStillTaken whose → whose ≢ OwnedBy n
 taken_apart n whose (inl chain) mine = (chain_apart n).other (sym chain ∙ mine)
 taken_apart n whose (inr left) mine = (left_apart n left.0).other (sym left.1 ∙ mine)
+
+-- other pin words of the seat alone leave all the rest
+pub pins_leave : (o : Origin) (c : Core) (n : ℕ) → Invariant o c → (pins : List ℕ) → length pins ≡ length c.memory.now.pins → ((k : ℕ) → k ≢ n → slice_index pins k ≡ slice_index c.memory.now.pins k) →
+    Leaves o c n (record (c.memory) { now = record (c.memory.now) { pins = pins } })
+pins_leave o c n inv pins same others = record {
+  fits = (let r = inv.sizes.words in record { words = r.words; taken = r.taken; pins = same ∙ r.pins; floors = r.floors; notes = r.notes });
+  pins = others;
+  cells = λ word apart. record { present = refl; past = refl; floor = omega arith; inside = floor_inside c.memory word };
+  values = λ word k low. refl;
+  notes = λ k other. refl;
+  times = λ time word early. refl;
+}

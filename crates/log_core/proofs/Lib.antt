@@ -6,6 +6,18 @@ pub mod Apart
 pub mod Others
 pub mod SetCore
 pub mod SetBlocks
+pub mod Each
+pub mod MemoryMoves
+pub mod OwnedLists
+pub mod MarkedNow
+pub mod OwnedStored
+pub mod OwnedMarked
+pub mod OwnedFenced
+pub mod OwnWords
+pub mod OwnBlocks
+pub mod CountsFilled
+pub mod SetsWord
+pub mod StoresWord
 pub mod Facts
 pub mod BitWords
 pub mod BlockLists
@@ -20,6 +32,7 @@ pub mod Begun
 pub mod LoadsHead
 pub mod StoresOwnPin
 pub mod LoadsPinWord
+pub mod Worked
 pub mod LoadsBitmapWord
 pub mod SetsBits
 pub mod ClearsBits

@@ -52,7 +52,7 @@ any_same : {X : Type 0} (f h : X → Bool) (xs : List X) → AllByRecursion (λ 
 any_same f h [] all = refl
 any_same f h (x ∷ xs) all = ap (λ (b : Bool). b || list_any f xs) all.0 ∙ ap (λ (b : Bool). h x || b) (any_same f h xs all.1)
 
-map_same : {X Y : Type 0} (f h : X → Y) (xs : List X) → AllByRecursion (λ (x : X). f x ≡ h x) xs → map f xs ≡ map h xs
+pub map_same : {X Y : Type 0} (f h : X → Y) (xs : List X) → AllByRecursion (λ (x : X). f x ≡ h x) xs → map f xs ≡ map h xs
 map_same f h [] all = refl
 map_same f h (x ∷ xs) all = ap (λ (y : _). y ∷ map f xs) all.0 ∙ ap (λ (ys : List _). h x ∷ ys) (map_same f h xs all.1)
 
@@ -207,7 +207,7 @@ module _ (o : Origin) (c : Core) (n : ℕ) (m : Memory) (inv : Invariant o c) (l
       by [] is = owned_spent k (inv.sizes.spent k is)
       by (part ∷ parts) is = (let some : (view_of c.views k).parts ≢ [] = λ none. not_nil part parts (sym is ∙ none) in fitting (inv.sizes.each k (unspent_made c.views k some) some))
 
-  mark_same : (note : Noted) → note.time ≤ length c.memory.past → mark_of (λ word. cell m word) m.past note ≡ mark_of (λ word. cell c.memory word) c.memory.past note
+  pub mark_same : (note : Noted) → note.time ≤ length c.memory.past → mark_of (λ word. cell m word) m.past note ≡ mark_of (λ word. cell c.memory word) c.memory.past note
   mark_same note early = ap (λ (value : ℕ). record { word = note.word; value = value })
       (ap (λ (at : ℕ). value_at (cell m note.word) at) (leaves.times note.time note.word early)
       ∙ leaves.values note.word (index_at c.memory.past note.time note.word) (index_at-most c.memory.past note.time note.word))
@@ -252,9 +252,10 @@ module _ (o : Origin) (c : Core) (n : ℕ) (m : Memory) (inv : Invariant o c) (l
       (let pinned = valid (λ none. cc) in
       let low = from pinned in
       let same : s.hold.generation ≡ first_generation o + (s.hold.generation - first_generation o) = omega (arith, low) in
-      let here = kept pinned (s.hold.generation - first_generation o) same in
-      (sync_mark_left (s.hold.generation - first_generation o) s.hold.generation same here note early.0 all.0,
-      sync_marks_left s kept from notes (λ some. pinned) early.1 all.1))
+      let here = kept pinned (s.hold.generation - first_generation o) same in (
+        sync_mark_left (s.hold.generation - first_generation o) s.hold.generation same here note early.0 all.0,
+        sync_marks_left s kept from notes (λ some. pinned) early.1 all.1,
+      ))
 
   pub sync_left : (k : ℕ) → k ≢ n → SyncHolds (q_of o) (names_by o c.logs (entries o c.history) c.generations) (λ word. cell c.memory word) c.memory.past c.memory.notes c.synced k (view_of c.views k) →
       SyncHolds (q_of o) (names_by o c.logs (entries o c.history) c.generations) (λ word. cell m word) m.past m.notes c.synced k (view_of c.views k)

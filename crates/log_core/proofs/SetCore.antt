@@ -89,6 +89,7 @@ module _ (o : Origin) (c : Core) (n : ℕ) (s : Seat) (g : Ghost) (m : Memory) (
       taken = leaves.fits.taken;
       pins = leaves.fits.pins;
       floors = leaves.fits.floors;
+      reached = leaves.fits.reached;
       notes = subst (λ (k : ℕ). AllByRecursion (λ (note : Noted). (note.seat < k) × (note.word < length o.words) × (note.time ≤ length m.past)) m.notes) (sym count) leaves.fits.notes;
     };
     some = subst (λ (k : ℕ). 0 < k) (sym count) inv.sizes.some;

@@ -1,5 +1,5 @@
 -- The parts of a core fit one another: their lengths, and what each view has of the start.
-use Rattle.std.specs.Prelude.{ℕ, ◌*◌, ◌<◌, ◌≤◌, ◌≡◌, ◌≢◌, ◌⊎◌, List, [], length}
+use Rattle.std.specs.Prelude.{ℕ, ◌*◌, ◌<◌, ◌≤◌, ◌≡◌, ◌≢◌, ◌⊎◌, List, [], length, slice_index}
 use Rattle.std.specs.List.{AllByRecursion}
 use Rattle.log_image.specs.Image.{words_in, total}
 use Rattle.seat_state.specs.Seats.{bitmap_words}
@@ -26,6 +26,7 @@ pub record MemoryFits (o : Origin) (memory : Memory) (views : ℕ) : Type 0 wher
   pub taken : length memory.now.taken ≡ length o.taken
   pub pins : length memory.now.pins ≡ o.seats
   pub floors : length memory.floors ≡ length o.words
+  pub reached : (word : ℕ) → slice_index memory.floors word ≤ length memory.past
   pub notes : AllByRecursion (λ (note : Noted). (note.seat < views) × (note.word < length o.words) × (note.time ≤ length memory.past)) memory.notes
 
 -- what an unspent view has of the start: its number is its place, and its lists have the lengths of the image
