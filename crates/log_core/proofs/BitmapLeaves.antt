@@ -19,6 +19,7 @@ bitmap_leaves o c n word value inv = record {
     taken = length-set c.memory.now.taken word value ∙ inv.sizes.words.taken;
     pins = inv.sizes.words.pins;
     floors = inv.sizes.words.floors;
+    reached = inv.sizes.words.reached;
     notes = inv.sizes.words.notes;
   };
   pins = λ k other. refl;
