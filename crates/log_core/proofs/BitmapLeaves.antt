@@ -1,7 +1,7 @@
 -- A step on a word of the bitmap leaves every word of the image as it is.
-use Rattle.std.proofs.Common.{◌≡◌, ℕ, List, length, refl, ◌∙◌, slice_set, slice_index}
+use Rattle.std.proofs.Common.{ℕ, refl, ◌∙◌, slice_set}
 use Rattle.std.proofs.lemmas.List.{length-set}
-use Rattle.persistence.specs.Memory.{Memory, cell}
+use Rattle.persistence.specs.Memory.{Memory}
 use Rattle.log_core.specs.Origin.{Origin}
 use Rattle.log_core.specs.Cores.{Core}
 use Rattle.log_core.specs.Invariant.{Invariant}
