@@ -1,7 +1,7 @@
 -- A step on a word of the bitmap leaves every word of the image as it is.
-use Rattle.std.proofs.Common.{◌≡◌, ℕ, List, length, refl, ◌∙◌, slice_set, slice_index}
+use Rattle.std.proofs.Common.{ℕ, refl, ◌∙◌, slice_set}
 use Rattle.std.proofs.lemmas.List.{length-set}
-use Rattle.persistence.specs.Memory.{Memory, cell}
+use Rattle.persistence.specs.Memory.{Memory}
 use Rattle.log_core.specs.Origin.{Origin}
 use Rattle.log_core.specs.Cores.{Core}
 use Rattle.log_core.specs.Invariant.{Invariant}
@@ -19,6 +19,7 @@ bitmap_leaves o c n word value inv = record {
     taken = length-set c.memory.now.taken word value ∙ inv.sizes.words.taken;
     pins = inv.sizes.words.pins;
     floors = inv.sizes.words.floors;
+    reached = inv.sizes.words.reached;
     notes = inv.sizes.words.notes;
   };
   pins = λ k other. refl;

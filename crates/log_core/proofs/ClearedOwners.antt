@@ -1,6 +1,6 @@
 -- Who has each block after bits of owned blocks are cleared: nobody has those blocks.
-use Rattle.std.proofs.Common.{◌≡◌, ◌≢◌, ◌⊎◌, ℕ, ◌^◌, ◌<◌, ◌&&◌, not, Bool, true, false, if◌then◌else◌, List, length, refl, sym, ap, ◌∙◌, inl, inr, subst, slice_index, slice_set}
-use Rattle.std.proofs.lemmas.Bool.{and_from, and_parts}
+use Rattle.std.proofs.Common.{◌≡◌, ◌≢◌, ◌⊎◌, ℕ, ◌^◌, ◌<◌, ◌&&◌, not, Bool, true, false, if◌then◌else◌, List, length, refl, sym, ◌∙◌, inl, inr, subst, slice_index, slice_set}
+use Rattle.std.proofs.lemmas.Bool.{and_parts}
 use Rattle.log_image.specs.Image.{Shape, total}
 use Rattle.log_image.specs.Taken.{bit_of}
 use Rattle.seat_parts.specs.declared.owned.OwnedBlock.{OwnedBlock}

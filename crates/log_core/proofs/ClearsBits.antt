@@ -1,5 +1,5 @@
 -- A clearing of bits of owned blocks gives these back: nobody has them then, and nothing is known of their words.
-use Rattle.std.proofs.Common.{◌≡◌, ◌≢◌, ℕ, ◌*◌, ◌^◌, ◌<◌, ◌||◌, not, Bool, true, false, List, [], length, refl, sym, subst, slice_index, slice_set}
+use Rattle.std.proofs.Common.{◌≡◌, ◌≢◌, ℕ, ◌*◌, ◌<◌, ◌||◌, not, Bool, true, false, List, [], length, refl, sym, subst, slice_index}
 use Rattle.std.specs.List.{range_with_len}
 use Rattle.std.proofs.lemmas.List.{length-set}
 use Rattle.image_steps.proofs.NameLemmas.{test_in}
@@ -8,7 +8,7 @@ use Rattle.pmem_words.specs.declared.asks.Place.TheVariants.{Map}
 use Rattle.pmem_words.specs.declared.asks.Ask.TheVariants.{ClearBits}
 use Rattle.persistence.specs.Memory.{Memory, cell, memory_after}
 use Rattle.log_core.specs.Entries.{has}
-use Rattle.log_core.specs.Views.{Ghost, view_of}
+use Rattle.log_core.specs.Views.{Ghost, Stored, view_of}
 use Rattle.log_core.specs.Origin.{Origin, shape, Owner}
 use Rattle.log_core.specs.Cores.{Core}
 use Rattle.log_core.specs.Works.{words_of}
@@ -49,7 +49,7 @@ module _ (o : Origin) (c : Core) (n : ℕ) (s : Seat) (g : Ghost) (pin began wor
   abbrev after : Seat
   after = effect g.marks s (ClearsBits word bits) value
 
-  abbrev stored : List Rattle.log_core.specs.Views.Stored
+  abbrev stored : List Stored
   stored = stored_but (words_of s) (λ (block : ℕ). is_among word bits block) g.stored
 
   abbrev given : Seat

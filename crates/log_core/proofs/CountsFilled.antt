@@ -1,23 +1,14 @@
 -- An owned block is counted as filled: what a core knows of the seat stays.
-<<<<<<< HEAD
-use Rattle.std.proofs.Common.{ℕ}
-use Rattle.seat_state.specs.Seats.{Seat}
-=======
 use Rattle.std.proofs.Common.{◌≡◌, ℕ, true, refl}
 use Rattle.seat_parts.specs.Owned.{owned_at}
 use Rattle.seat_parts.specs.declared.owned.OwnedBlock.{OwnedBlock}
 use Rattle.seat_state.specs.Seats.{Seat}
 use Rattle.persistence.specs.Memory.{cell}
->>>>>>> 3489771b61dd03450ad7c77138b586a5adba7984
 use Rattle.log_core.specs.Views.{Ghost}
 use Rattle.log_core.specs.Origin.{Origin}
 use Rattle.log_core.specs.Cores.{Core}
 use Rattle.log_core.specs.Works.{CountsFilled, worked, MayCountFilled}
 use Rattle.log_core.specs.Knows.{Knows}
-<<<<<<< HEAD
-pub count_filled_facts : (o : Origin) (c : Core) (n : ℕ) (s : Seat) (g : Ghost) (pin began place : ℕ) → Knows o c n s g pin began → MayCountFilled g s place → Knows o c n (worked s (CountsFilled place)) g pin began
-count_filled_facts o c n s g pin began place f may = ?
-=======
 use Rattle.log_core.proofs.OwnedLists.{IsSameBlock, numbers_set}
 use Rattle.log_core.proofs.OwnBlocks.{owned_with_block, blocks_facts}
 
@@ -32,4 +23,3 @@ count_filled_facts o c n s g pin began place f may = blocks_facts o c n s g pin 
 
     same : IsSameBlock (owned_at s.blocks.owned place) filled
     same = record { block = refl; area = refl }
->>>>>>> 3489771b61dd03450ad7c77138b586a5adba7984

@@ -1,10 +1,10 @@
 -- A load of a bitmap word changes only what the seat has found taken.
-use Rattle.std.proofs.Common.{◌≡◌, ℕ, List, length, refl, sym, ◌∙◌, subst, slice_index, slice_set, bit_or}
+use Rattle.std.proofs.Common.{ℕ, List, refl, sym, subst, slice_index, bit_or}
 use Rattle.std.proofs.lemmas.List.{length-set, set-get_or}
-use Rattle.seat_state.specs.Seats.{Seat, Blocks}
+use Rattle.seat_state.specs.Seats.{Seat}
 use Rattle.pmem_words.specs.declared.asks.Place.TheVariants.{Map}
 use Rattle.pmem_words.specs.declared.asks.Ask.TheVariants.{Load}
-use Rattle.persistence.specs.Memory.{Memory, cell, memory_after}
+use Rattle.persistence.specs.Memory.{Memory, memory_after}
 use Rattle.log_core.specs.Views.{Ghost}
 use Rattle.log_core.specs.Origin.{Origin, shape}
 use Rattle.log_core.specs.Cores.{Core}
@@ -12,7 +12,7 @@ use Rattle.log_core.specs.Steps.{LoadsBitmapWord, effect, lacked_after, ghost_af
 use Rattle.log_core.specs.Owners.{BitsFit}
 use Rattle.log_core.specs.Invariant.{Invariant}
 use Rattle.log_core.specs.Knows.{Knows}
-use Rattle.log_core.proofs.Leaves.{Leaves, Changes, moved, no_changes}
+use Rattle.log_core.proofs.Leaves.{Leaves, moved, no_changes}
 use Rattle.log_core.proofs.SetBlocks.{set_blocks}
 use Rattle.log_core.proofs.BitmapLeaves.{bitmap_leaves}
 

@@ -1,5 +1,5 @@
 -- What is known of owned blocks stays of those that are left where some leave the list.
-use Rattle.std.proofs.Common.{◌≡◌, ◌≢◌, ℕ, zero, suc, ◌+◌, ◌-◌, ◌*◌, ◌/◌, ◌<◌, ◌≤◌, ◌==◌, ◌&&◌, not, Bool, true, false, if◌then◌else◌, List, [], ◌∷◌, ◌++◌, length, take, drop, filter, refl, sym, ap, ◌∙◌, arith, inl, subst, slice_index, Option, Some, suc-mul, zero-mul}
+use Rattle.std.proofs.Common.{◌≡◌, ℕ, zero, suc, ◌+◌, ◌*◌, ◌/◌, ◌<◌, ◌≤◌, ◌==◌, not, Bool, true, false, if◌then◌else◌, List, [], ◌∷◌, ◌++◌, length, take, drop, filter, refl, sym, ap, ◌∙◌, arith, inl, slice_index, Some, suc-mul, zero-mul}
 use Rattle.std.specs.List.{AllByRecursion}
 use Rattle.std.proofs.lemmas.Bool.{eqb-true, true≢false, and_from}
 use Rattle.std.proofs.lemmas.List.{length-append, length-drop, length-take-le, get_or-take, get_or-drop, get_or_append_left, get_or-append_right}
@@ -15,7 +15,7 @@ use Rattle.log_core.specs.Needs.{owned_numbers}
 use Rattle.log_core.specs.Steps.{area_of, owned_but, contents_but, stored_but}
 use Rattle.log_core.specs.Owned.{StoredHolds, OwnedHold}
 use Rattle.log_core.proofs.BlockLists.{has_filter, numbers_but}
-use Rattle.log_core.proofs.OwnedPlaces.{owning, SamePlace, PlacesFit, owned_stays}
+use Rattle.log_core.proofs.OwnedPlaces.{owning, PlacesFit, owned_stays}
 
 -- each place of the list without some is the place of a block that stays, with its flags and its content
 record IsLeft (q : ℕ) (f : ℕ → Bool) (owned : List OwnedBlock) (contents : List ℕ) (place : ℕ) : Type 0 where

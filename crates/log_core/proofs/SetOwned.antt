@@ -1,5 +1,5 @@
 -- What is known of owned blocks stays where blocks are taken: each of them is neither filled nor fenced.
-use Rattle.std.proofs.Common.{◌≡◌, ◌⊎◌, ℕ, zero, suc, ◌+◌, ◌-◌, ◌*◌, ◌<◌, ◌≤◌, true, false, List, [], ◌∷◌, ◌++◌, length, map, replicate, refl, sym, ap, ◌∙◌, arith, inl, inr, add-mul, mul_comm, ◌/◌, ◌==◌}
+use Rattle.std.proofs.Common.{◌≡◌, ◌⊎◌, ℕ, zero, suc, ◌+◌, ◌-◌, ◌*◌, ◌<◌, ◌≤◌, false, List, [], ◌∷◌, ◌++◌, length, map, replicate, refl, sym, ap, ◌∙◌, arith, inl, inr, add-mul, mul_comm, ◌/◌, ◌==◌}
 use Rattle.std.specs.List.{AllByRecursion}
 use Rattle.std.proofs.lemmas.Bool.{cases_lt, or_left}
 use Rattle.std.proofs.lemmas.List.{length-append, length-map, length-replicate, get_or_append_left, get_or-append_right}
@@ -12,7 +12,7 @@ use Rattle.seat_parts.specs.declared.owned.OwnedBlock.{OwnedBlock}
 use Rattle.seat_state.specs.Seats.{Seat, Blocks}
 use Rattle.persistence.specs.Memory.{Replaced, Noted, Cell}
 use Rattle.log_core.specs.Entries.{has}
-use Rattle.log_core.specs.Views.{Ghost, Stored}
+use Rattle.log_core.specs.Views.{Ghost}
 use Rattle.log_core.specs.Works.{shape_of, words_of}
 use Rattle.log_core.specs.Needs.{owned_numbers}
 use Rattle.log_core.specs.Steps.{area_of, taken_block}

@@ -1,9 +1,9 @@
 -- Who has each block after bits of the bitmap are set: a seat has the blocks gained.
-use Rattle.std.proofs.Common.{◌≡◌, ◌≢◌, ◌⊎◌, ℕ, ◌<◌, ◌++◌, ◌||◌, Bool, true, false, if◌then◌else◌, List, length, map, refl, sym, ap, ◌∙◌, arith, inl, inr, subst, slice_index, slice_set, bit_or}
+use Rattle.std.proofs.Common.{◌≡◌, ◌≢◌, ◌⊎◌, ℕ, ◌<◌, ◌++◌, ◌==◌, ◌||◌, Bool, true, false, if◌then◌else◌, List, length, map, refl, sym, ◌∙◌, arith, inl, inr, subst, slice_index, slice_set, bit_or}
 use Rattle.std.proofs.lemmas.Bool.{false≢true, or_cases, or_left, or_right, and_parts, false_from_ne_true}
 use Rattle.std.proofs.lemmas.List.Folds.{list_any-append}
-use Rattle.std.specs.Int.{bit_at}
 use Rattle.log_image.specs.Image.{Shape, total}
+use Rattle.log_image.specs.Taken.{bit_of}
 use Rattle.image_steps.proofs.NameLemmas.{different_join}
 use Rattle.seat_parts.specs.declared.owned.OwnedBlock.{OwnedBlock}
 use Rattle.log_core.specs.Entries.{has}
@@ -54,7 +54,7 @@ module _ (image : Shape) (taken : List ℕ) (owner : ℕ → Owner) (n word bits
     only = λ block is. only_is block (gains block) is;
   }
     where
-      bit_is : (block : ℕ) (is : Bool) → block < total image → (if is then 1 else Rattle.log_image.specs.Taken.bit_of taken block) ≡ bit_for (if is then OwnedBy n else owner block)
+      bit_is : (block : ℕ) (is : Bool) → block < total image → (if is then 1 else bit_of taken block) ≡ bit_for (if is then OwnedBy n else owner block)
       bit_is block true low = refl
       bit_is block false low = fits.bits block low
 
@@ -89,7 +89,7 @@ module _ (image : Shape) (taken : List ℕ) (owner : ℕ → Owner) (n word bits
   })
     where
       joined : (block : ℕ) → has (owned_numbers owned ++ gained word bits (slice_index taken word)) block ≡ (has (owned_numbers owned) block || has (gained word bits (slice_index taken word)) block)
-      joined block = list_any-append (λ (other : ℕ). Rattle.std.specs.Prelude.nat_eq other block) (owned_numbers owned) (gained word bits (slice_index taken word))
+      joined block = list_any-append (λ (other : ℕ). other == block) (owned_numbers owned) (gained word bits (slice_index taken word))
 
       listed_is : (block : ℕ) (is : Bool) → gains block ≡ is → (has (owned_numbers owned) block ≡ true) ⊎ (has (gained word bits (slice_index taken word)) block ≡ true) → (if is then OwnedBy n else owner block) ≡ OwnedBy n
       listed_is block true e some = refl

@@ -1,5 +1,5 @@
 -- A setting of bits takes the blocks whose bits were clear: each of them is the seat's then, with no word stored in it.
-use Rattle.std.proofs.Common.{◌≡◌, ◌≢◌, ℕ, ◌*◌, ◌<◌, true, List, [], length, refl, slice_index, slice_set, bit_or}
+use Rattle.std.proofs.Common.{◌≡◌, ◌≢◌, ℕ, ◌<◌, true, [], length, refl, slice_index, bit_or}
 use Rattle.std.proofs.lemmas.List.{length-set}
 use Rattle.log_image.specs.Image.{total}
 use Rattle.seat_state.specs.Seats.{Seat}

@@ -1,15 +1,4 @@
 -- A word of an owned block is set: what a core knows of the seat stays.
-<<<<<<< HEAD
-use Rattle.std.proofs.Common.{ℕ}
-use Rattle.seat_state.specs.Seats.{Seat}
-use Rattle.log_core.specs.Views.{Ghost}
-use Rattle.log_core.specs.Origin.{Origin}
-use Rattle.log_core.specs.Cores.{Core}
-use Rattle.log_core.specs.Works.{SetsWord, worked, MaySetWord}
-use Rattle.log_core.specs.Knows.{Knows}
-pub set_word_facts : (o : Origin) (c : Core) (n : ℕ) (s : Seat) (g : Ghost) (pin began place word value : ℕ) → Knows o c n s g pin began → MaySetWord s place word value → Knows o c n (worked s (SetsWord place word value)) g pin began
-set_word_facts o c n s g pin began place word value f may = ?
-=======
 use Rattle.std.proofs.Common.{◌≡◌, ◌≢◌, ◌<◌, ◌+◌, ◌*◌, ◌/◌, ℕ, true, false, List, length, refl, sym, ◌∙◌, ap, subst, slice_index, slice_set}
 use Rattle.std.proofs.lemmas.List.{length-set, get_or-set_same, get_or-set_other, set-set}
 use Rattle.std.proofs.lemmas.Nat.{div-mul-add}
@@ -53,4 +42,3 @@ set_word_facts o c n s g pin began place word value f may =
 
     words : List ℕ
     words = slice_set s.blocks.contents (place * words_of s + word) value
->>>>>>> 3489771b61dd03450ad7c77138b586a5adba7984

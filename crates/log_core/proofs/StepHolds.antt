@@ -29,6 +29,10 @@ use Rattle.log_core.proofs.Worked.{FactsAt, works_hold, later_hold}
 use Rattle.log_core.proofs.LoadsHead.{load_facts}
 use Rattle.log_core.proofs.StoresOwnPin.{store_facts}
 use Rattle.log_core.proofs.LoadsPinWord.{seen_facts}
+use Rattle.log_core.proofs.LoadsBitmapWord.{map_leaves, map_bits, map_facts}
+use Rattle.log_core.proofs.SetsBits.{sets_leaves, sets_changes, sets_bits, sets_facts}
+use Rattle.log_core.proofs.ClearsBits.{clears_leaves, clears_changes, clears_bits, clears_facts}
+use Rattle.log_core.proofs.StoresWord.{store_leaves, store_word_facts}
 
 began_length : (b : Bool) (began : List ℕ) (n end : ℕ) → length (began_if b began n end) ≡ length began
 began_length true began n end = length-set began n end
@@ -135,3 +139,44 @@ module _ (o : Origin) (c : Core) (n : ℕ) (inv : Invariant o c) (here : n < len
       (λ own. ap (λ (k : ℕ). slice_index c.memory.now.pins k) own ∙ asked.pin_is) in
       subst (λ (pins : List ℕ). Invariant o (record c { memory = with_pins pins; views = slice_set c.views n (view_after mine (LoadsPinWord other) note f); began = began })) (sym same)
       (pins_hold (LoadsPinWord other) f c.memory.now.pins refl (λ k apart. refl) step before later no_record facts))
+
+  -- a load of a bitmap word
+  pub bitmap_word_holds : (word : ℕ) → Keeps (LoadsBitmapWord word) (slice_index c.memory.now.taken word) (Invariant o (stepped o c n (Load (Map word)) note (LoadsBitmapWord word) (slice_index c.memory.now.taken word)))
+  bitmap_word_holds word step before later no_record =
+      (let f = slice_index c.memory.now.taken word in
+      let asked = at_ask (LoadsBitmapWord word) f step before later no_record in
+      kind_holds (LoadsBitmapWord word) f step before later no_record (memory_after c.memory n (Load (Map word))) c.owner
+      (map_leaves o c n note.before (ghost_at mine note) (slice_index c.memory.now.pins n) (slice_index began n) word inv asked) (no_changes c n)
+      (map_bits o c n note.before (ghost_at mine note) (slice_index c.memory.now.pins n) (slice_index began n) word inv asked)
+      (map_facts o c n note.before (ghost_at mine note) (slice_index c.memory.now.pins n) (slice_index began n) word inv asked))
+
+  -- a setting of bits
+  pub set_bits_holds : (word bits : ℕ) → Keeps (SetsBits word bits) (slice_index c.memory.now.taken word) (Invariant o (stepped o c n (SetBits (Map word) bits) note (SetsBits word bits) (slice_index c.memory.now.taken word)))
+  set_bits_holds word bits step before later no_record =
+      (let f = slice_index c.memory.now.taken word in
+      let asked = at_ask (SetsBits word bits) f step before later no_record in
+      kind_holds (SetsBits word bits) f step before later no_record (memory_after c.memory n (SetBits (Map word) bits)) (λ block. owner_after c.owner n note (SetsBits word bits) f block)
+      (sets_leaves o c n note.before (ghost_at mine note) (slice_index c.memory.now.pins n) (slice_index began n) word bits inv asked unspent step.may)
+      (sets_changes o c n note.before (ghost_at mine note) (slice_index c.memory.now.pins n) (slice_index began n) word bits inv asked unspent step.may)
+      (sets_bits o c n note.before (ghost_at mine note) (slice_index c.memory.now.pins n) (slice_index began n) word bits inv asked unspent step.may)
+      (sets_facts o c n note.before (ghost_at mine note) (slice_index c.memory.now.pins n) (slice_index began n) word bits inv asked unspent step.may))
+
+  -- a clearing of bits of owned blocks
+  pub clear_bits_holds : (word bits : ℕ) → is_of_owned note.before word bits ≡ true →
+      Keeps (ClearsBits word bits) (slice_index c.memory.now.taken word) (Invariant o (stepped o c n (ClearBits (Map word) bits) note (ClearsBits word bits) (slice_index c.memory.now.taken word)))
+  clear_bits_holds word bits own step before later no_record =
+      (let f = slice_index c.memory.now.taken word in
+      let asked = at_ask (ClearsBits word bits) f step before later no_record in
+      kind_holds (ClearsBits word bits) f step before later no_record (memory_after c.memory n (ClearBits (Map word) bits)) (λ block. owner_after c.owner n note (ClearsBits word bits) f block)
+      (clears_leaves o c n note.before (ghost_at mine note) (slice_index c.memory.now.pins n) (slice_index began n) word bits inv asked unspent step.may own)
+      (clears_changes o c n note.before (ghost_at mine note) (slice_index c.memory.now.pins n) (slice_index began n) word bits inv asked unspent step.may own)
+      (clears_bits o c n note.before (ghost_at mine note) (slice_index c.memory.now.pins n) (slice_index began n) word bits inv asked unspent step.may own)
+      (clears_facts o c n note.before (ghost_at mine note) (slice_index c.memory.now.pins n) (slice_index began n) word bits inv asked unspent step.may own))
+
+  -- a store into a word of an owned block
+  pub stored_holds : (word value : ℕ) → Keeps (StoresWord word value) 0 (Invariant o (stepped o c n (Store (Image word) value) note (StoresWord word value) (slice_index c.memory.now.words word)))
+  stored_holds word value step before later no_record =
+      (let asked = at_ask (StoresWord word value) 0 step before later no_record in
+      kind_holds (StoresWord word value) 0 step before later no_record (memory_after c.memory n (Store (Image word) value)) c.owner
+      (store_leaves o c n note.before (ghost_at mine note) (slice_index c.memory.now.pins n) (slice_index began n) word value inv asked unspent step.may) (no_changes c n) inv.owners.bits
+      (store_word_facts o c n note.before (ghost_at mine note) (slice_index c.memory.now.pins n) (slice_index began n) word value inv asked unspent step.may 0))
