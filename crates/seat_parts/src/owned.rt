@@ -95,18 +95,19 @@ impl OwnedBlocks {
         append_zeros(&mut self.contents, self.block_words as usize);
     }
 
-    /// Sets word `word` of the block at this place. The block then counts as not filled.
+    /// Sets word `word` of the block at this place. The block then counts as neither filled nor fenced.
     pub fn set_word(&mut self, place: u16, word: u16, value: u64)
         requires owned { place < length self.old.blocks }
         requires inside { word < self.old.block_words }
         ensures { self.new ≡ record self.old {
-          blocks = with_filled self.old.blocks place false;
+          blocks = with_fenced (with_filled self.old.blocks place false) place false;
           contents = slice_set self.old.contents (place * self.old.block_words + word) value;
         } }
     {
         let at = place as usize * self.block_words as usize + word as usize;
         self.contents[at] = value;
         self.blocks[place as usize].filled = false;
+        self.blocks[place as usize].fenced = false;
     }
 
     /// Sets whether the block at this place was filled since its content last changed.

@@ -39,13 +39,13 @@ impl SeatState {
     }
 
     /// Sets one word of an owned block's content: word `word`, below q, of the block at place `place` of their list. The
-    /// block then counts as not filled.
+    /// block then counts as neither filled nor fenced.
     pub fn set_word(&mut self, place: u16, word: u16, value: u64)
         requires owned { place < length self.old.blocks.owned }
         requires inside { word < q_of self.old.geometry }
         ensures { self.new ≡ record self.old {
           blocks = record self.old.blocks {
-            owned = with_filled self.old.blocks.owned place false;
+            owned = with_fenced (with_filled self.old.blocks.owned place false) place false;
             contents = slice_set self.old.blocks.contents (place * q_of self.old.geometry + word) value;
           };
         } }
@@ -120,7 +120,8 @@ impl SeatState {
 
     /// Takes every bit out of `found`.
     pub fn clear_found(&mut self)
-        ensures { self.new ≡ record self.old { blocks = record self.old.blocks { found = replicate (bitmap_words self.old.geometry) 0 } } }
+        ensures len { length self.new.blocks.found ≡ bitmap_words self.new.geometry }
+        ensures words { self.new ≡ record self.old { blocks = record self.old.blocks { found = replicate (bitmap_words self.old.geometry) 0 } } }
     {
         self.found.fill(0);
     }
