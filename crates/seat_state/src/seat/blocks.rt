@@ -1,7 +1,7 @@
 //! The blocks that the present call has taken, found taken or named.
 
 ghost use Rattle.std.specs.Prelude.{◌≡◌, ◌+◌, ◌*◌, ◌<◌, ◌++◌, ◌∷◌, [], false, length, remove, replicate, take, slice_index, slice_set, bit_or};
-ghost use Rattle.seat_parts.specs.Owned.{without_block, with_filled, with_fenced};
+ghost use Rattle.seat_parts.specs.Owned.{without_block, with_filled, with_fenced, fenced_all, is_among, owned_but, contents_but};
 ghost use Rattle.seat_state.specs.Seats.{q_of, owned_room, bitmap_words, without_bits};
 
 use super::SeatState;
@@ -67,6 +67,25 @@ impl SeatState {
         ensures { self.new ≡ record self.old { blocks = record self.old.blocks { owned = with_fenced self.old.blocks.owned place fenced } } }
     {
         self.owned.set_fenced(place, fenced);
+    }
+
+    /// Counts each filled block as fenced: a fence came.
+    pub fn fence_filled(&mut self)
+        ensures { self.new ≡ record self.old { blocks = record self.old.blocks { owned = fenced_all self.old.blocks.owned } } }
+    {
+        self.owned.fence_filled();
+    }
+
+    /// Removes the blocks whose bits are among these bits of word `word` of the bitmap, and their contents: they were given back.
+    pub fn disown_in_word(&mut self, word: u32, bits: u64)
+        ensures { self.new ≡ record self.old {
+          blocks = record self.old.blocks {
+            owned = owned_but (is_among word bits) self.old.blocks.owned;
+            contents = contents_but (q_of self.old.geometry) (is_among word bits) self.old.blocks.owned self.old.blocks.contents;
+          };
+        } }
+    {
+        self.owned.disown_in_word(word, bits);
     }
 
     /// Removes the block at this place, and its content: it was committed or given back.
