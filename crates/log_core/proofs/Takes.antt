@@ -22,7 +22,7 @@ use Rattle.log_core.specs.Runs.{MayStep, ghost_at, Allowed}
 use Rattle.log_core.specs.Invariant.{Invariant}
 use Rattle.log_core.specs.Knows.{Knows}
 use Rattle.log_core.proofs.BitmapFacts.{word_inside as found_inside}
-use Rattle.log_core.proofs.OwnBlocks.{word_inside as own_inside}
+use Rattle.log_core.proofs.OwnWords.{word_inside as own_inside}
 use Rattle.log_core.proofs.StepHolds.{at_ask}
 use Rattle.log_core.proofs.RunHolds.{no_exchange}
 
@@ -62,7 +62,8 @@ module _ (o : Origin) (c : Core) (seat : ℕ) (note : Note) (inv : Invariant o c
 
   image_inside : (word : ℕ) → has (owned_numbers note.before.blocks.owned) (word / words_of note.before) ≡ true → (pin began : ℕ) →
       Knows o c seat note.before (ghost_at (view_of c.views seat) note) pin began → word < length c.memory.now.words
-  image_inside word owned pin began known = own_inside o c seat note.before (ghost_at (view_of c.views seat) note) pin began inv known unspent word owned
+  image_inside word owned pin began known =
+      (let low = own_inside o c seat note.before (ghost_at (view_of c.views seat) note) pin began inv known unspent word owned in let many = inv.sizes.words.words in omega (arith, low, many))
 
   takes_by : (ask : Ask) → KnownAt ask → IsOfferedKind note.before (kind_of (q_of o) seat ask) →
       (step : MayStep o c (view_of c.views seat) (kind_of (q_of o) seat ask) note (found_answer c.memory ask)) → TakesAsk c.memory ask

@@ -1,0 +1,2 @@
+pub mod OwnedWords
+pub mod Filling
