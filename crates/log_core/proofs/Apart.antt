@@ -1,12 +1,11 @@
 -- Words that a step of a seat leaves: those of the header, of the blocks that a kept generation names, and of other seats' blocks.
-use Rattle.std.proofs.Common.{◌≡◌, ◌≢◌, ◌<◌, ◌≤◌, ◌+◌, ◌-◌, ◌*◌, ◌/◌, ◌++◌, ◌||◌, ◌==◌, ℕ, zero, suc, Bool, true, false, List, [], ◌∷◌, drop, length, map, refl, sym, ◌∙◌, ap, subst, arith}
-use Rattle.std.specs.List.{list_any}
+use Rattle.std.proofs.Common.{◌≡◌, ◌≢◌, ◌<◌, ◌≤◌, ◌/◌, ◌++◌, ◌||◌, ◌==◌, ℕ, zero, suc, Bool, true, false, List, [], ◌∷◌, drop, length, refl, sym, ◌∙◌, ap, arith}
 use Rattle.std.proofs.lemmas.Bool.{eq-eqb}
 use Rattle.std.proofs.lemmas.Nat.{div-mul-add}
 use Rattle.std.proofs.lemmas.List.Folds.{list_any-append}
 use Rattle.persistence.specs.Memory.{Memory, cell}
-use Rattle.log_core.specs.Entries.{has, place_in, head_place, LogEntry}
-use Rattle.log_core.specs.Origin.{Origin, shape, q_of, OwnedBy, LogBlock, no_log, Generation}
+use Rattle.log_core.specs.Entries.{has, place_in, LogEntry}
+use Rattle.log_core.specs.Origin.{Origin, shape, q_of, OwnedBy, LogBlock, Generation}
 use Rattle.log_core.specs.Files.{entries}
 use Rattle.log_core.specs.Cores.{Core, nth_log, log_blocks, chain_names, data_names, is_named}
 use Rattle.log_core.specs.Order.{nth_generation}

@@ -1,5 +1,5 @@
 -- An owned block is counted as filled: what a core knows of the seat stays.
-use Rattle.std.proofs.Common.{◌≡◌, ℕ, true, refl}
+use Rattle.std.proofs.Common.{ℕ, true, refl}
 use Rattle.seat_parts.specs.Owned.{owned_at}
 use Rattle.seat_parts.specs.declared.owned.OwnedBlock.{OwnedBlock}
 use Rattle.seat_state.specs.Seats.{Seat}

@@ -1,6 +1,6 @@
 -- A fence in a call that is no sync keeps what holds of the seat's state, and leaves the others what they know.
-use Rattle.std.proofs.Common.{◌≡◌, ◌≢◌, ◌<◌, ◌≤◌, ◌+◌, ◌==◌, ◌&&◌, ◌||◌, ◌⊎◌, ⊎_elim, inl, inr, ℕ, Bool, true, false, List, [], ◌∷◌, length, map, refl, sym, ◌∙◌, ap, subst, arith, nat_lt, Option, Some, None}
-use Rattle.std.specs.List.{AllByRecursion, list_any}
+use Rattle.std.proofs.Common.{◌≡◌, ◌≢◌, ◌<◌, ◌≤◌, ◌+◌, ◌==◌, ◌&&◌, ◌||◌, ◌⊎◌, ⊎_elim, inl, inr, ℕ, Bool, true, false, List, [], ◌∷◌, length, map, refl, sym, ◌∙◌, ap, subst, arith, nat_lt, Option}
+use Rattle.std.specs.List.{list_any}
 use Rattle.std.proofs.lemmas.Bool.{eqb-true, ltb-true}
 use Rattle.log_entry.specs.Fields.{field}
 use Rattle.log_entry.specs.declared.layouts.TheConstants.{HEAD_GENERATION}
@@ -44,7 +44,7 @@ any_map f p [] = refl
 any_map f p (x ∷ xs) = ap (λ (b : Bool). p (f x) || b) (any_map f p xs)
 
 -- no position is synced but by a sync
-no_sync_fenced : (job : Task) (at_tail : Bool) (position : ℕ) (sync_to : Option ℕ) → job ≢ Sync → sync_fenced job at_tail position sync_to ≡ sync_to
+pub no_sync_fenced : (job : Task) (at_tail : Bool) (position : ℕ) (sync_to : Option ℕ) → job ≢ Sync → sync_fenced job at_tail position sync_to ≡ sync_to
 no_sync_fenced Sync at_tail position sync_to other = absurd (other refl)
 no_sync_fenced _ at_tail position sync_to other = refl
 

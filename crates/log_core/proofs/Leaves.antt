@@ -1,11 +1,9 @@
 -- What a step of a seat leaves to the others: a memory in which every word but those of the seat's own blocks keeps its values, and the
 -- owner of every block but those that the seat takes or gives back.
-use Rattle.std.proofs.Common.{◌≡◌, ◌≢◌, ◌<◌, ◌≤◌, ◌+◌, ◌*◌, ◌/◌, ◌∷◌, ◌++◌, ℕ, true, List, [], length, refl, sym, ◌∙◌, ap, subst, arith, ◌⊎◌, inl, inr, ⊎_elim, take, drop, slice_index}
-use Rattle.log_image.specs.Image.{words_in}
-use Rattle.persistence.specs.Memory.{Memory, Noted, cell, index_at, notes_of}
+use Rattle.std.proofs.Common.{◌≡◌, ◌≢◌, ◌≤◌, ◌/◌, ℕ, List, length, refl, sym, ◌∙◌, ap, arith, ◌⊎◌, inl, inr, ⊎_elim, slice_index}
+use Rattle.persistence.specs.Memory.{Memory, cell, index_at, notes_of}
 use Rattle.persistence.specs.Survivors.{value_at}
-use Rattle.log_core.specs.Entries.{has, place_in}
-use Rattle.log_core.specs.Origin.{Origin, shape, q_of, Owner, Free, Header, InChain, OwnedBy, LeftTo}
+use Rattle.log_core.specs.Origin.{Origin, q_of, Owner, Free, Header, InChain, OwnedBy, LeftTo}
 use Rattle.log_core.specs.Cores.{Core}
 use Rattle.log_core.specs.Sizes.{MemoryFits}
 use Rattle.log_core.specs.Contents.{IsStillTaken}

@@ -1,10 +1,9 @@
 -- A mark of a word of an own block keeps what holds of the seat's state, and leaves the others what they know.
-use Rattle.std.proofs.Common.{◌≡◌, ◌≢◌, ◌<◌, ◌≤◌, ◌+◌, ◌/◌, ◌++◌, ◌∷◌, ℕ, true, List, [], length, map, refl, sym, ◌∙◌, ap, subst, arith, slice_index}
+use Rattle.std.proofs.Common.{◌≡◌, ◌≢◌, ◌++◌, ◌∷◌, ℕ, List, [], length, map, refl, sym, ◌∙◌, ap, arith, slice_index}
 use Rattle.std.proofs.lemmas.List.{map_push}
-use Rattle.seat_parts.specs.declared.keeps.Task.TheVariants.{Sync}
 use Rattle.seat_state.specs.Seats.{Seat}
 use Rattle.pmem_words.specs.declared.asks.Ask.TheVariants.{Mark}
-use Rattle.persistence.specs.Memory.{Memory, Noted, Cell, cell, index_at, notes_of, values_of, memory_after}
+use Rattle.persistence.specs.Memory.{Memory, Noted, Cell, cell, notes_of, memory_after}
 use Rattle.persistence.specs.Survivors.{value_at}
 use Rattle.persistence.proofs.ValueLemmas.{index_at-now}
 use Rattle.log_core.specs.Views.{Ghost, Marked, view_of}
@@ -15,7 +14,7 @@ use Rattle.log_core.specs.Steps.{MarksWord, effect, ghost_after, stored_marked}
 use Rattle.log_core.specs.May.{IsOwnMark}
 use Rattle.log_core.specs.Invariant.{Invariant}
 use Rattle.log_core.specs.Knows.{Knows}
-use Rattle.log_core.proofs.Narrows.{Narrows, same_narrows}
+use Rattle.log_core.proofs.Narrows.{same_narrows}
 use Rattle.log_core.proofs.Leaves.{Leaves, no_changes, moved}
 use Rattle.log_core.proofs.Others.{floor_rises, unspent_made}
 use Rattle.log_core.proofs.SetBlocks.{FitsBlocks, set_blocks}

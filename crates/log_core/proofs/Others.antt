@@ -1,13 +1,11 @@
 -- What a step of a seat leaves: walks, pins and lists of blocks to give back of all seats; and of another seat its owned blocks, its marks,
 -- and what it knows of syncs.
-use Rattle.std.proofs.Common.{◌≡◌, ◌≢◌, ◌<◌, ◌≤◌, ◌+◌, ◌-◌, ◌*◌, ◌/◌, ◌==◌, ◌&&◌, ◌||◌, ◌⊎◌, inl, inr, ⊎_elim, ℕ, zero, suc, Bool, true, false, if◌then◌else◌, List, [], ◌∷◌, drop, filter, length, map, refl, sym, ◌∙◌, ap, subst, arith, slice_index}
+use Rattle.std.proofs.Common.{◌≡◌, ◌≢◌, ◌<◌, ◌≤◌, ◌+◌, ◌-◌, ◌/◌, ◌==◌, ◌&&◌, ◌||◌, inl, inr, ⊎_elim, ℕ, zero, suc, Bool, true, false, if◌then◌else◌, List, [], ◌∷◌, filter, length, map, refl, sym, ◌∙◌, ap, subst, arith}
 use Rattle.std.specs.List.{AllByRecursion, list_any}
-use Rattle.std.proofs.lemmas.Bool.{eq-eqb, eqb-true}
-use Rattle.std.proofs.lemmas.List.{get_or_default}
+use Rattle.std.proofs.lemmas.Bool.{eq-eqb}
 use Rattle.seat_parts.specs.Owned.{owned_at}
 use Rattle.seat_parts.specs.declared.owned.OwnedBlock.{OwnedBlock}
 use Rattle.seat_parts.specs.declared.keeps.KeptWord.{KeptWord}
-use Rattle.seat_parts.specs.declared.keeps.Task.TheVariants.{Sync}
 use Rattle.seat_state.specs.Seats.{Seat, Hold, Walk, Giving}
 use Rattle.persistence.specs.Memory.{Memory, Replaced, Noted, Cell, cell, index_at, notes_of}
 use Rattle.persistence.specs.Survivors.{value_at}
@@ -15,10 +13,10 @@ use Rattle.persistence.proofs.ValueLemmas.{index_at-most}
 use Rattle.log_entry.specs.Fields.{field}
 use Rattle.log_entry.specs.declared.layouts.TheConstants.{HEAD_GENERATION}
 use Rattle.log_core.specs.Entries.{has, place_in, head_place}
-use Rattle.log_core.specs.Views.{View, Ghost, Stored, Marked, view_of, spent_view}
+use Rattle.log_core.specs.Views.{View, Stored, view_of, spent_view}
 use Rattle.log_core.specs.Origin.{Origin, shape, q_of, first_generation, Owner, OwnedBy}
 use Rattle.log_core.specs.Files.{entries}
-use Rattle.log_core.specs.Cores.{Core, generation_at, is_named, current, head_floor}
+use Rattle.log_core.specs.Cores.{Core, is_named, current, head_floor}
 use Rattle.log_core.specs.Sizes.{SeatFits}
 use Rattle.log_core.specs.Works.{shape_of, words_of, owned_block}
 use Rattle.log_core.specs.Needs.{owned_numbers}

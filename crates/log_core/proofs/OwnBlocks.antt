@@ -1,5 +1,5 @@
 -- A seat that computes on its owned blocks: what is known of their words, and what a core knows of the seat.
-use Rattle.std.proofs.Common.{◌≡◌, ◌≢◌, ◌<◌, ◌≤◌, ◌+◌, ◌*◌, ◌/◌, ℕ, Bool, true, List, length, refl, sym, ◌∙◌, ap, subst, slice_index, slice_set, Option, Some}
+use Rattle.std.proofs.Common.{◌≡◌, ◌≢◌, ◌<◌, ◌+◌, ◌*◌, ℕ, true, List, length, sym, ◌∙◌, ap, subst, slice_index, slice_set, Some}
 use Rattle.std.specs.List.{AllByRecursion}
 use Rattle.std.proofs.lemmas.List.{length-set, get_or-set_same, get_or-set_other}
 use Rattle.seat_parts.specs.Owned.{owned_at}
@@ -7,10 +7,10 @@ use Rattle.seat_parts.specs.declared.owned.OwnedBlock.{OwnedBlock}
 use Rattle.seat_state.specs.Seats.{Seat, Blocks}
 use Rattle.persistence.specs.Memory.{Noted, Replaced, Cell, cell}
 use Rattle.log_core.specs.Entries.{place_in}
-use Rattle.log_core.specs.Views.{Ghost, Stored}
+use Rattle.log_core.specs.Views.{Ghost}
 use Rattle.log_core.specs.Origin.{Origin, OwnedBy}
 use Rattle.log_core.specs.Cores.{Core}
-use Rattle.log_core.specs.Works.{shape_of, words_of, owned_block, content_word, stored_at, MayCountFilled}
+use Rattle.log_core.specs.Works.{shape_of, words_of, owned_block, content_word, stored_at}
 use Rattle.log_core.specs.Needs.{owned_numbers}
 use Rattle.log_core.specs.Certain.{IsCertain}
 use Rattle.log_core.specs.Owners.{IsListOf}

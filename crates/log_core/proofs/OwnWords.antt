@@ -1,15 +1,14 @@
 -- A word of a block that a seat owns.
-use Rattle.std.proofs.Common.{◌≡◌, ◌≢◌, ◌<◌, ◌≤◌, ◌+◌, ◌*◌, ◌/◌, ℕ, true, [], length, map, refl, sym, ◌∙◌, ap, subst, arith}
+use Rattle.std.proofs.Common.{◌≡◌, ◌≢◌, ◌<◌, ◌≤◌, ◌+◌, ◌*◌, ◌/◌, ℕ, true, [], length, map, sym, ◌∙◌, ap, subst, arith}
 use Rattle.std.proofs.Math.Nat.{mul-le-mul_right, lt-div-mul-add}
-use Rattle.log_entry.specs.declared.shapes.Geometry.{Geometry}
-use Rattle.log_image.specs.Image.{Shape, total, words_in}
+use Rattle.log_image.specs.Image.{total}
 use Rattle.seat_state.specs.Seats.{Seat}
 use Rattle.persistence.specs.Memory.{Memory, Noted, cell, notes_of}
 use Rattle.log_core.specs.Entries.{has}
 use Rattle.log_core.specs.Views.{Ghost, view_of}
 use Rattle.log_core.specs.Origin.{Origin, shape, q_of, OwnedBy, Free}
 use Rattle.log_core.specs.Cores.{Core}
-use Rattle.log_core.specs.Works.{shape_of, words_of}
+use Rattle.log_core.specs.Works.{words_of}
 use Rattle.log_core.specs.Needs.{owned_numbers}
 use Rattle.log_core.specs.Records.{mark_of}
 use Rattle.log_core.specs.Invariant.{Invariant}

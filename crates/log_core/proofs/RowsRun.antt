@@ -1,6 +1,6 @@
 -- Rows of runs, of a whole step, and of splits and joins.
 use Rattle.std.proofs.Common.{◌≡◌, false, [], ◌∷◌, refl, inr, arith, ap, subst, Some}
-use Rattle.std.proofs.lemmas.Bool.{false≢true, true≢false}
+use Rattle.std.proofs.lemmas.Bool.{true≢false}
 use Rattle.log_entry.specs.declared.calls.Op.{Op}
 use Rattle.seat_parts.specs.declared.keeps.Task.TheVariants.{Pwrite}
 use Rattle.log_core.specs.Views.{op_of}

@@ -11,7 +11,7 @@ use Rattle.log_core.specs.Entries.{head_place}
 use Rattle.log_core.specs.Views.{View, view_of}
 use Rattle.log_core.specs.Origin.{Origin, q_of}
 use Rattle.log_core.specs.Cores.{Core, first_core}
-use Rattle.log_core.specs.Steps.{Note, Step, Does, Splits, Joins, Kind, LoadsHead, StoresOwnPin, LoadsPinWord, LoadsImageWord, NoKind, ExchangesHead, ExchangesLink, ExchangesSlot, kind_of, exchange_kind}
+use Rattle.log_core.specs.Steps.{Note, Step, Does, Splits, Joins, Kind, LoadsHead, StoresOwnPin, LoadsImageWord, NoKind, ExchangesHead, ExchangesLink, ExchangesSlot, kind_of, exchange_kind}
 use Rattle.log_core.specs.After.{stepped}
 use Rattle.log_core.specs.May.{IsOfferedKind}
 use Rattle.log_core.specs.Runs.{MayStep, IsRun, end, is_offered_work}

@@ -1,6 +1,6 @@
 -- The invariant stays where a step of one seat replaces its view, and changes the memory and the owners: the others are left what they
 -- know, and what has to hold of the new view does.
-use Rattle.std.proofs.Common.{◌≡◌, ◌≢◌, ◌<◌, ◌≤◌, ◌+◌, ◌-◌, ◌*◌, ◌/◌, ◌++◌, ◌∷◌, ℕ, Bool, true, nat_lt, List, [], drop, length, map, refl, sym, ◌∙◌, ap, subst, arith, inl, inr, ⊎_elim, ◌⊎◌, slice_set, slice_index}
+use Rattle.std.proofs.Common.{◌≡◌, ◌≢◌, ◌<◌, ◌≤◌, ◌+◌, ◌-◌, ℕ, true, nat_lt, List, [], length, refl, sym, ◌∙◌, ap, subst, arith, inl, inr, ⊎_elim, ◌⊎◌, slice_set, slice_index}
 use Rattle.std.specs.List.{AllByRecursion}
 use Rattle.std.proofs.lemmas.List.{length-set}
 use Rattle.log_entry.specs.declared.calls.Call.{Call}
@@ -13,7 +13,7 @@ use Rattle.log_core.specs.Files.{entries, end_of}
 use Rattle.log_core.specs.Cores.{Core, current, head_floor, nth_log, IsPinned}
 use Rattle.log_core.specs.Sizes.{Sizes, SeatFits}
 use Rattle.log_core.specs.Order.{nth_generation}
-use Rattle.log_core.specs.Owners.{BitsFit, ChainOwns, SeatOwns}
+use Rattle.log_core.specs.Owners.{BitsFit, SeatOwns}
 use Rattle.log_core.specs.Contents.{GenerationHolds}
 use Rattle.log_core.specs.Pins.{PinHolds}
 use Rattle.log_core.specs.Walks.{WalkHolds}
@@ -25,7 +25,7 @@ use Rattle.log_core.specs.Invariant.{Invariant, KeptIn, around, names_by, Order,
 use Rattle.log_core.specs.Knows.{with_seat, Knows}
 use Rattle.log_core.proofs.OneView.{each_set, parts_set, collected_set, all_set, all_at}
 use Rattle.log_core.proofs.Heads.{kept_place}
-use Rattle.log_core.proofs.Narrows.{Narrows, heads_narrow, log_narrows, recorded_narrow, synced_narrows, was_head_narrows}
+use Rattle.log_core.proofs.Narrows.{heads_narrow, log_narrows, recorded_narrow, synced_narrows}
 use Rattle.log_core.proofs.Leaves.{Leaves, Changes, moved, owner_was, owner_is, list_stays, still_taken, chain_apart, left_apart, others_apart}
 use Rattle.log_core.proofs.Apart.{header_cells, named_cells, log_cells, data_is_named}
 use Rattle.log_core.proofs.Others.{walk_left, pin_kept, floor_rises, pin_left, giving_left, owned_left, marks_left, sync_left}

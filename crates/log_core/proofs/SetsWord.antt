@@ -1,5 +1,5 @@
 -- A word of an owned block is set: what a core knows of the seat stays.
-use Rattle.std.proofs.Common.{◌≡◌, ◌≢◌, ◌<◌, ◌+◌, ◌*◌, ◌/◌, ℕ, true, false, List, length, refl, sym, ◌∙◌, ap, subst, slice_index, slice_set}
+use Rattle.std.proofs.Common.{◌≡◌, ◌≢◌, ◌<◌, ◌+◌, ◌*◌, ◌/◌, ℕ, false, List, length, refl, sym, ◌∙◌, ap, subst, slice_set}
 use Rattle.std.proofs.lemmas.List.{length-set, get_or-set_same, get_or-set_other, set-set}
 use Rattle.std.proofs.lemmas.Nat.{div-mul-add}
 use Rattle.seat_parts.specs.Owned.{owned_at, with_filled, with_fenced}

@@ -4,20 +4,20 @@ use Rattle.std.specs.List.{list_all}
 use Rattle.std.proofs.lemmas.List.{get_or-set_same, get_or-set_other, length-set, set-get_or}
 use Rattle.log_entry.specs.declared.calls.Op.{Op}
 use Rattle.log_entry.specs.declared.calls.Call.{Call}
+use Rattle.seat_parts.specs.declared.keeps.Task.TheVariants.{Sync}
 use Rattle.seat_state.specs.Seats.{Seat}
 use Rattle.pmem_words.specs.declared.asks.Place.TheVariants.{Image, Pin, Map}
-use Rattle.pmem_words.specs.declared.asks.Ask.{Ask}
 use Rattle.pmem_words.specs.declared.asks.Ask.TheVariants.{Load, Store, SetBits, ClearBits, Mark, Fence}
 use Rattle.persistence.specs.Memory.{Memory, memory_after}
 use Rattle.log_core.specs.Entries.{head_place}
-use Rattle.log_core.specs.Views.{View, Ghost, view_of, op_in}
+use Rattle.log_core.specs.Views.{View, view_of, op_in}
 use Rattle.log_core.specs.Origin.{Origin, shape, Owner}
 use Rattle.log_core.specs.Files.{end_of}
 use Rattle.log_core.specs.Cores.{Core}
 use Rattle.log_core.specs.Owners.{BitsFit}
 use Rattle.log_core.specs.Works.{ended}
 use Rattle.log_core.specs.Steps.{Note, Kind, LoadsHead, StoresOwnPin, LoadsPinWord, LoadsBitmapWord, SetsBits, ClearsBits, StoresWord, MarksWord, Fences, is_begun, is_of_owned, ghost_begun, ghost_ended, view_after}
-use Rattle.log_core.specs.After.{stepped, began_if, owner_after}
+use Rattle.log_core.specs.After.{stepped, began_if, owner_after, synced_to, synced_after}
 use Rattle.log_core.specs.May.{IsOwnMark}
 use Rattle.log_core.specs.Runs.{MayNumber, MayStep, ghost_at, effect_at, ghost_left, is_offered_work}
 use Rattle.log_core.specs.Invariant.{Invariant}
@@ -33,6 +33,8 @@ use Rattle.log_core.proofs.LoadsBitmapWord.{map_leaves, map_bits, map_facts}
 use Rattle.log_core.proofs.SetsBits.{sets_leaves, sets_changes, sets_bits, sets_facts}
 use Rattle.log_core.proofs.ClearsBits.{clears_leaves, clears_changes, clears_bits, clears_facts}
 use Rattle.log_core.proofs.StoresWord.{store_leaves, store_word_facts}
+use Rattle.log_core.proofs.MarksWord.{mark_leaves, mark_word_facts}
+use Rattle.log_core.proofs.Fences.{no_sync_fenced, fence_leaves, fence_facts}
 
 began_length : (b : Bool) (began : List ℕ) (n end : ℕ) → length (began_if b began n end) ≡ length began
 began_length true began n end = length-set began n end
@@ -180,3 +182,28 @@ module _ (o : Origin) (c : Core) (n : ℕ) (inv : Invariant o c) (here : n < len
       kind_holds (StoresWord word value) 0 step before later no_record (memory_after c.memory n (Store (Image word) value)) c.owner
       (store_leaves o c n note.before (ghost_at mine note) (slice_index c.memory.now.pins n) (slice_index began n) word value inv asked unspent step.may) (no_changes c n) inv.owners.bits
       (store_word_facts o c n note.before (ghost_at mine note) (slice_index c.memory.now.pins n) (slice_index began n) word value inv asked unspent step.may 0))
+
+  -- a mark of a word of an owned block
+  pub mark_holds : (word : ℕ) → IsOwnMark note.before word → Keeps (MarksWord word) (slice_index c.memory.now.words word) (Invariant o (stepped o c n (Mark word) note (MarksWord word) (slice_index c.memory.now.words word)))
+  mark_holds word own step before later no_record =
+      (let f = slice_index c.memory.now.words word in
+      let asked = at_ask (MarksWord word) f step before later no_record in
+      kind_holds (MarksWord word) f step before later no_record (memory_after c.memory n (Mark word)) c.owner
+      (mark_leaves o c n note.before (ghost_at mine note) (slice_index c.memory.now.pins n) (slice_index began n) word f inv asked unspent own refl) (no_changes c n) inv.owners.bits
+      (mark_word_facts o c n note.before (ghost_at mine note) (slice_index c.memory.now.pins n) (slice_index began n) word f inv asked unspent own refl))
+
+  -- a fence in a call that is no sync
+  pub fence_holds : note.before.calling.job ≢ Sync → Keeps Fences 0 (Invariant o (stepped o c n Fence note Fences 0))
+  fence_holds no_sync step before later no_record =
+      (let asked = at_ask Fences 0 step before later no_record in
+      subst (λ (synced : ℕ). Invariant o (record c { memory = memory_after c.memory n Fence; views = slice_set c.views n (view_after mine Fences note 0); synced = synced; began = began })) (sym (synced_same no_sync))
+      (kind_holds Fences 0 step before later no_record (memory_after c.memory n Fence) c.owner
+      (fence_leaves o c n note.before (ghost_at mine note) (slice_index c.memory.now.pins n) (slice_index began n) inv asked no_sync) (no_changes c n) inv.owners.bits
+      (fence_facts o c n note.before (ghost_at mine note) (slice_index c.memory.now.pins n) (slice_index began n) inv asked no_sync 0)))
+    where
+      same_to : (to : Option ℕ) → synced_to c.synced to to ≡ c.synced
+      same_to None = refl
+      same_to (Some position) = refl
+
+      synced_same : note.before.calling.job ≢ Sync → synced_after c.synced note Fences ≡ c.synced
+      synced_same other = ap (synced_to c.synced note.before.calling.sync_to) (no_sync_fenced note.before.calling.job note.before.walk.at_tail note.before.walk.position note.before.calling.sync_to other) ∙ same_to note.before.calling.sync_to

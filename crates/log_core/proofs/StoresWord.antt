@@ -1,15 +1,14 @@
 -- A store into a word of an own block keeps what holds of the seat's state, and leaves the others what they know.
-use Rattle.std.proofs.Common.{◌≡◌, ◌≢◌, ◌<◌, ◌≤◌, ◌+◌, ◌/◌, ◌++◌, ◌∷◌, ℕ, true, List, [], length, refl, sym, ◌∙◌, ap, subst, arith, slice_index}
-use Rattle.std.specs.List.{AllByRecursion}
+use Rattle.std.proofs.Common.{◌≡◌, ◌≢◌, ◌≤◌, ◌++◌, ◌∷◌, ℕ, List, [], length, refl, sym, ◌∙◌, ap, subst, arith}
 use Rattle.std.proofs.lemmas.List.{get_or_append_left}
-use Rattle.seat_state.specs.Seats.{Seat, Blocks}
+use Rattle.seat_state.specs.Seats.{Seat}
 use Rattle.pmem_words.specs.declared.asks.Place.TheVariants.{Image}
 use Rattle.pmem_words.specs.declared.asks.Ask.TheVariants.{Store}
 use Rattle.persistence.specs.Memory.{Memory, Noted, Cell, cell, index_at, notes_of, memory_after}
 use Rattle.persistence.specs.Steps.{grown}
 use Rattle.persistence.specs.Survivors.{value_at}
 use Rattle.log_core.specs.Views.{Ghost, view_of}
-use Rattle.log_core.specs.Origin.{Origin, q_of, OwnedBy}
+use Rattle.log_core.specs.Origin.{Origin, OwnedBy}
 use Rattle.log_core.specs.Cores.{Core}
 use Rattle.log_core.specs.Owners.{IsListOf}
 use Rattle.log_core.specs.Steps.{StoresWord, effect, ghost_after, stored_with}
@@ -17,12 +16,12 @@ use Rattle.log_core.specs.May.{MayStoreWord}
 use Rattle.log_core.specs.Invariant.{Invariant}
 use Rattle.log_core.specs.Knows.{Knows}
 use Rattle.log_core.proofs.Each.{each_weaker}
-use Rattle.log_core.proofs.Narrows.{Narrows, same_narrows}
+use Rattle.log_core.proofs.Narrows.{same_narrows}
 use Rattle.log_core.proofs.Leaves.{Leaves, no_changes, moved}
 use Rattle.log_core.proofs.Others.{notes_early, floor_rises}
 use Rattle.log_core.proofs.SetBlocks.{FitsBlocks, set_blocks}
 use Rattle.log_core.proofs.MemoryMoves.{stored_other, stored_here, stored_times, stored_fits}
-use Rattle.log_core.proofs.OwnWords.{word_owner, word_inside, other_word, own_marks}
+use Rattle.log_core.proofs.OwnWords.{word_inside, other_word, own_marks}
 use Rattle.log_core.proofs.OneView.{same_or_other}
 use Rattle.log_core.proofs.OwnedStored.{stored_seat, owned_stored, stored_numbers}
 

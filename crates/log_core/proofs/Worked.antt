@@ -1,5 +1,5 @@
 -- What a core knows of a seat stays where the seat computes, before a step and after it.
-use Rattle.std.proofs.Common.{◌≡◌, ◌≢◌, ◌<◌, ◌&&◌, ℕ, Bool, true, false, List, [], ◌∷◌, refl, sym, ◌∙◌, ap, subst, slice_index, Option, Some, None}
+use Rattle.std.proofs.Common.{◌≡◌, ◌≢◌, ◌<◌, ◌&&◌, ℕ, Bool, true, false, List, [], ◌∷◌, refl, ◌∙◌, ap, subst, slice_index, Option, Some, None}
 use Rattle.std.specs.List.{list_all}
 use Rattle.log_entry.specs.declared.calls.Op.{Op}
 use Rattle.seat_parts.specs.declared.keeps.Task.{Task}
