@@ -40,3 +40,8 @@ any_same f g (x ∷ xs) same = ap (λ (b : Bool). b || list_any f xs) same.0 ∙
 pub each_map : {X Y : Type 0} (P : Y → Type 0) (f : X → Y) (xs : List X) → AllByRecursion (λ (x : X). P (f x)) xs → AllByRecursion P (map f xs)
 each_map P f [] all = tt
 each_map P f (x ∷ xs) all = (all.0, each_map P f xs all.1)
+
+-- two functions that agree at each element
+pub map_same : {X Y : Type 0} (f g : X → Y) (xs : List X) → AllByRecursion (λ (x : X). f x ≡ g x) xs → map f xs ≡ map g xs
+map_same f g [] same = refl
+map_same {X} {Y} f g (x ∷ xs) same = ap (λ (y : Y). y ∷ map f xs) same.0 ∙ ap (λ (ys : List Y). g x ∷ ys) (map_same f g xs same.1)

@@ -1,7 +1,7 @@
 -- What a step of a seat leaves: walks, pins and lists of blocks to give back of all seats; and of another seat its owned blocks, its marks,
 -- and what it knows of syncs.
-use Rattle.std.proofs.Common.{◌≡◌, ◌≢◌, ◌<◌, ◌≤◌, ◌+◌, ◌-◌, ◌/◌, ◌==◌, ◌&&◌, ◌||◌, inl, inr, ⊎_elim, ℕ, zero, suc, Bool, true, false, if◌then◌else◌, List, [], ◌∷◌, filter, length, map, refl, sym, ◌∙◌, ap, subst, arith}
-use Rattle.std.specs.List.{AllByRecursion, list_any}
+use Rattle.std.proofs.Common.{◌≡◌, ◌≢◌, ◌<◌, ◌≤◌, ◌+◌, ◌-◌, ◌/◌, ◌==◌, ◌||◌, inl, inr, ⊎_elim, ℕ, zero, suc, Bool, true, false, List, [], ◌∷◌, length, map, refl, sym, ◌∙◌, ap, subst, arith}
+use Rattle.std.specs.List.{AllByRecursion}
 use Rattle.std.proofs.lemmas.Bool.{eq-eqb}
 use Rattle.seat_parts.specs.Owned.{owned_at}
 use Rattle.seat_parts.specs.declared.owned.OwnedBlock.{OwnedBlock}
@@ -24,35 +24,16 @@ use Rattle.log_core.specs.Order.{nth_generation}
 use Rattle.log_core.specs.Pins.{PinHolds}
 use Rattle.log_core.specs.Walks.{WalkHolds, IsKeptWord}
 use Rattle.log_core.specs.Giving.{GivingHolds}
-use Rattle.log_core.specs.Owned.{OwnedHold, StoredHolds, IsMarkedNow, is_of_present}
+use Rattle.log_core.specs.Owned.{OwnedHold, StoredHolds, IsMarkedNow}
 use Rattle.log_core.specs.Records.{MarksFit, mark_of}
 use Rattle.log_core.specs.Synced.{SyncHolds, SyncMarkHolds}
 use Rattle.log_core.specs.Invariant.{Invariant, KeptIn, around, names_by}
 use Rattle.log_core.proofs.Heads.{kept_place}
 use Rattle.log_core.proofs.Narrows.{Narrows, certain_narrows, was_head_narrows}
 use Rattle.log_core.proofs.Leaves.{Leaves, others_apart}
+use Rattle.log_core.proofs.Each.{each_weaker, each_filter, map_same}
+use Rattle.log_core.proofs.MarkedNow.{marked_now_narrows}
 use Rattle.log_core.proofs.Apart.{header_cells, block_cells, named_apart, named_cells}
-
--- a fact of each item gives another
-pub all_to : {X : Type 0} (P Q : X → Type 0) → ((x : X) → P x → Q x) → (xs : List X) → AllByRecursion P xs → AllByRecursion Q xs
-all_to P Q to [] all = tt
-all_to P Q to (x ∷ xs) all = (to x all.0, all_to P Q to xs all.1)
-
-pub all_filter : {X : Type 0} (P : X → Type 0) (f : X → Bool) (xs : List X) → AllByRecursion P xs → AllByRecursion P (filter f xs)
-all_filter P f [] all = tt
-all_filter P f (x ∷ xs) all = by (f x) (all_filter P f xs all.1)
-  where
-    by : (b : Bool) → AllByRecursion P (filter f xs) → AllByRecursion P (if b then x ∷ filter f xs else filter f xs)
-    by true rest = (all.0, rest)
-    by false rest = rest
-
-any_same : {X : Type 0} (f h : X → Bool) (xs : List X) → AllByRecursion (λ (x : X). f x ≡ h x) xs → list_any f xs ≡ list_any h xs
-any_same f h [] all = refl
-any_same f h (x ∷ xs) all = ap (λ (b : Bool). b || list_any f xs) all.0 ∙ ap (λ (b : Bool). h x || b) (any_same f h xs all.1)
-
-pub map_same : {X Y : Type 0} (f h : X → Y) (xs : List X) → AllByRecursion (λ (x : X). f x ≡ h x) xs → map f xs ≡ map h xs
-map_same f h [] all = refl
-map_same f h (x ∷ xs) all = ap (λ (y : _). y ∷ map f xs) all.0 ∙ ap (λ (ys : List _). h x ∷ ys) (map_same f h xs all.1)
 
 -- an owned block is among the owned
 pub owned_listed : (owned : List OwnedBlock) (place : ℕ) → place < length owned → has (owned_numbers owned) (owned_at owned place).block ≡ true
@@ -72,8 +53,9 @@ unspent_made (v ∷ views) (suc k) unspent = (let less = unspent_made views k un
 
 -- the marks of a seat are as early as the memory's
 pub notes_early : (o : Origin) (c : Core) (k : ℕ) → Invariant o c → AllByRecursion (λ (note : Noted). note.time ≤ length c.memory.past) (notes_of k c.memory.notes)
-notes_early o c k inv = all_filter (λ (note : Noted). note.time ≤ length c.memory.past) (λ (note : Noted). note.seat == k) c.memory.notes
-    (all_to (λ (note : Noted). (note.seat < length c.views) × (note.word < length o.words) × (note.time ≤ length c.memory.past)) (λ (note : Noted). note.time ≤ length c.memory.past) (λ note fits. fits.2) c.memory.notes inv.sizes.words.notes)
+notes_early o c k inv = each_filter (λ (note : Noted). note.time ≤ length c.memory.past) (λ (note : Noted). note.seat == k) c.memory.notes
+    (each_weaker (λ (note : Noted). (note.seat < length c.views) × (note.word < length o.words) × (note.time ≤ length c.memory.past)) (λ (note : Noted). (note.seat == k) ≡ true → note.time ≤ length c.memory.past) c.memory.notes
+    (λ note fits own. fits.2) inv.sizes.words.notes)
 
 module _ (o : Origin) (c : Core) (n : ℕ) (m : Memory) (inv : Invariant o c) (leaves : Leaves o c n m) where
   -- a kept word of a named block
@@ -95,7 +77,7 @@ module _ (o : Origin) (c : Core) (n : ℕ) (m : Memory) (inv : Invariant o c) (l
     from_first = r.from_first;
     to_current = r.to_current;
     read = λ reading kept. r.read reading (kept_before (w.reading_generation - first_generation o) kept);
-    kept_words = λ valid. all_to _ _ (kept_left (h.generation - first_generation o) _ (pinned valid)) w.kept (r.kept_words valid);
+    kept_words = λ valid. each_weaker _ _ w.kept (kept_left (h.generation - first_generation o) _ (pinned valid)) (r.kept_words valid);
     unpinned = r.unpinned;
     walked = r.walked;
     ready_walked = r.ready_walked;
@@ -139,22 +121,10 @@ module _ (o : Origin) (c : Core) (n : ℕ) (m : Memory) (inv : Invariant o c) (l
   mine_cells k word other owned = leaves.cells word (λ mine. (others_apart n k other).other (sym ((inv.owners.seats k).owned.listed (word / q_of o) owned) ∙ mine))
 
   -- a mark of the present value stays one
-  present_left : (k word : ℕ) → k ≢ n → Narrows (cell c.memory word) (cell m word) →
-      list_any (λ (note : Noted). is_of_present (λ w. cell c.memory w) c.memory.past word note) (notes_of k c.memory.notes) ≡ true →
-      list_any (λ (note : Noted). is_of_present (λ w. cell m w) m.past word note) (notes_of k m.notes) ≡ true
-  present_left k word other narrows marked =
-      ap (λ (notes : List Noted). list_any (λ (note : Noted). is_of_present (λ w. cell m w) m.past word note) notes) (leaves.notes k other)
-      ∙ (any_same (λ (note : Noted). is_of_present (λ w. cell m w) m.past word note) (λ (note : Noted). is_of_present (λ w. cell c.memory w) c.memory.past word note) (notes_of k c.memory.notes)
-      (all_to (λ (note : Noted). note.time ≤ length c.memory.past) (λ (note : Noted). is_of_present (λ w. cell m w) m.past word note ≡ is_of_present (λ w. cell c.memory w) c.memory.past word note) same (notes_of k c.memory.notes) (notes_early o c k inv))
-      ∙ marked)
-    where
-      same : (note : Noted) → note.time ≤ length c.memory.past → ((note.word == word) && (index_at m.past note.time word == length (cell m word).past)) ≡ ((note.word == word) && (index_at c.memory.past note.time word == length (cell c.memory word).past))
-      same note early = ap (λ (at : ℕ). (note.word == word) && (at == length (cell m word).past)) (leaves.times note.time word early)
-          ∙ ap (λ (past : List ℕ). (note.word == word) && (index_at c.memory.past note.time word == length past)) narrows.past
-
   marked_left : (k word : ℕ) → k ≢ n → Narrows (cell c.memory word) (cell m word) → IsMarkedNow (λ w. cell c.memory w) c.memory.past c.memory.notes k word → IsMarkedNow (λ w. cell m w) m.past m.notes k word
-  marked_left k word other narrows (inl floor) = inl (let up = narrows.floor in let inside = narrows.inside in let long = ap length narrows.past in omega (arith, floor, up, inside, long))
-  marked_left k word other narrows (inr marked) = inr (present_left k word other narrows marked)
+  marked_left k word other narrows marked = marked_now_narrows (λ w. cell c.memory w) (λ w. cell m w) c.memory.past m.past c.memory.notes m.notes k word narrows (leaves.notes k other)
+      (each_weaker (λ (note : Noted). note.time ≤ length c.memory.past) (λ (note : Noted). index_at m.past note.time word ≡ index_at c.memory.past note.time word) (notes_of k c.memory.notes)
+      (λ note early. leaves.times note.time word early) (notes_early o c k inv)) marked
 
   stored_left : (k : ℕ) → k ≢ n → (stored : Stored) →
       StoredHolds (λ word. cell c.memory word) c.memory.past c.memory.notes k (q_of o) (owned_numbers (view_of c.views k).seat.blocks.owned) stored →
@@ -173,7 +143,7 @@ module _ (o : Origin) (c : Core) (n : ℕ) (m : Memory) (inv : Invariant o c) (l
     contents = r.contents;
     areas = r.areas;
     stored = subst (λ (q : ℕ). AllByRecursion (StoredHolds (λ word. cell m word) m.past m.notes k q (owned_numbers (view_of c.views k).seat.blocks.owned)) (view_of c.views k).ghost.stored) (sym words)
-        (all_to _ _ (stored_left k other) (view_of c.views k).ghost.stored
+        (each_weaker _ _ (view_of c.views k).ghost.stored (stored_left k other)
         (subst (λ (q : ℕ). AllByRecursion (StoredHolds (λ word. cell c.memory word) c.memory.past c.memory.notes k q (owned_numbers (view_of c.views k).seat.blocks.owned)) (view_of c.views k).ghost.stored) words r.stored));
     filled = r.filled;
     fenced = λ place word inside fenced less. certain_narrows _ _ _ (cells_of place word inside (subst (λ (q : ℕ). word < q) words less)) (r.fenced place word inside fenced less);
@@ -214,7 +184,7 @@ module _ (o : Origin) (c : Core) (n : ℕ) (m : Memory) (inv : Invariant o c) (l
   marks_left k other fit = fit
       ∙ sym (ap (λ (notes : List Noted). map (mark_of (λ word. cell m word) m.past) notes) (leaves.notes k other)
       ∙ map_same (mark_of (λ word. cell m word) m.past) (mark_of (λ word. cell c.memory word) c.memory.past) (notes_of k c.memory.notes)
-      (all_to (λ (note : Noted). note.time ≤ length c.memory.past) (λ (note : Noted). mark_of (λ word. cell m word) m.past note ≡ mark_of (λ word. cell c.memory word) c.memory.past note) mark_same (notes_of k c.memory.notes) (notes_early o c k inv)))
+      (each_weaker (λ (note : Noted). note.time ≤ length c.memory.past) (λ (note : Noted). mark_of (λ word. cell m word) m.past note ≡ mark_of (λ word. cell c.memory word) c.memory.past note) (notes_of k c.memory.notes) mark_same (notes_early o c k inv)))
 
   -- a mark of a running sync of any seat, where its generation is kept
   pub sync_mark_left : (place generation : ℕ) → generation ≡ first_generation o + place → KeptIn o c place → (note : Noted) → note.time ≤ length c.memory.past →

@@ -14,8 +14,8 @@ use Rattle.log_core.specs.Records.{mark_of}
 use Rattle.log_core.specs.Invariant.{Invariant}
 use Rattle.log_core.specs.Knows.{Knows}
 use Rattle.log_core.proofs.Leaves.{Leaves}
-use Rattle.log_core.proofs.Others.{map_same, mark_same, notes_early}
-use Rattle.log_core.proofs.Each.{each_weaker}
+use Rattle.log_core.proofs.Others.{mark_same, notes_early}
+use Rattle.log_core.proofs.Each.{each_weaker, map_same}
 
 -- a word is in the image where its block is
 pub word_below : (q blocks word : ℕ) → 0 < q → word / q < blocks → word < blocks * q

@@ -18,7 +18,7 @@ use Rattle.log_core.specs.Needs.{owned_numbers}
 use Rattle.log_core.specs.Steps.{area_of, taken_block}
 use Rattle.log_core.specs.Owned.{StoredHolds, OwnedHold}
 use Rattle.log_core.proofs.BlockLists.{numbers_taken}
-use Rattle.log_core.proofs.Others.{all_to}
+use Rattle.log_core.proofs.Each.{each_weaker}
 use Rattle.log_core.proofs.OwnedPlaces.{owning, SamePlace, IsNewPlace, PlacesFit, owned_stays}
 
 -- blocks that are taken are in their areas, and neither filled nor fenced
@@ -54,14 +54,14 @@ module _ (cells : ℕ → Cell) (past : List Replaced) (notes : List Noted) (n :
       ∙ ap (λ (m : ℕ). m * words_of s) (sym (length-append s.blocks.owned (map (taken_block (shape_of s)) blocks) ∙ ap (λ (m : ℕ). length s.blocks.owned + m) (length-map blocks (taken_block (shape_of s))))))))
 
   stored_taken : AllByRecursion (StoredHolds cells past notes n (words_of s) (owned_numbers (blocks_taken s blocks found).owned)) h.stored
-  stored_taken = rw same (all_to (StoredHolds cells past notes n (words_of s) (owned_numbers s.blocks.owned)) (StoredHolds cells past notes n (words_of s) (owned_numbers (blocks_taken s blocks found).owned))
+  stored_taken = rw same (each_weaker (StoredHolds cells past notes n (words_of s) (owned_numbers s.blocks.owned)) (StoredHolds cells past notes n (words_of s) (owned_numbers (blocks_taken s blocks found).owned)) g.stored
       (λ stored holds. record {
         mine = ap (λ (l : List ℕ). has l (stored.word / words_of s)) (numbers_taken (shape_of s) s.blocks.owned blocks)
             ∙ (list_any-append (λ (other : ℕ). other == stored.word / words_of s) (owned_numbers s.blocks.owned) blocks
             ∙ or_left (has (owned_numbers s.blocks.owned) (stored.word / words_of s)) (has blocks (stored.word / words_of s)) holds.mine);
         present = holds.present;
         marked = holds.marked;
-      }) g.stored old.stored)
+      }) old.stored)
 
   places_taken : PlacesFit s (blocks_taken s blocks found) g.stored h.stored
   places_taken place inside = go (cases_lt place (length s.blocks.owned))
