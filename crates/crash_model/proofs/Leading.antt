@@ -204,3 +204,11 @@ module _ {M Out : Type 0} (script : Script M Out) (w : WorldNow) (seat : ℕ) (m
     marks = λ other apart. others_marks w.cells.memory seat other (script.asks m (seat_of w seat)) apart;
     may = λ may. subst (λ (s : Seat). May seat s) (sym told_seat) (keeps may);
   }
+
+-- a turn of a machine that leaves the seat its view's state at its end: it is a turn, and after the last one each seat is at rest
+module _ {M Out : Type 0} (script : Script M Out) (w : WorldNow) (seat : ℕ) (m : M) (led : IsLed seat script no_record (λ out t v. HasLeft out t v) m w) where
+  pub turn_led : (May : ℕ → Seat → Type 0) → 0 < w.cells.room → (May seat (seat_of w seat) → May seat (told_in script w seat m).seat) → IsTurnOf May w (turned script w seat m) seat
+  turn_led May some keeps = is_turn script w seat m (inside_led seat script no_record (λ out t v. HasLeft out t v) m w led) May some keeps
+
+  pub rests_led : (out : Out) → (told_in script w seat m).turn ≡ Done out → IsResting (turned script w seat m)
+  rests_led out done = rests_ended seat (λ out t v. HasLeft out t v) out (turned script w seat m) (left_all out) (ends_led seat script no_record (λ out t v. HasLeft out t v) m w out led done)
