@@ -1,9 +1,12 @@
-//! How a seat fills the blocks that it has taken, and gives blocks back, and how a task begins.
+//! How a seat takes free blocks of an area, fills blocks that it owns, and gives blocks back.
 #![tactic(auto)]
 
 pub mod begin;
 pub mod fill;
+pub mod give;
+pub mod given;
 pub mod words;
 
 pub use begin::begin_alone;
 pub use fill::Fill;
+pub use give::{Give, GiveFrom};
