@@ -4,3 +4,4 @@ pub mod GivenBits
 pub mod BitsIn
 pub mod Giving
 pub mod GiveLowering
+pub mod Filled
