@@ -1,2 +1,4 @@
 pub mod BlockWords
 pub mod OwnedFlags
+pub mod FillOverPlain
+pub mod FillSteps

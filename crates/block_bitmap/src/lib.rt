@@ -1,12 +1,14 @@
 //! How a seat takes free blocks of an area, fills blocks that it owns, and gives blocks back.
 #![tactic(auto)]
 
+pub mod alone;
 pub mod begin;
 pub mod fill;
 pub mod give;
 pub mod given;
 pub mod words;
 
+pub use alone::fill_alone;
 pub use begin::begin_alone;
 pub use fill::Fill;
 pub use give::{Give, GiveFrom};
