@@ -5,3 +5,4 @@ pub mod BitsIn
 pub mod Giving
 pub mod GiveLowering
 pub mod Filled
+pub mod Given
