@@ -67,6 +67,7 @@ pub mod RowsWorks
 pub mod RowsRefused
 pub mod RowsWrong
 pub mod RowsGaps
+pub mod RowsClauses
 pub mod RowsMay
 pub mod RowsOrder
 pub mod RowsViews

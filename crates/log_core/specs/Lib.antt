@@ -31,4 +31,5 @@ pub mod Within
 pub mod Samples
 pub mod Rows
 pub mod Refused
+pub mod Gaps
 pub mod Accepted
