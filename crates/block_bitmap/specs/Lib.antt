@@ -1,0 +1,3 @@
+pub mod TakeBits
+pub mod TakeScript
+pub mod TakeLowering
