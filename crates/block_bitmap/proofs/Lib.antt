@@ -1,0 +1,3 @@
+pub mod TakeRanges
+pub mod TakeWords
+pub mod TakeLowest

@@ -1,3 +1,4 @@
 pub mod TakeBits
 pub mod TakeScript
+pub mod TakeLists
 pub mod TakeLowering
