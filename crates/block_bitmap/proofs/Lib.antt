@@ -1,3 +1,5 @@
 pub mod TakeRanges
 pub mod TakeWords
 pub mod TakeLowest
+pub mod TakeChosen
+pub mod TakeSteps

@@ -1,13 +1,13 @@
 -- The lowest bit of a word, and the blocks of the others.
-use Rattle.std.proofs.Common.{◌≡◌, ◌≢◌, ◌<◌, ◌≤◌, ◌+◌, ◌-◌, ◌*◌, ◌/◌, ◌%◌, ◌^◌, ◌==◌, ◌&&◌, max, ℕ, zero, suc, Bool, true, false, List, [], ◌∷◌, ◌++◌, length, refl, sym, ap, ◌∙◌, subst, arith}
-use Rattle.std.specs.Prelude.{filter, take, bit_and, bit_or}
+use Rattle.std.proofs.Common.{◌≡◌, ◌≢◌, ◌<◌, ◌≤◌, ◌+◌, ◌-◌, ◌*◌, ◌%◌, ◌^◌, ◌==◌, ℕ, true, false, [], ◌∷◌, ap, ◌∙◌, arith}
+use Rattle.std.specs.Prelude.{bit_and, bit_or}
 use Rattle.std.specs.Int.{bit_at, trailing_zeros}
 use mir.Syntax.{w64}
 use Rattle.std.proofs.lemmas.Bool.{eq-eqb, ne_eqb}
 use Rattle.std.proofs.lemmas.Nat.Bits.{bit_at-zero, bit_at_or, bit_at-trailing_zeros, bit_at_clear_same, bit_at_clear_other, same_from_bits}
 use Rattle.std.proofs.Math.Pow.{pow_mono}
-use Rattle.block_bitmap.specs.TakeBits.{blocks_of_word, blocks_in, bits_of}
-use Rattle.block_bitmap.proofs.TakeRanges.{agree, first_passes, none_pass}
+use Rattle.block_bitmap.specs.TakeBits.{blocks_of_word, blocks_in}
+use Rattle.block_bitmap.proofs.TakeRanges.{first_passes, none_pass}
 
 -- no bit, no block
 pub none_in : (word : ℕ) → blocks_in word 0 ≡ []
@@ -54,7 +54,7 @@ module _ (word bits : ℕ) (some : 0 < bits) (small : bits < 2 ^ 64) where
 
   -- and that bit is the block's
   pub lowest_bit : 2 ^ ((word * 64 + lowest) % 64) ≡ bit_of_lowest bits
-  lowest_bit = (let inside = lowest_inside in let below : 2 ^ lowest ≤ 2 ^ 63 = pow_mono (omega (arith, inside)) in ap (λ (n : ℕ). 2 ^ n) (place_of word lowest lowest_inside) ∙ omega (arith, below))
+  lowest_bit = (let inside = lowest_inside in let most : lowest ≤ 63 = omega (arith, inside) in let below : 2 ^ lowest ≤ 2 ^ 63 = pow_mono most in ap (λ (n : ℕ). 2 ^ n) (place_of word lowest lowest_inside) ∙ omega (arith, below))
 
 -- bits that are put together
 pub or_zero : (a : ℕ) → bit_or a 0 ≡ a

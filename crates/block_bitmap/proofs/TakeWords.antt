@@ -1,6 +1,6 @@
 -- The bits of an area's blocks in a word.
-use Rattle.std.proofs.Common.{◌≡◌, ◌≢◌, ◌<◌, ◌≤◌, ◌+◌, ◌-◌, ◌*◌, ◌/◌, ◌%◌, ◌^◌, ◌==◌, ◌&&◌, ◌⊎◌, inl, inr, min, max, ℕ, zero, suc, Bool, true, false, cond, nat_lt, nat_le, List, [], ◌∷◌, ◌++◌, length, refl, sym, ap, ◌∙◌, subst, arith}
-use Rattle.std.specs.Prelude.{filter, bit_and, bit_or}
+use Rattle.std.proofs.Common.{◌≡◌, ◌<◌, ◌≤◌, ◌+◌, ◌-◌, ◌*◌, ◌%◌, ◌^◌, ◌==◌, ◌&&◌, ◌⊎◌, inl, inr, min, ℕ, true, nat_lt, nat_le, sym, ap, ◌∙◌, arith}
+use Rattle.std.specs.Prelude.{bit_and}
 use Rattle.std.specs.Int.{bit_at}
 use mir.Syntax.{w64}
 use Rattle.std.proofs.Math.Pow.{pow_mono}
@@ -57,6 +57,7 @@ bit_between lo hi i is = (low (cases_lt i lo), high (cases_lt i hi))
     low : (i < lo) ⊎ (lo ≤ i) → lo ≤ i
     low (inl before) = (let none = bit_at_mask_below lo hi i before in absurd (omega (arith, is, none)))
     low (inr after) = after
+
     high : (i < hi) ⊎ (hi ≤ i) → i < hi
     high (inl before) = before
     high (inr after) = (let none = bit_at_mask_above lo hi i after in absurd (omega (arith, is, none)))
@@ -99,7 +100,9 @@ open_is g area word known small =
   where
     first : ℕ
     first = first_of g area
+
     end : ℕ
     end = first_of g area + count_of g area
+
     bits : ℕ
     bits = bit_and (2 ^ min (first_of g area + count_of g area - word * 64) 64 - 1 - (2 ^ min (first_of g area - word * 64) 64 - 1)) (2 ^ 64 - 1 - known)

@@ -1,9 +1,9 @@
 -- Each answer after which taking goes on lowers the measure.
-use Rattle.std.specs.Prelude.{ℕ, zero, suc, ◌≡◌, ◌+◌, ◌-◌, ◌*◌, ◌%◌, ◌<◌, ◌≤◌, ◌==◌, nat_lt, Bool, true, false, List, [], ◌∷◌, filter, length, take, bit_or, Option, Some, None, refl}
+use Rattle.std.specs.Prelude.{ℕ, zero, suc, ◌≡◌, ◌+◌, ◌-◌, ◌*◌, ◌%◌, ◌<◌, ◌≤◌, ◌==◌, nat_lt, Bool, true, false, List, [], ◌∷◌, length, take, bit_or, Option, Some, None, refl}
 use Rattle.std.specs.Int.{bit_at}
-use Rattle.std.proofs.Common.{arith, sym, ap, ◌∙◌, subst}
+use Rattle.std.proofs.Common.{arith, ap}
 use Rattle.std.proofs.lemmas.Bool.{ltb-true, eqb-false, ne_eqb}
-use Rattle.std.proofs.lemmas.Nat.Bits.{bit_at_or, bit_at-lt}
+use Rattle.std.proofs.lemmas.Nat.Bits.{bit_at_or}
 use Rattle.seat_state.specs.Seats.{Seat}
 use Rattle.pmem_words.specs.Scripts.{Lowers}
 use Rattle.pmem_words.specs.declared.asks.Turn.TheVariants.{Go}
@@ -11,7 +11,7 @@ use Rattle.log_core.specs.Works.{shape_of}
 use Rattle.block_bitmap.specs.declared.take.Take.{Take}
 use Rattle.block_bitmap.specs.TakeBits.{blocks_of_word, bits_of, clear_in, area_in}
 use Rattle.block_bitmap.specs.TakeLists.{no_more, fewer, at_most, word_blocks, clear_narrow, first_bit}
-use Rattle.block_bitmap.specs.TakeScript.{word_of, last_word, open_at, wanted_at, gained_at, less, with_found, seat_set, known_set, moved_on, settled_by, settled, ended_or, after_at, measure_at, take_script}
+use Rattle.block_bitmap.specs.TakeScript.{word_of, last_word, open_at, gained_at, less, with_found, seat_set, known_set, moved_on, settled_by, ended_or, after_at, measure_at, take_script}
 
 moved_lowers : (b : Bool) (m : Take) (s : Seat) (bound : ℕ) → nat_lt (word_of m s) (last_word m.area s) ≡ b → (moved_on b m s).turn ≡ Go → (last_word m.area s - word_of m s) * 66 ≤ bound →
     measure_at (moved_on b m s).machine.known (moved_on b m s).machine (moved_on b m s).seat < bound
@@ -34,7 +34,7 @@ fewer_by zero (block ∷ free) blocks known found some is more = absurd (omega (
 fewer_by (suc count) (block ∷ free) blocks known found some is more =
     (let bits = bits_of (block ∷ take count free) in
     let refused : (bit_at (bit_or known (bit_or found bits)) (block % 64) == 0) ≡ false =
-        ne_eqb (bit_at (bit_or known (bit_or found bits)) (block % 64)) 0 (λ none. omega (arith, none, bit_at_or known (bit_or found bits) (block % 64), bit_at_or found bits (block % 64), first_bit block (take count free))) in
+    ne_eqb (bit_at (bit_or known (bit_or found bits)) (block % 64)) 0 (λ none. omega (arith, none, bit_at_or known (bit_or found bits) (block % 64), bit_at_or found bits (block % 64), first_bit block (take count free))) in
     let less = fewer (λ other. bit_at known (other % 64) == 0) (λ other. bit_at (bit_or known (bit_or found bits)) (other % 64) == 0) (λ other. clear_narrow known (bit_or found bits) (other % 64)) block refused free blocks is in
     let count_is = ap length is in omega (arith, less, count_is))
 

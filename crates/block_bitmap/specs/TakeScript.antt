@@ -1,5 +1,5 @@
 -- What taking blocks means.
-use Rattle.std.specs.Prelude.{ℕ, ◌≡◌, ◌+◌, ◌-◌, ◌*◌, ◌/◌, ◌<◌, ◌≤◌, ◌==◌, nat_lt, Bool, true, false, List, [], ◌∷◌, ◌++◌, length, map, take, replicate, slice_index, slice_set, bit_or, Option, Some, None}
+use Rattle.std.specs.Prelude.{ℕ, ◌+◌, ◌-◌, ◌*◌, ◌/◌, ◌<◌, ◌≤◌, ◌==◌, nat_lt, Bool, true, false, List, [], ◌∷◌, ◌++◌, length, map, take, replicate, slice_index, slice_set, bit_or, Option, Some, None}
 use Rattle.log_entry.specs.Geometry.{count_of, first_of}
 use Rattle.log_entry.specs.declared.shapes.Area.{Area}
 use Rattle.seat_parts.specs.declared.owned.OwnedBlock.{OwnedBlock}
@@ -8,7 +8,6 @@ use Rattle.pmem_words.specs.Scripts.{After, Script}
 use Rattle.pmem_words.specs.declared.asks.Ask.{Ask}
 use Rattle.pmem_words.specs.declared.asks.Ask.TheVariants.{Load, SetBits}
 use Rattle.pmem_words.specs.declared.asks.Place.TheVariants.{Map}
-use Rattle.pmem_words.specs.declared.asks.Turn.{Turn}
 use Rattle.pmem_words.specs.declared.asks.Turn.TheVariants.{Go, Done}
 use Rattle.log_core.specs.Works.{shape_of}
 use Rattle.block_bitmap.specs.declared.take.Take.{Take}

@@ -1,4 +1,4 @@
-use Rattle.std.proofs.Common.{◌≡◌, ℕ, ◌≤◌, take}
+use Rattle.std.proofs.Common.{◌≡◌, ℕ, take}
 use Rattle.std.specs.Prelude.{bit_or}
 use Rattle.block_bitmap.specs.TakeBits.{blocks_in, bits_of}
 use Rattle.block_bitmap.proofs.take_bits.least_bits.Given as goal

@@ -1,7 +1,5 @@
-use Rattle.std.proofs.Common.{◌≡◌, ◌≤◌, ◌+◌, ◌-◌, ◌*◌, ◌^◌, ℕ, min, ap, ◌∙◌, subst, sym, arith}
-use Rattle.std.specs.Prelude.{bit_and}
+use Rattle.std.proofs.Common.{◌+◌, arith}
 use Rattle.log_entry.specs.Geometry.{count_of, first_of}
-use Rattle.block_bitmap.specs.TakeBits.{blocks_in}
 use Rattle.block_bitmap.proofs.TakeWords.{below_grows, open_is}
 use Rattle.block_bitmap.proofs.take_bits.open_bits.Goals as goal
 

@@ -1,4 +1,4 @@
-use Rattle.std.proofs.Common.{◌≡◌, ℕ, ◌+◌, ◌≤◌, length}
+use Rattle.std.proofs.Common.{◌≡◌, ◌+◌, ◌≤◌, length}
 use Rattle.seat_state.specs.Seats.{owned_room}
 use Rattle.block_bitmap.specs.TakeBits.{blocks_in}
 use Rattle.block_bitmap.specs.TakeScript.{with_taken}
