@@ -3,3 +3,4 @@ pub mod TakeWords
 pub mod TakeLowest
 pub mod TakeChosen
 pub mod TakeSteps
+pub mod TakeRest

@@ -2,3 +2,4 @@ pub mod TakeBits
 pub mod TakeScript
 pub mod TakeLists
 pub mod TakeLowering
+pub mod TakeAlone
