@@ -4,3 +4,5 @@ pub mod TakeLowest
 pub mod TakeChosen
 pub mod TakeSteps
 pub mod TakeRest
+pub mod TakeMarks
+pub mod TakeCompose
