@@ -6,3 +6,4 @@ pub mod TakeSteps
 pub mod TakeRest
 pub mod TakeMarks
 pub mod TakeCompose
+pub mod TakeOverPlain
