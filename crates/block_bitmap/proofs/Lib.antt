@@ -6,4 +6,6 @@ pub mod TakeSteps
 pub mod TakeRest
 pub mod TakeMarks
 pub mod TakeCompose
+pub mod TakeCovered
+pub mod TakeOneWord
 pub mod TakeOverPlain

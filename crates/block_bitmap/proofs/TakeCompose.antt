@@ -1,8 +1,7 @@
 -- A pass over the words of an area from one on, where nobody else makes a step: its first word, and the rest.
-use Rattle.std.proofs.Common.{◌≡◌, ◌≢◌, ◌<◌, ◌≤◌, ◌+◌, ◌-◌, ◌*◌, ◌/◌, ◌%◌, ◌==◌, ◌⊎◌, inl, inr, max, nat_le, ℕ, zero, suc, Bool, true, false, List, [], ◌∷◌, ◌++◌, length, take, map, slice_index, refl, sym, ap, ◌∙◌, subst, arith, append-nil, append_assoc}
-use Rattle.std.specs.Prelude.{filter, replicate, bit_or}
+use Rattle.std.proofs.Common.{◌≡◌, ◌≢◌, ◌<◌, ◌≤◌, ◌+◌, ◌-◌, ◌*◌, ◌/◌, ◌%◌, ◌==◌, ◌⊎◌, inl, inr, max, nat_le, ℕ, zero, suc, Bool, List, [], ◌∷◌, ◌++◌, length, take, map, slice_index, refl, sym, ap, ◌∙◌, subst, arith, append-nil, append_assoc}
+use Rattle.std.specs.Prelude.{replicate, bit_or}
 use Rattle.std.specs.Int.{bit_at}
-use Rattle.std.specs.List.{range_with_len}
 use Rattle.std.proofs.lemmas.Bool.{leb-true, le-leb, lt-leb, cases_eq}
 use Rattle.std.proofs.lemmas.List.{length-append, map-append, replicate-append-replicate, take-append-le, take_all}
 use Rattle.log_entry.specs.Geometry.{count_of, first_of}
@@ -19,7 +18,7 @@ use Rattle.block_bitmap.specs.TakeAlone.{outcome, outcome_by, AreSet, found_as, 
 use Rattle.block_bitmap.proofs.TakeRanges.{same_test, agree}
 use Rattle.block_bitmap.proofs.TakeWords.{some_in}
 use Rattle.block_bitmap.proofs.TakeRest.{rest_from, clear_at, rest_more, rest_none}
-use Rattle.block_bitmap.proofs.TakeMarks.{none_set, set_both}
+use Rattle.block_bitmap.proofs.TakeMarks.{set_both}
 
 -- a front of two lists that is longer than the first
 pub take_past : (n : ℕ) (xs ys : List ℕ) → length xs ≤ n → take n (xs ++ ys) ≡ xs ++ take (n - length xs) ys

@@ -1,12 +1,12 @@
 -- Taking blocks over a plain memory.
-use Rattle.std.proofs.Common.{◌≡◌, ◌≢◌, ◌<◌, ◌≤◌, ◌+◌, ◌-◌, ◌*◌, ◌/◌, ◌%◌, ◌^◌, ◌==◌, ◌⊎◌, inl, inr, max, nat_lt, ℕ, zero, suc, Bool, true, false, cond, List, [], ◌∷◌, ◌++◌, length, take, slice_index, slice_set, refl, sym, ap, ◌∙◌, subst, arith}
+use Rattle.std.proofs.Common.{◌≡◌, ◌≢◌, ◌<◌, ◌≤◌, ◌+◌, ◌-◌, ◌*◌, ◌/◌, ◌==◌, nat_lt, ℕ, zero, suc, Bool, true, false, List, [], ◌∷◌, length, take, slice_index, slice_set, refl, sym, ap, ◌∙◌, subst, arith}
 use Rattle.std.specs.Prelude.{filter, bit_or, Option, Some, None}
 use Rattle.std.specs.Int.{bit_at}
+use Rattle.std.specs.Prelude.{map}
+use Rattle.log_entry.specs.declared.shapes.Geometry.{Geometry}
 use Rattle.std.specs.List.{All, AllByRecursion}
-use Rattle.std.proofs.lemmas.Bool.{eqb-true, eqb-false, eq-eqb, ne_eqb, ltb-true, ltb-false, cases_eq}
-use Rattle.std.proofs.lemmas.List.{length-set, get_or-set_same, get_or-set_other, length-take, take_all}
-use Rattle.std.proofs.lemmas.List.Elements.{All-take, filter_passes, recursion_from_All}
-use Rattle.std.proofs.lemmas.Nat.Bits.{bit_at_or, bit_at-lt, same_from_bits}
+use Rattle.std.proofs.lemmas.Bool.{eqb-true, eqb-false}
+use Rattle.std.proofs.lemmas.List.{length-set, length-append, length-map, length-take, take_all}
 use Rattle.log_entry.specs.Geometry.{count_of, first_of}
 use Rattle.log_entry.specs.Shape.{total_of}
 use Rattle.log_entry.specs.declared.shapes.Area.{Area}
@@ -19,66 +19,19 @@ use Rattle.pmem_words.proofs.PlainLemmas.{leads_plain, leads_plain_kept}
 use Rattle.log_core.specs.Works.{shape_of}
 use Rattle.block_bitmap.specs.declared.take.Take.{Take}
 use Rattle.block_bitmap.specs.declared.take.Taken.{Taken}
-use Rattle.block_bitmap.specs.declared.take.Taken.TheVariants.{Taken as HasTaken, NoSpace}
-use Rattle.block_bitmap.specs.TakeBits.{bits_of, blocks_in, clear_in, area_in}
-use Rattle.block_bitmap.specs.TakeLists.{first_bit}
-use Rattle.block_bitmap.specs.TakeScript.{take_of, last_word, MayTake, with_found, with_taken, moved_on, settled_by, ended_or, less, take_script}
-use Rattle.block_bitmap.specs.TakeAlone.{outcome, free_blocks, AreSet, found_as, HasFound}
+use Rattle.block_bitmap.specs.TakeBits.{bits_of, clear_in, area_in}
+use Rattle.block_bitmap.specs.TakeScript.{take_of, fresh, last_word, with_found, with_taken, settled_by, ended_or, take_script}
+use Rattle.block_bitmap.specs.TakeAlone.{outcome, free_blocks, AreSet, found_as, HasFound, HasPassed}
 use Rattle.block_bitmap.proofs.TakeWords.{some_in, within_total}
-use Rattle.block_bitmap.proofs.TakeChosen.{wanted_again}
 use Rattle.block_bitmap.proofs.TakeSteps.{none_taken}
 use Rattle.block_bitmap.proofs.TakeRest.{rest_from, clear_at, rest_first}
-use Rattle.block_bitmap.proofs.TakeMarks.{none_set, set_in}
-use Rattle.block_bitmap.proofs.TakeCompose.{RestAlone, Passes, ends_here, ends_short, goes_on}
+use Rattle.block_bitmap.proofs.TakeCompose.{RestAlone, Passes, ends_here}
+use Rattle.block_bitmap.proofs.TakeCovered.{clear_still, covered}
+use Rattle.block_bitmap.proofs.TakeOneWord.{pass_at, CanPass, inside, inside_found, from_first, to_end, seen_once, seen_twice, next, passes_none, passes_some, moves_by}
 
--- a test keeps all that pass it
-kept_all : (p : ℕ → Bool) (xs : List ℕ) → AllByRecursion (λ x. p x ≡ true) xs → filter p xs ≡ xs
-kept_all p [] all = refl
-kept_all p (x ∷ xs) all = ap (λ (b : Bool). cond b (x ∷ filter p xs) (filter p xs)) all.0 ∙ ap (λ (rest : List ℕ). x ∷ rest) (kept_all p xs all.1)
-
-clear_still : (found n : ℕ) (xs : List ℕ) → clear_in found (take n (clear_in found xs)) ≡ take n (clear_in found xs)
-clear_still found n xs = kept_all (λ x. bit_at found (x % 64) == 0) (take n (clear_in found xs))
-    (recursion_from_All (λ x. (bit_at found (x % 64) == 0) ≡ true) (take n (clear_in found xs)) (All-take (λ x. (bit_at found (x % 64) == 0) ≡ true) n (clear_in found xs) (filter_passes (λ x. bit_at found (x % 64) == 0) xs)))
-
--- where the bits of all clear blocks are set, none is clear
-covered_by : (b : Bool) (found more x : ℕ) (xs : List ℕ) → (bit_at found (x % 64) == 0) ≡ b → ((i : ℕ) → bit_at (bits_of (cond b (x ∷ clear_in found xs) (clear_in found xs))) i ≤ bit_at more i) → clear_in (bit_or found (bit_or found more)) xs ≡ [] →
-    cond (bit_at (bit_or found (bit_or found more)) (x % 64) == 0) (x ∷ clear_in (bit_or found (bit_or found more)) xs) (clear_in (bit_or found (bit_or found more)) xs) ≡ []
-covered_by true found more x xs is all rest =
-    (let here = all (x % 64) in let one = first_bit x (clear_in found xs) in
-    let set = ne_eqb (bit_at (bit_or found (bit_or found more)) (x % 64)) 0 (λ none. omega (arith, none, here, one, bit_at_or found (bit_or found more) (x % 64), bit_at_or found more (x % 64))) in
-    ap (λ (b : Bool). cond b (x ∷ clear_in (bit_or found (bit_or found more)) xs) (clear_in (bit_or found (bit_or found more)) xs)) set ∙ rest)
-covered_by false found more x xs is all rest =
-    (let not = eqb-false (bit_at found (x % 64)) 0 is in
-    let set = ne_eqb (bit_at (bit_or found (bit_or found more)) (x % 64)) 0 (λ none. not (omega (arith, none, bit_at_or found (bit_or found more) (x % 64)))) in
-    ap (λ (b : Bool). cond b (x ∷ clear_in (bit_or found (bit_or found more)) xs) (clear_in (bit_or found (bit_or found more)) xs)) set ∙ rest)
-
-fewer_bits : (b : Bool) (x : ℕ) (blocks : List ℕ) (i : ℕ) → bit_at (bits_of blocks) i ≤ bit_at (bits_of (cond b (x ∷ blocks) blocks)) i
-fewer_bits true x blocks i = omega (arith, bit_at_or (2 ^ (x % 64)) (bits_of blocks) i)
-fewer_bits false x blocks i = omega arith
-
-covered : (found more : ℕ) (xs : List ℕ) → ((i : ℕ) → bit_at (bits_of (clear_in found xs)) i ≤ bit_at more i) → clear_in (bit_or found (bit_or found more)) xs ≡ []
-covered found more [] all = refl
-covered found more (x ∷ xs) all = covered_by (bit_at found (x % 64) == 0) found more x xs refl all
-    (covered found more xs (λ i. (let less = all i in let fewer = fewer_bits (bit_at found (x % 64) == 0) x (clear_in found xs) i in omega (arith, less, fewer))))
-
--- a pass that has come so far
-abbrev pub pass_at : Area → ℕ → ℕ → Take
-pass_at area count passed = record { area = area; count = count; passed = passed; known = None }
-
--- there is room in the list of owned blocks, and a bit for each block of the image
-pub record CanPass (area : Area) (count : ℕ) (s : Seat) (p : PlainWords) : Type 0 where
-  pub room : length s.blocks.owned + count ≤ owned_room s.geometry
-  pub found : length s.blocks.found ≡ bitmap_words s.geometry
-  pub bitmap : last_word area s < length p.taken
-
--- what setting the same bits once more leaves
-twice : (f a b : ℕ) → bit_or (bit_or f a) (bit_or a b) ≡ bit_or f (bit_or a b)
-twice f a b = same_from_bits (bit_or (bit_or f a) (bit_or a b)) (bit_or f (bit_or a b)) (λ i. omega (arith, bit_at_or (bit_or f a) (bit_or a b) i, bit_at_or f a i, bit_at_or f (bit_or a b) i, bit_at_or a b i))
-
-last_inside : (area : Area) (s : Seat) → last_word area s < bitmap_words s.geometry
-last_inside area s = (let inside = within_total s.geometry area in let some = some_in s.geometry area in omega (arith, inside, some))
-
-module _ (area : Area) (passed count : ℕ) (s : Seat) (p : PlainWords) (can : CanPass area count s p) (some : 0 < count) (to : first_of s.geometry area / 64 + passed ≤ last_word area s) where
+module _ (area : Area) (passed count : ℕ) (s : Seat) (p : PlainWords) (can : CanPass area count s p) (some : 0 < count) (to : first_of s.geometry area / 64 + passed ≤ last_word area s)
+    (rec : first_of s.geometry area / 64 + passed < last_word area s → (n : ℕ) (t : Seat) (q : PlainWords) → t.geometry ≡ s.geometry → 0 < n → CanPass area n t q →
+    Leads take_script (over take_script plain) (λ out u r. RestAlone area n (first_of t.geometry area / 64 + (passed + 1)) t q out u r) (pass_at area n (passed + 1)) t q) where
   abbrev word : ℕ
   word = first_of s.geometry area / 64 + passed
 
@@ -88,82 +41,123 @@ module _ (area : Area) (passed count : ℕ) (s : Seat) (p : PlainWords) (can : C
   abbrev here : List ℕ
   here = clear_at s.geometry area p.taken (first_of s.geometry area / 64 + passed)
 
-  abbrev seen_once : List ℕ
-  seen_once = slice_set s.blocks.found word (bit_or (slice_index s.blocks.found word) found)
-
-  abbrev bits : ℕ
-  bits = bits_of (take count here)
-
-  abbrev seen_twice : List ℕ
-  seen_twice = slice_set seen_once word (bit_or (slice_index seen_once word) (bit_or found bits))
-
-  abbrev next : List ℕ
-  next = slice_set p.taken word (bit_or found bits)
+  abbrev wanted : List ℕ
+  wanted = take count here
 
   abbrev Ends : Taken → Seat → PlainWords → Type 0
   Ends out t q = RestAlone area count word s p out t q
 
-  inside : word < length p.taken
-  inside = (let bitmap = can.bitmap in omega (arith, bitmap, to))
+  -- the seat after the load, and the memory after the set
+  abbrev loaded : Seat
+  loaded = with_found word found s
 
-  inside_found : word < length s.blocks.found
-  inside_found = (let long = can.found in let last = last_inside area s in omega (arith, long, last, to))
+  abbrev set_there : PlainWords
+  set_there = record p { taken = slice_set p.taken word (bit_or found (bits_of wanted)) }
 
-  from_first : first_of s.geometry area < word * 64 + 64
-  from_first = omega arith
+  abbrev taken_there : List ℕ → Seat
+  taken_there blocks = with_found word (bit_or found (bits_of wanted)) (with_taken area blocks loaded)
 
-  to_end : word * 64 < first_of s.geometry area + count_of s.geometry area
-  to_end = (let some = some_in s.geometry area in omega (arith, to, some))
+  abbrev setting : Take
+  setting = record { area = area; count = count; passed = passed; known = Some found }
 
-  found_once : HasFound word word p.taken s.blocks.found seen_once
-  found_once = record {
-    long = length-set s.blocks.found word (bit_or (slice_index s.blocks.found word) found);
-    passed = λ v low high. (let same : v ≡ word = omega (arith, low, high) in
-        subst (λ (w : ℕ). slice_index seen_once w ≡ bit_or (slice_index s.blocks.found w) (slice_index p.taken w)) (sym same) (get_or-set_same s.blocks.found word (bit_or (slice_index s.blocks.found word) found) 0 inside_found));
-    others = λ v out. get_or-set_other s.blocks.found word v (bit_or (slice_index s.blocks.found word) found) 0 (λ same. out_not v out same);
-  }
+  wanted_count : length wanted ≡ Rattle.std.specs.Prelude.min count (length here)
+  wanted_count = length-take count here
+
+  -- after the bits were set
+  ended_by : (b : Bool) → (count - length wanted == 0) ≡ b →
+      LeadsAfter take_script (over take_script plain) Ends (ended_or b (record { area = area; count = count - length wanted; passed = passed; known = Some found }) (taken_there wanted) (bit_or found (bit_or found (bits_of wanted)))) set_there
+  ended_by true e = ends_here area count word s p (next area passed count s p can some to) (seen_twice area passed count s p can some to) (from_first area passed count s p can some to) (to_end area passed count s p can some to) (passes_some area passed count s p can some to) to
+      (let none = eqb-true (count - length wanted) 0 e in omega (arith, none, wanted_count))
+  ended_by false e =
+      subst (λ (blocks : List ℕ). LeadsAfter take_script (over take_script plain) Ends (settled_by blocks (record { area = area; count = count - length wanted; passed = passed; known = Some found }) (taken_there wanted) (bit_or found (bit_or found (bits_of wanted)))) set_there) (sym none)
+      (moves_by area passed count s p can some to (next area passed count s p can some to) (seen_twice area passed count s p can some to) (count - length wanted) (taken_there wanted) (Some found)
+      (subst (λ (blocks : List ℕ). Passes word blocks p.taken (next area passed count s p can some to) s.blocks.found (seen_twice area passed count s p can some to)) all (passes_some area passed count s p can some to))
+      short
+      (ap (λ (blocks : List ℕ). found_as (seen_twice area passed count s p can some to) (with_taken area blocks s)) (sym all))
+      (ap (λ (n : ℕ). count - n) (ap length (sym all)))
+      (λ less. rec less (count - length wanted) (taken_there wanted) set_there refl (omega (arith, left)) (record { room = room; found = found_long; bitmap = bitmap }))
+      (nat_lt word (last_word area s)) refl)
     where
-      out_not : (v : ℕ) → (v < word) ⊎ (word < v) → v ≡ word → ⊥
-      out_not v (inl less) same = omega (arith, less, same)
-      out_not v (inr more) same = omega (arith, more, same)
+      left : count - length wanted ≢ 0
+      left = eqb-false (count - length wanted) 0 e
 
-  -- where nothing of the word is clear
-  passes_none : here ≡ [] → Passes word here p.taken p.taken s.blocks.found seen_once
-  passes_none none = record { found_is = found_once; set = subst (λ (blocks : List ℕ). AreSet blocks p.taken p.taken) (sym none) (none_set p.taken); kept = λ v other. refl }
+      short : length here < count
+      short = omega (arith, left, wanted_count)
 
-  -- where the least clear ones are taken
-  passes_some : Passes word (take count here) p.taken next s.blocks.found seen_twice
-  passes_some = record {
-    found_is = record {
-      long = length-set seen_once word (bit_or (slice_index seen_once word) (bit_or found bits)) ∙ found_once.long;
-      passed = λ v low high. (let same : v ≡ word = omega (arith, low, high) in subst (λ (w : ℕ). slice_index seen_twice w ≡ bit_or (slice_index s.blocks.found w) (slice_index next w)) (sym same) at);
-      others = λ v out. get_or-set_other seen_once word v (bit_or (slice_index seen_once word) (bit_or found bits)) 0 (λ same. out_not v out same) ∙ found_once.others v out;
-    };
-    set = subst (λ (blocks : List ℕ). AreSet blocks p.taken next) (wanted_again (shape_of s) area word found count) (set_in p.taken word bits inside);
-    kept = λ v other. get_or-set_other p.taken word v (bit_or found bits) 0 other;
-  }
-    where
-      out_not : (v : ℕ) → (v < word) ⊎ (word < v) → v ≡ word → ⊥
-      out_not v (inl less) same = omega (arith, less, same)
-      out_not v (inr more) same = omega (arith, more, same)
+      all : wanted ≡ here
+      all = take_all count here (omega (arith, short))
 
-      at : slice_index seen_twice word ≡ bit_or (slice_index s.blocks.found word) (slice_index next word)
-      at = get_or-set_same seen_once word (bit_or (slice_index seen_once word) (bit_or found bits)) 0 (subst (λ (n : ℕ). word < n) (sym found_once.long) inside_found)
-          ∙ ap (λ (f : ℕ). bit_or f (bit_or found bits)) (found_once.passed word (omega arith) (omega arith))
-          ∙ twice (slice_index s.blocks.found word) found bits
-          ∙ ap (bit_or (slice_index s.blocks.found word)) (sym (get_or-set_same p.taken word (bit_or found bits) 0 inside))
+      none : clear_in (bit_or found (bit_or found (bits_of wanted))) (area_in (shape_of s) area word) ≡ []
+      none = covered found (bits_of wanted) (area_in (shape_of s) area word) (λ i. (let same = ap (λ (blocks : List ℕ). bit_at (bits_of blocks) i) all in omega (arith, same)))
 
-  -- on from the word, or the end, after all its clear blocks were taken
-  module _ (after seen : List ℕ) (n : ℕ) (t : Seat) (m : Take) (m_is : m ≡ record { area = area; count = n; passed = passed; known = m.known }) (passes : Passes word here p.taken after s.blocks.found seen) (short : length here < count)
-      (is : found_as seen (with_taken area here s) ≡ t) (left : count - length here ≡ n)
-      (later : word < last_word area s → Leads take_script (over take_script plain) (λ out u q. RestAlone area n (first_of s.geometry area / 64 + (passed + 1)) t (record p { taken = after }) out u q) (pass_at area n (passed + 1)) t (record p { taken = after })) where
-    continues : (out : Taken) (u : Seat) (q : PlainWords) → RestAlone area n (first_of s.geometry area / 64 + (passed + 1)) t (record p { taken = after }) out u q → Ends out u q
-    continues out u q r = goes_on area count word s p after seen from_first to_end passes short out u q
-        (subst (λ (x : Seat). RestAlone area (count - length here) (word + 1) x (record p { taken = after }) out u q) (sym is)
-        (subst (λ (k : ℕ). RestAlone area k (word + 1) t (record p { taken = after }) out u q) (sym left)
-        (subst (λ (w : ℕ). RestAlone area n w t (record p { taken = after }) out u q) {x = first_of s.geometry area / 64 + (passed + 1)} {y = word + 1} (omega arith) r)))
+      room : length (taken_there wanted).blocks.owned + (count - length wanted) ≤ owned_room s.geometry
+      room = (let room = can.room in let long = length-append s.blocks.owned (map (fresh area) wanted) in let count = length-map wanted (fresh area) in omega (arith, room, long, count, wanted_count))
 
-    moves_by : (b : Bool) → nat_lt word (last_word area s) ≡ b → LeadsAfter take_script (over take_script plain) Ends (moved_on b (record { area = area; count = n; passed = passed; known = m.known }) t) (record p { taken = after })
-    moves_by true e = leads_weaker take_script (over take_script plain) (λ out u q. RestAlone area n (first_of s.geometry area / 64 + (passed + 1)) t (record p { taken = after }) out u q) Ends continues (later (ltb-true word (last_word area s) e))
-    moves_by false e = subst (λ (x : Seat). Ends (NoSpace area) x (record p { taken = after })) is
-        (ends_short area count word s p after seen from_first to_end passes (let most = ltb-false word (last_word area s) e in omega (arith, most, to)) short)
+      found_long : length (taken_there wanted).blocks.found ≡ bitmap_words s.geometry
+      found_long = (passes_some area passed count s p can some to).found_is.long ∙ can.found
+
+      bitmap : last_word area s < length (next area passed count s p can some to)
+      bitmap = (let long = length-set p.taken word (bit_or found (bits_of wanted)) in let bitmap = can.bitmap in omega (arith, long, bitmap))
+
+  set_on : LeadsAfter take_script (over take_script plain) Ends (take_script.after setting loaded found) set_there
+  set_on = subst (λ (blocks : List ℕ). LeadsAfter take_script (over take_script plain) Ends (ended_or (count - length blocks == 0) (record { area = area; count = count - length blocks; passed = passed; known = Some found }) (taken_there blocks) (bit_or found (bit_or found (bits_of wanted)))) set_there)
+      (sym (clear_still found count (area_in (shape_of s) area word))) (ended_by (count - length wanted == 0) refl)
+
+  long_once : length loaded.blocks.found ≡ length s.blocks.found
+  long_once = length-set s.blocks.found word (bit_or (slice_index s.blocks.found word) found)
+
+  set_leads : Leads take_script (over take_script plain) Ends setting loaded p
+  set_leads = leads_plain take_script Ends setting loaded p (inside area passed count s p can some to)
+      (λ small. record { to = to; inside = (let low = inside_found area passed count s p can some to in omega (arith, low, long_once)); room = can.room }) set_on
+
+  -- after the load
+  load_on : (blocks : List ℕ) → here ≡ blocks → LeadsAfter take_script (over take_script plain) Ends (settled_by blocks (pass_at area count passed) loaded found) p
+  load_on [] none =
+      moves_by area passed count s p can some to p.taken (seen_once area passed count s p can some to) count loaded None (passes_none area passed count s p can some to none) (let count_is = ap length none in omega (arith, count_is, some))
+      (ap (λ (blocks : List ℕ). found_as (seen_once area passed count s p can some to) (with_taken area blocks s)) none ∙ ap (found_as (seen_once area passed count s p can some to)) (none_taken area s))
+      (let count_is = ap length none in omega (arith, count_is))
+      (λ less. rec less count loaded p refl some (record { room = can.room; found = long_once ∙ can.found; bitmap = can.bitmap }))
+      (nat_lt word (last_word area s)) refl
+  load_on (block ∷ blocks) is = set_leads
+
+  pub one_word : Leads take_script (over take_script plain) Ends (pass_at area count passed) s p
+  one_word = leads_plain_kept take_script Ends (pass_at area count passed) s p (inside area passed count s p can some to) refl
+      (λ small. record { to = to; inside = inside_found area passed count s p can some to; room = can.room }) (load_on here refl)
+
+-- word by word to the last one
+alone_from : (area : Area) (left passed count : ℕ) (s : Seat) (p : PlainWords) → CanPass area count s p → 0 < count → last_word area s ≡ first_of s.geometry area / 64 + passed + left →
+    Leads take_script (over take_script plain) (λ out t q. RestAlone area count (first_of s.geometry area / 64 + passed) s p out t q) (pass_at area count passed) s p
+alone_from area zero passed count s p can some last = one_word area passed count s p can some (omega (arith, last)) (λ less. absurd (omega (arith, less, last)))
+alone_from area (suc left) passed count s p can some last = one_word area passed count s p can some (omega (arith, last))
+    (λ less n t q same some_left can_left. alone_from area left (passed + 1) n t q can_left some_left
+    (ap (λ (g : Geometry). (first_of g area + count_of g area - 1) / 64) same ∙ (omega (arith, last)) ∙ ap (λ (g : Geometry). first_of g area / 64 + (passed + 1) + left) (sym same)))
+
+-- what is left after taking blocks alone
+pub record TakenAlone (area : Area) (count : ℕ) (s : Seat) (p : PlainWords) (out : Taken) (t : Seat) (q : PlainWords) : Type 0 where
+  pub outcome_is : out ≡ outcome area count (length (free_blocks s.geometry area p.taken))
+  pub seat : t ≡ found_as t.blocks.found (with_taken area (take count (free_blocks s.geometry area p.taken)) s)
+  pub found : HasPassed area out s q.taken t
+  pub set : AreSet (take count (free_blocks s.geometry area p.taken)) p.taken q.taken
+  pub memory : q ≡ record p { taken = q.taken }
+
+whole : (area : Area) (count word : ℕ) (s : Seat) (p : PlainWords) (out : Taken) (t : Seat) (q : PlainWords) → word ≡ first_of s.geometry area / 64 → RestAlone area count word s p out t q → TakenAlone area count s p out t q
+whole area count word s p out t q first r = record {
+  outcome_is = r.outcome_is ∙ ap (λ (blocks : List ℕ). outcome area count (length blocks)) all;
+  seat = r.seat ∙ ap (λ (blocks : List ℕ). found_as t.blocks.found (with_taken area (take count blocks) s)) all;
+  found = (r.last, subst (λ (w : ℕ). w ≤ r.last) first r.from, r.to, r.ends, subst (λ (w : ℕ). HasFound w r.last q.taken s.blocks.found t.blocks.found) first r.found);
+  set = subst (λ (blocks : List ℕ). AreSet (take count blocks) p.taken q.taken) all r.set;
+  memory = r.memory;
+}
+  where
+    all : rest_from s.geometry area p.taken word ≡ free_blocks s.geometry area p.taken
+    all = ap (rest_from s.geometry area p.taken) first ∙ rest_first s.geometry area p.taken
+
+pub taken_alone : (area : Area) (count : ℕ) (s : Seat) (p : PlainWords) → CanPass area count s p → 0 < count → Leads take_script (over take_script plain) (TakenAlone area count s p) (take_of area count) s p
+taken_alone area count s p can some =
+    leads_weaker take_script (over take_script plain) (λ out t q. RestAlone area count (first_of s.geometry area / 64 + 0) s p out t q) (TakenAlone area count s p)
+    (λ out t q r. whole area count (first_of s.geometry area / 64 + 0) s p out t q (omega arith) r)
+    (alone_from area (last_word area s - first_of s.geometry area / 64) 0 count s p can some (let some = some_in s.geometry area in omega (arith, some)))
+
+-- a memory with a bit for each block has each of the area's words
+pub bits_for : (area : Area) (s : Seat) (p : PlainWords) → total_of s.geometry.data_blocks s.geometry.log_blocks s.geometry.block_bytes ≤ 64 * length p.taken → last_word area s < length p.taken
+bits_for area s p enough = (let inside = within_total s.geometry area in let some = some_in s.geometry area in omega (arith, inside, some, enough))

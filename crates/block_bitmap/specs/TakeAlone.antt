@@ -1,5 +1,5 @@
 -- What taking blocks comes to where nobody else makes a step.
-use Rattle.std.specs.Prelude.{ℕ, ◌≡◌, ◌+◌, ◌-◌, ◌*◌, ◌/◌, ◌<◌, ◌≤◌, ◌⊎◌, ◌==◌, nat_le, Bool, true, false, if◌then◌else◌, List, [], ◌∷◌, filter, length, slice_index, bit_or}
+use Rattle.std.specs.Prelude.{ℕ, ◌≡◌, ◌/◌, ◌<◌, ◌≤◌, ◌⊎◌, ◌==◌, nat_le, Bool, true, false, if◌then◌else◌, List, filter, length, slice_index, bit_or}
 use Rattle.std.specs.List.{range_with_len}
 use Rattle.log_entry.specs.Geometry.{count_of, first_of}
 use Rattle.log_entry.specs.declared.shapes.Area.{Area}
@@ -41,4 +41,4 @@ pub record HasFound (from to : ℕ) (taken before after : List ℕ) : Type 0 whe
 -- from the area's first word to one of its words, which is the last one where there was no space
 abbrev pub HasPassed : Area → Taken → Seat → List ℕ → Seat → Type 0
 HasPassed area out s taken t =
-    (to : ℕ) × (to ≤ last_word area s) × (out ≡ NoSpace area → to ≡ last_word area s) × HasFound (first_of s.geometry area / 64) to taken s.blocks.found t.blocks.found
+    (to : ℕ) × (first_of s.geometry area / 64 ≤ to) × (to ≤ last_word area s) × (out ≡ NoSpace area → to ≡ last_word area s) × HasFound (first_of s.geometry area / 64) to taken s.blocks.found t.blocks.found

@@ -3,7 +3,9 @@
 
 pub mod take;
 pub mod take_bits;
+pub mod take_plain;
 #[cfg(test)]
 mod take_tests;
 
 pub use take::{Take, Taken};
+pub use take_plain::take_alone;
