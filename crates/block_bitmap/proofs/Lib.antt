@@ -9,3 +9,4 @@ pub mod TakeCompose
 pub mod TakeCovered
 pub mod TakeOneWord
 pub mod TakeOverPlain
+pub mod BlockWords

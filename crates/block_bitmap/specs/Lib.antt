@@ -3,3 +3,5 @@ pub mod TakeScript
 pub mod TakeLists
 pub mod TakeLowering
 pub mod TakeAlone
+pub mod OwnedWords
+pub mod Filling

@@ -1,11 +1,16 @@
-//! How a seat takes free blocks of an area, fills blocks that it owns, and gives blocks back.
+//! How a seat takes free blocks of an area, fills blocks that it owns, and gives blocks back, and how a task begins.
 #![tactic(auto)]
 
+pub mod begin;
+pub mod fill;
 pub mod take;
 pub mod take_bits;
 pub mod take_plain;
 #[cfg(test)]
 mod take_tests;
+pub mod words;
 
+pub use begin::begin_alone;
+pub use fill::Fill;
 pub use take::{Take, Taken};
 pub use take_plain::take_alone;

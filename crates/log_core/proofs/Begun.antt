@@ -9,8 +9,8 @@ use Rattle.seat_parts.specs.declared.keeps.Task.TheVariants.{Pread}
 use Rattle.seat_state.specs.Seats.{Seat}
 use Rattle.persistence.specs.Memory.{Noted, cell, notes_of}
 use Rattle.log_core.specs.Views.{Ghost, HeadPut, view_of, op_of}
-use Rattle.log_core.specs.Origin.{Origin}
-use Rattle.log_core.specs.Files.{file_at}
+use Rattle.log_core.specs.Origin.{Origin, q_of}
+use Rattle.log_core.specs.Files.{file_at, entries}
 use Rattle.log_core.specs.Cores.{Core}
 use Rattle.log_core.specs.Works.{Begins, worked, laid_bytes, MayBegin}
 use Rattle.log_core.specs.Steps.{call_if}
@@ -18,7 +18,7 @@ use Rattle.log_core.specs.Walks.{WalkHolds}
 use Rattle.log_core.specs.Giving.{ScanHolds}
 use Rattle.log_core.specs.Records.{running_at, writes_at, one_if, mark_of, WritesOnce, CallHolds}
 use Rattle.log_core.specs.Synced.{SyncMarkHolds}
-use Rattle.log_core.specs.Invariant.{around}
+use Rattle.log_core.specs.Invariant.{around, names_by}
 use Rattle.log_core.specs.Knows.{with_seat, Knows}
 
 -- a read that begins has no bytes
@@ -132,7 +132,7 @@ module _ (o : Origin) (c : Core) (n : ℕ) (s : Seat) (g : Ghost) (pin began now
     marks = f.marks;
     syncs = record {
       to = λ position same. cc;
-      marks = λ same. subst (λ (notes : List Noted). AllByRecursion (SyncMarkHolds (λ word. cell c.memory word) c.memory.past s.hold.generation) notes) (sym notes_none) tt;
+      marks = λ same. subst (λ (notes : List Noted). AllByRecursion (SyncMarkHolds (q_of o) (names_by o c.logs (entries o c.history) c.generations) (λ word. cell c.memory word) c.memory.past s.hold.generation) notes) (sym notes_none) tt;
       valid = λ same some. absurd (some notes_none);
       answered = f.syncs.answered;
     };

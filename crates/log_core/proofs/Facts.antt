@@ -1,33 +1,22 @@
 -- What holds of a seat's state by the invariant; and it stays where the seat gives up its kept words.
-use Rattle.std.proofs.Common.{◌≡◌, ◌<◌, ◌≤◌, ◌+◌, ◌-◌, ℕ, true, [], length, refl, subst, arith, inr, slice_index}
+use Rattle.std.proofs.Common.{◌<◌, ℕ, List, [], length, refl, arith, inr, slice_index}
 use Rattle.seat_state.specs.Seats.{Seat}
 use Rattle.log_core.specs.Views.{View, Ghost, view_of}
-use Rattle.log_core.specs.Origin.{Origin, first_generation}
-use Rattle.log_core.specs.Cores.{Core, current}
+use Rattle.log_core.specs.Origin.{Origin}
+use Rattle.log_core.specs.Cores.{Core}
 use Rattle.log_core.specs.Walks.{WalkHolds}
-use Rattle.log_core.specs.Invariant.{Invariant, KeptIn, around}
+use Rattle.log_core.specs.Invariant.{Invariant, around}
 use Rattle.log_core.specs.Knows.{Knows}
-
--- a generation from the first to the present one has a place
-place_inside : (first place now count past : ℕ) → now ≡ first + count - 1 → count ≡ past + 1 → first + place ≤ now → place < count
-place_inside first place now count past e f h = omega (arith, e, f, h)
+use Rattle.log_core.proofs.Leaves.{moved}
 
 module _ (o : Origin) (c : Core) (n : ℕ) (inv : Invariant o c) (here : n < length c.views) where
   abbrev v : View
   v = view_of c.views n
 
-  -- a pinned generation is kept
-  kept : (place : ℕ) → v.seat.hold.valid ≡ true → v.seat.hold.generation ≡ first_generation o + place → KeptIn o c place
-  kept place valid same = record {
-    inside = place_inside (first_generation o) place (current o c.generations) (length c.generations) _ refl inv.order.heads.count
-        (subst (λ (m : ℕ). m ≤ current o c.generations) same (((inv.pins.holds n).to_current) ((inv.pins.holds n).valid_some valid)));
-    why = inr (record { seat = n; valid = valid; same = same });
-  }
-
   pub facts_of : Knows o c n v.seat v.ghost (slice_index c.memory.now.pins n) (slice_index c.began n)
   facts_of = record {
     fits = inv.sizes.each n here;
-    kept = kept;
+    kept = λ place valid same. inr (record { seat = n; valid = valid; same = same });
     owns = inv.owners.seats n;
     pin_is = inv.pins.words n (let few = inv.sizes.few in let many = inv.sizes.words.pins in omega (arith, here, few, many));
     pin_holds = inv.pins.holds n;
@@ -104,3 +93,40 @@ module _ (o : Origin) (c : Core) (n : ℕ) (s : Seat) (g : Ghost) (pin began : �
     marks = f.marks;
     syncs = (let r = f.syncs in record { to = r.to; marks = r.marks; valid = r.valid; answered = r.answered });
   }
+
+-- and with other pin words of the memory
+pub pins_known : (o : Origin) (c : Core) (n : ℕ) (s : Seat) (g : Ghost) (pin began : ℕ) (pins : List ℕ) → Knows o c n s g pin began →
+    Knows o (moved c (record (c.memory) { now = record (c.memory.now) { pins = pins } }) c.owner) n s g pin began
+pins_known o c n s g pin began pins f = record {
+  fits = f.fits;
+  kept = f.kept;
+  owns = f.owns;
+  pin_is = f.pin_is;
+  pin_holds = f.pin_holds;
+  walk = λ some. (let w = f.walk some in record {
+    unwalked = w.unwalked;
+    to_end = w.to_end;
+    from_first = w.from_first;
+    to_current = w.to_current;
+    read = w.read;
+    kept_words = w.kept_words;
+    unpinned = w.unpinned;
+    walked = w.walked;
+    ready_walked = w.ready_walked;
+    ready_base = w.ready_base;
+    ready_tail = w.ready_tail;
+  });
+  owned = f.owned;
+  giving = f.giving;
+  scan_others = f.scan_others;
+  scan_self = f.scan_self;
+  scanned = f.scanned;
+  writes = f.writes;
+  writes_once = f.writes_once;
+  put = f.put;
+  same_put = f.same_put;
+  calls = f.calls;
+  tail = f.tail;
+  marks = f.marks;
+  syncs = f.syncs;
+}

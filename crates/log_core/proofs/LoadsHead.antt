@@ -1,5 +1,5 @@
 -- A load of the head keeps what holds of the seat's state.
-use Rattle.std.proofs.Common.{◌≡◌, ◌≢◌, ◌<◌, ◌≤◌, ◌+◌, ◌==◌, ◌&&◌, ◌||◌, not, ℕ, Bool, true, false, if◌then◌else◌, List, [], ◌∷◌, length, refl, sym, ◌∙◌, ap, subst, arith, slice_index}
+use Rattle.std.proofs.Common.{◌≡◌, ◌≢◌, ◌<◌, ◌≤◌, ◌+◌, ◌==◌, ◌&&◌, ◌||◌, not, ℕ, Bool, true, false, if◌then◌else◌, List, [], ◌∷◌, length, refl, sym, ◌∙◌, ap, subst, arith, ◌⊎◌, inl, slice_index}
 use Rattle.std.specs.List.{AllByRecursion}
 use Rattle.std.proofs.lemmas.Bool.{eqb-true}
 use Rattle.log_entry.specs.Fields.{field}
@@ -9,16 +9,16 @@ use Rattle.seat_state.specs.Seats.{Seat, Hold, Giving}
 use Rattle.persistence.specs.Memory.{Noted, cell, notes_of}
 use Rattle.log_core.specs.Entries.{head_place}
 use Rattle.log_core.specs.Views.{Ghost, view_of}
-use Rattle.log_core.specs.Origin.{Origin, shape, first_generation}
+use Rattle.log_core.specs.Origin.{Origin, shape, q_of, first_generation}
 use Rattle.log_core.specs.Files.{entries}
-use Rattle.log_core.specs.Cores.{Core, current, generation_at, is_named, head_floor}
+use Rattle.log_core.specs.Cores.{Core, current, generation_at, is_named, head_floor, IsPinned}
 use Rattle.log_core.specs.Pins.{PinHolds}
 use Rattle.log_core.specs.Walks.{WalkHolds, IsKeptWord}
 use Rattle.log_core.specs.Giving.{GivingHolds, ScanHolds}
 use Rattle.log_core.specs.Synced.{SyncMarkHolds}
-use Rattle.log_core.specs.Invariant.{Invariant, KeptIn, around, names_by}
+use Rattle.log_core.specs.Invariant.{Invariant, around, names_by}
 use Rattle.log_core.specs.Knows.{Knows}
-use Rattle.log_core.proofs.Heads.{head_generation, was_head, some_generation, kept_current, floor_low}
+use Rattle.log_core.proofs.Heads.{head_generation, was_head, some_generation, present_place, floor_low}
 
 -- the hold and the readiness after the load, by whether the pin word holds the head's generation
 abbrev pub hold_by : Bool → Hold → ℕ → Hold
@@ -69,8 +69,8 @@ module _ (o : Origin) (c : Core) (n : ℕ) (s : Seat) (g : Ghost) (pin began wor
   valid_same true valid = f.pin_holds.valid_is valid
 
   kept : (b : Bool) → (b ≡ true → s.hold.pin ≡ current o c.generations) → (place : ℕ) → (s.hold.valid || b) ≡ true →
-      (if b then s.hold.pin else s.hold.generation) ≡ first_generation o + place → KeptIn o c place
-  kept true is place valid same = kept_current o c inv place (sym (is refl) ∙ same)
+      (if b then s.hold.pin else s.hold.generation) ≡ first_generation o + place → (place + 1 ≡ length c.generations) ⊎ IsPinned o c.views place
+  kept true is place valid same = inl (present_place o c inv place (sym (is refl) ∙ same))
   kept false is place valid same = f.kept place (valid_either s.hold.valid valid) same
 
   pin_facts : (b : Bool) → (b ≡ true → s.hold.pin ≡ current o c.generations) → PinHolds (first_generation o) (current o c.generations) (cell c.memory head_place) (hold_by b s.hold word)
@@ -135,10 +135,13 @@ module _ (o : Origin) (c : Core) (n : ℕ) (s : Seat) (g : Ghost) (pin began wor
   some_notes : (note : Noted) (notes : List Noted) → (note ∷ notes) ≢ []
   some_notes note notes e = cc
 
-  sync_marks : (b : Bool) (notes : List Noted) → (notes ≢ [] → s.hold.valid ≡ true) → AllByRecursion (SyncMarkHolds (λ place. cell c.memory place) c.memory.past s.hold.generation) notes →
-      AllByRecursion (SyncMarkHolds (λ place. cell c.memory place) c.memory.past (if b then s.hold.pin else s.hold.generation)) notes
+  abbrev Marked : ℕ → Noted → Type 0
+  Marked generation note = SyncMarkHolds (q_of o) (names_by o c.logs (entries o c.history) c.generations) (λ place. cell c.memory place) c.memory.past generation note
+
+  sync_marks : (b : Bool) (notes : List Noted) → (notes ≢ [] → s.hold.valid ≡ true) → AllByRecursion (Marked s.hold.generation) notes →
+      AllByRecursion (Marked (if b then s.hold.pin else s.hold.generation)) notes
   sync_marks b [] valid all = all
-  sync_marks b (note ∷ notes) valid all = subst (λ (generation : ℕ). AllByRecursion (SyncMarkHolds (λ place. cell c.memory place) c.memory.past generation) (note ∷ notes))
+  sync_marks b (note ∷ notes) valid all = subst (λ (generation : ℕ). AllByRecursion (Marked generation) (note ∷ notes))
       (sym (valid_same b (valid (some_notes note notes)))) all
 
   loaded_facts : (b : Bool) → (b ≡ true → s.hold.pin ≡ current o c.generations) → Knows o c n (loaded_by b s word) g pin began

@@ -13,9 +13,9 @@ use Rattle.log_core.specs.Views.{Ghost}
 use Rattle.log_core.specs.Origin.{Origin, q_of}
 use Rattle.log_core.specs.Works.{Work, MayWorkAll, worked, worked_all, is_going_on}
 use Rattle.log_core.specs.Steps.{kind_of, effect, ghost_after}
-use Rattle.log_core.specs.May.{May, is_offered}
+use Rattle.log_core.specs.May.{May, IsOfferedKind}
 use Rattle.log_core.specs.Runs.{is_offered_work}
-use Rattle.log_core.specs.Within.{no_record, adds_at, EntersOffered, Lawful, Serves, FitsNext}
+use Rattle.log_core.specs.Within.{no_record, adds_at, IsFound, EntersOffered, Lawful, Serves, FitsNext}
 
 -- computations after others
 worked_more : (s : Seat) (first second : List Work) → worked_all s (first ++ second) ≡ worked_all (worked_all s first) second
@@ -115,25 +115,31 @@ module _ {A C OutA Out : Type 0} (o : Origin) (seat : ℕ) (part : Script A OutA
       none_at t Go = refl
       none_at t (Done out) = refl
 
-      first : (f : ℕ) → part.admits m s f → EntersOffered (ghost_after g s (effect g.marks s (kind_of (q_of o) seat (part.asks m s)) f) (kind_of (q_of o) seat (part.asks m s)) f) (effect g.marks s (kind_of (q_of o) seat (part.asks m s)) f) (part.after m s f).seat []
-      first f admits = subst (λ (adds : List Call). EntersOffered (ghost_after g s (effect g.marks s (kind_of (q_of o) seat (part.asks m s)) f) (kind_of (q_of o) seat (part.asks m s)) f) (effect g.marks s (kind_of (q_of o) seat (part.asks m s)) f) (part.after m s f).seat adds)
-          (none_at (part.after m s f).seat (part.after m s f).turn) (laws.enters f admits)
+      found : (f : ℕ) → IsFound o seat s g (whole.asks (inject m) s) f → IsFound o seat s g (part.asks m s) f
+      found f is = subst (λ (ask : Ask). IsFound o seat s g ask f) (sym asks) is
+
+      first : (f : ℕ) → IsFound o seat s g (part.asks m s) f → part.admits m s f → EntersOffered (ghost_after g s (effect g.marks s (kind_of (q_of o) seat (part.asks m s)) f) (kind_of (q_of o) seat (part.asks m s)) f) (effect g.marks s (kind_of (q_of o) seat (part.asks m s)) f) (part.after m s f).seat []
+      first f is admits = subst (λ (adds : List Call). EntersOffered (ghost_after g s (effect g.marks s (kind_of (q_of o) seat (part.asks m s)) f) (kind_of (q_of o) seat (part.asks m s)) f) (effect g.marks s (kind_of (q_of o) seat (part.asks m s)) f) (part.after m s f).seat adds)
+          (none_at (part.after m s f).seat (part.after m s f).turn) (laws.enters f is admits)
+
+      ends_so : (f : ℕ) → IsFound o seat s g (whole.asks (inject m) s) f → whole.admits (inject m) s f → (out : OutA) → (part.after m s f).turn ≡ Done out → R out (part.after m s f).seat (left s g (part.asks m s) f)
+      ends_so f is may out done = laws.ends f out (found f is) (leaves m s f may) done
 
       lawful : Lawful o seat whole rec PC RC (inject m) s g
       lawful = record {
-        may = λ c pin began inv knows. subst (λ (ask : Ask). May o c g s (kind_of (q_of o) seat ask)) asks (laws.may c pin began inv knows);
-        offered = ap (λ (ask : Ask). is_offered (kind_of (q_of o) seat ask)) (sym asks) ∙ laws.offered;
-        admitted = λ c pin began inv knows. subst (λ (ask : Ask). whole.admits (inject m) s (found_answer c.memory ask)) asks
-            (joins m s g (found_answer c.memory (part.asks m s)) stands (laws.admitted c pin began inv knows));
-        enters = λ f may. subst (λ (ask : Ask). EntersOffered (left s g ask f) (effect g.marks s (kind_of (q_of o) seat ask) f) (whole.after (inject m) s f).seat (adds_at rec (whole.after (inject m) s f).seat (whole.after (inject m) s f).turn)) asks
+        may = λ c pin began inv unspent knows. subst (λ (ask : Ask). May o c g s (kind_of (q_of o) seat ask)) asks (laws.may c pin began inv unspent knows);
+        offered = subst (λ (ask : Ask). IsOfferedKind s (kind_of (q_of o) seat ask)) asks laws.offered;
+        admitted = λ c pin began inv unspent knows. subst (λ (ask : Ask). whole.admits (inject m) s (found_answer c.memory ask)) asks
+            (joins m s g (found_answer c.memory (part.asks m s)) stands (laws.admitted c pin began inv unspent knows));
+        enters = λ f is may. subst (λ (ask : Ask). EntersOffered (left s g ask f) (effect g.marks s (kind_of (q_of o) seat ask) f) (whole.after (inject m) s f).seat (adds_at rec (whole.after (inject m) s f).seat (whole.after (inject m) s f).turn)) asks
             (subst (λ (r : After C Out). EntersOffered (left s g (part.asks m s) f) (effect g.marks s (kind_of (q_of o) seat (part.asks m s)) f) r.seat (adds_at rec r.seat r.turn)) (same f)
-            (at_enters (left s g (part.asks m s) f) (effect g.marks s (kind_of (q_of o) seat (part.asks m s)) f) (part.after m s f).seat (part.after m s f).machine (part.after m s f).turn (first f (leaves m s f may)) (λ out done. laws.ends f out (leaves m s f may) done)));
-        none_added = λ f may. subst (λ (r : After C Out). adds_at rec r.seat r.turn ≡ []) (same f)
-            (at_none (left s g (part.asks m s) f) (part.after m s f).seat (part.after m s f).machine (part.after m s f).turn (λ out done. laws.ends f out (leaves m s f may) done));
-        goes = λ f may go. subst (λ (ask : Ask). PC (whole.after (inject m) s f).machine (whole.after (inject m) s f).seat (left s g ask f)) asks
+            (at_enters (left s g (part.asks m s) f) (effect g.marks s (kind_of (q_of o) seat (part.asks m s)) f) (part.after m s f).seat (part.after m s f).machine (part.after m s f).turn (first f (found f is) (leaves m s f may)) (ends_so f is may)));
+        none_added = λ f is may. subst (λ (r : After C Out). adds_at rec r.seat r.turn ≡ []) (same f)
+            (at_none (left s g (part.asks m s) f) (part.after m s f).seat (part.after m s f).machine (part.after m s f).turn (ends_so f is may));
+        goes = λ f is may go. subst (λ (ask : Ask). PC (whole.after (inject m) s f).machine (whole.after (inject m) s f).seat (left s g ask f)) asks
             (subst (λ (r : After C Out). r.turn ≡ Go → PC r.machine r.seat (left s g (part.asks m s) f)) (same f)
-            (at_goes (left s g (part.asks m s) f) (part.after m s f).seat (part.after m s f).machine (part.after m s f).turn (laws.goes f (leaves m s f may)) (λ out done. laws.ends f out (leaves m s f may) done)) go);
-        ends = λ f out may done. subst (λ (ask : Ask). RC out (whole.after (inject m) s f).seat (left s g ask f)) asks
+            (at_goes (left s g (part.asks m s) f) (part.after m s f).seat (part.after m s f).machine (part.after m s f).turn (laws.goes f (found f is) (leaves m s f may)) (ends_so f is may)) go);
+        ends = λ f out is may done. subst (λ (ask : Ask). RC out (whole.after (inject m) s f).seat (left s g ask f)) asks
             (subst (λ (r : After C Out). r.turn ≡ Done out → RC out r.seat (left s g (part.asks m s) f)) (same f)
-            (at_ends (left s g (part.asks m s) f) (part.after m s f).seat (part.after m s f).machine (part.after m s f).turn out (λ end done. laws.ends f end (leaves m s f may) done)) done);
+            (at_ends (left s g (part.asks m s) f) (part.after m s f).seat (part.after m s f).machine (part.after m s f).turn out (ends_so f is may)) done);
       }

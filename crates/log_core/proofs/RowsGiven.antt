@@ -8,7 +8,7 @@ use Rattle.log_core.specs.Origin.{Origin, Generation}
 use Rattle.log_core.specs.Cores.{IsKept, IsPinned}
 use Rattle.log_core.specs.Needs.{owned_numbers}
 use Rattle.log_core.specs.Steps.{is_among}
-use Rattle.log_core.specs.May.{MayClearBits, OfOwned, OfReplaced, OfLimbo, IsClearScan}
+use Rattle.log_core.specs.May.{MayClearBits, AreGivenBack, OfOwned, OfReplaced, OfLimbo, IsClearScan}
 use Rattle.log_core.specs.Rows.{collected, scan_held, scan_clear, KeptUntilUnpinned, BitsCleared, BitsNotCleared, CollectEnds, SyncEnds}
 use Rattle.log_core.proofs.RowTells.{limbo_of, is_put, said, none_not_some}
 use Rattle.log_core.proofs.RowsTaken.{all_among}
@@ -48,11 +48,11 @@ each_clear (suc (suc seat)) less = absurd (omega (arith, less))
 pub bits_cleared : BitsCleared
 bits_cleared = (
   refl,
-  OfReplaced (all_among 8 (λ block. has (view_of scan_clear.views 0).seat.giving.replaced block) refl) refl (record { whole = refl; each = each_clear }),
+  record { inside = omega arith; small = omega arith; given = OfReplaced (all_among 8 (λ block. has (view_of scan_clear.views 0).seat.giving.replaced block) refl) refl (record { whole = refl; each = each_clear }) },
   refl,
   refl,
   refl,
-  OfOwned (all_among 4 (λ block. has (owned_numbers (view_of collected.views 1).seat.blocks.owned) block) refl),
+  record { inside = omega arith; small = omega arith; given = OfOwned (all_among 4 (λ block. has (owned_numbers (view_of collected.views 1).seat.blocks.owned) block) refl) },
   refl,
   refl,
   refl,
@@ -60,11 +60,15 @@ bits_cleared = (
 )
 
 -- a block that is neither owned nor kept from earlier, and may not be given back of the replaced ones
+none_given : (s : Seat) (bits block : ℕ) → is_among 0 bits block ≡ true → has (owned_numbers s.blocks.owned) block ≡ false → has s.giving.limbo block ≡ false
+    → (has s.giving.replaced block ≡ true → s.giving.head_fenced ≡ true → IsClearScan s 2 s.giving.replaced_generation → ⊥) → AreGivenBack s 2 0 bits → ⊥
+none_given s bits block among owned limbo replaced (OfOwned all) = false≢true (sym owned ∙ all block among)
+none_given s bits block among owned limbo replaced (OfReplaced all sure scan) = replaced (all block among) sure scan
+none_given s bits block among owned limbo replaced (OfLimbo all scan) = false≢true (sym limbo ∙ all block among)
+
 no_clear : (s : Seat) (bits block : ℕ) → is_among 0 bits block ≡ true → has (owned_numbers s.blocks.owned) block ≡ false → has s.giving.limbo block ≡ false
     → (has s.giving.replaced block ≡ true → s.giving.head_fenced ≡ true → IsClearScan s 2 s.giving.replaced_generation → ⊥) → MayClearBits s 2 0 bits → ⊥
-no_clear s bits block among owned limbo replaced (OfOwned all) = false≢true (sym owned ∙ all block among)
-no_clear s bits block among owned limbo replaced (OfReplaced all sure scan) = replaced (all block among) sure scan
-no_clear s bits block among owned limbo replaced (OfLimbo all scan) = false≢true (sym limbo ∙ all block among)
+no_clear s bits block among owned limbo replaced may = none_given s bits block among owned limbo replaced may.given
 
 held_by : (pin : ℕ) → pin ≡ 1 → (pin ≡ 0) ⊎ (1 < pin) → ⊥
 held_by pin one (inl none) = omega (arith, one, none)

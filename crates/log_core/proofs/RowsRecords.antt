@@ -8,6 +8,8 @@ use Rattle.persistence.specs.Memory.{cell}
 use Rattle.log_core.specs.Views.{HeadPut, view_of}
 use Rattle.log_core.specs.Order.{nth_generation}
 use Rattle.log_core.specs.Records.{one_if, parts_with, collected_by, WritesFit, WritesOnce, PutFits, NeverFall, RecordHolds, CallHolds, TailHolds, MarksFit}
+use Rattle.log_core.specs.Invariant.{names_by}
+use Rattle.log_core.specs.Files.{entries}
 use Rattle.log_core.specs.Synced.{SyncHolds}
 use Rattle.log_core.specs.Samples.{image_a}
 use Rattle.log_core.specs.Rows.{collected, slot_marked, synced}
@@ -129,12 +131,12 @@ records_stand = record {
 no_reply : (seat : ℕ) → Wrote 1 ≡ Synced seat → ⊥
 no_reply seat same = true≢false (ap is_written same)
 
-marked_views : (seat : ℕ) → SyncHolds (λ word. cell slot_marked.memory word) slot_marked.memory.past slot_marked.memory.notes 0 seat (view_of slot_marked.views seat)
+marked_views : (seat : ℕ) → SyncHolds 8 (names_by image_a slot_marked.logs (entries image_a slot_marked.history) slot_marked.generations) (λ word. cell slot_marked.memory word) slot_marked.memory.past slot_marked.memory.notes 0 seat (view_of slot_marked.views seat)
 marked_views zero = record {
   to = λ position same. absurd (none_not_some position same);
   marks = λ sync. (
-    record { head = λ same. omega arith; other = λ another. absurd (another refl) },
-    (record { head = λ same. absurd (omega (arith, same)); other = λ another. (refl, λ none. omega (arith, none)) }, tt),
+    record { named = λ another. absurd (another refl); head = λ same. omega arith; other = λ another. absurd (another refl) },
+    (record { named = λ another. refl; head = λ same. absurd (omega (arith, same)); other = λ another. (refl, λ none. omega (arith, none)) }, tt),
   );
   valid = λ sync some. refl;
   answered = (λ position same. absurd (no_reply position same), tt);
@@ -147,7 +149,7 @@ marked_views (suc (suc seat)) = record {
   answered = tt;
 }
 
-synced_views : (seat : ℕ) → SyncHolds (λ word. cell synced.memory word) synced.memory.past synced.memory.notes 1 seat (view_of synced.views seat)
+synced_views : (seat : ℕ) → SyncHolds 8 (names_by image_a synced.logs (entries image_a synced.history) synced.generations) (λ word. cell synced.memory word) synced.memory.past synced.memory.notes 1 seat (view_of synced.views seat)
 synced_views zero = record {
   to = λ position same. (let one = ap number_of same in (omega (arith, one), omega (arith, one)));
   marks = λ sync. tt;

@@ -1,6 +1,6 @@
 -- Rows of runs, of a whole step, and of splits and joins.
 use Rattle.std.proofs.Common.{◌≡◌, false, [], ◌∷◌, refl, inr, arith, ap, subst, Some}
-use Rattle.std.proofs.lemmas.Bool.{false≢true, true≢false}
+use Rattle.std.proofs.lemmas.Bool.{true≢false}
 use Rattle.log_entry.specs.declared.calls.Op.{Op}
 use Rattle.seat_parts.specs.declared.keeps.Task.TheVariants.{Pwrite}
 use Rattle.log_core.specs.Views.{op_of}
@@ -36,7 +36,7 @@ pin_runs = (
               enters = record { last = _; computed = record { works = []; may = tt; gives = refl }; going_on = refl; adds_are = tt; seat_is = refl };
             };
           };
-          offered = record { kind = refl; before = refl; later = refl; no_record = refl };
+          offered = record { kind = tt; before = refl; later = refl; no_record = refl };
         },
       ),
       record {
@@ -50,7 +50,7 @@ pin_runs = (
             enters = record { last = _; computed = record { works = []; may = tt; gives = refl }; going_on = refl; adds_are = tt; seat_is = refl };
           };
         };
-        offered = record { kind = refl; before = refl; later = refl; no_record = refl };
+        offered = record { kind = tt; before = refl; later = refl; no_record = refl };
       },
     ),
     record {
@@ -64,7 +64,7 @@ pin_runs = (
           enters = record { last = _; computed = record { works = []; may = tt; gives = refl }; going_on = refl; adds_are = tt; seat_is = refl };
         };
       };
-      offered = record { kind = refl; before = refl; later = refl; no_record = refl };
+      offered = record { kind = tt; before = refl; later = refl; no_record = refl };
     },
   ),
   refl,
@@ -88,7 +88,7 @@ write_fits = (
       };
     };
   },
-  λ allowed. false≢true allowed.offered.kind,
+  λ allowed. allowed.offered.kind,
 )
 
 pub views_join : ViewsJoin

@@ -20,9 +20,9 @@ use Rattle.log_core.specs.Files.{end_of}
 use Rattle.log_core.specs.Runs.{MayNumber, Allowed, IsReached, is_offered_work}
 use Rattle.log_core.specs.Invariant.{Invariant}
 use Rattle.log_core.specs.Knows.{Knows}
-use Rattle.log_core.specs.Within.{note_of, Did, within, Lawful, Serves, IsLinked, IsLeft}
+use Rattle.log_core.specs.Within.{note_of, Did, within, IsFound, Lawful, Serves, IsLinked, IsLeft}
 use Rattle.log_core.proofs.Facts.{facts_of}
-use Rattle.log_core.proofs.StepHolds.{works_hold}
+use Rattle.log_core.proofs.Worked.{works_hold}
 use Rattle.log_core.proofs.RunHolds.{run_from}
 
 -- no call begins where the state stays
@@ -70,8 +70,21 @@ module _ (o : Origin) (start : Invariant o (first_core o)) (seat number : ℕ) w
     admitted_at : (m : M) (s : Seat) (c : Core) → Invariant o c → seat < length c.views → IsLinked number rest (P m) s (view_of c.views seat) → script.admits m s (found_answer c.memory (script.asks m s))
     admitted_at m s c inv here linked =
         (serves m s (ghost_begun (view_of c.views seat).ghost (view_of c.views seat).seat s number) linked.fits).admitted c (slice_index c.memory.now.pins seat)
-        (slice_index (began_if (is_begun (op_in (view_of c.views seat).seat) (op_in s)) c.began seat (end_of o c.history)) seat) inv
+        (slice_index (began_if (is_begun (op_in (view_of c.views seat).seat) (op_in s)) c.began seat (end_of o c.history)) seat) inv linked.unspent
         (knows_here c s inv here linked.begins linked.offered linked.number_is)
+
+    -- it is what may be found
+    found_at : (m : M) (s : Seat) (c : Core) → Invariant o c → seat < length c.views → IsLinked number rest (P m) s (view_of c.views seat) →
+        IsFound o seat s (ghost_begun (view_of c.views seat).ghost (view_of c.views seat).seat s number) (script.asks m s) (found_answer c.memory (script.asks m s))
+    found_at m s c inv here linked = record {
+      core = c;
+      pin = slice_index c.memory.now.pins seat;
+      began = slice_index (began_if (is_begun (op_in (view_of c.views seat).seat) (op_in s)) c.began seat (end_of o c.history)) seat;
+      holds = inv;
+      unspent = linked.unspent;
+      knows = knows_here c s inv here linked.begins linked.offered linked.number_is;
+      is = refl;
+    }
 
     -- and the ask is a step
     can_at : (m : M) (s : Seat) (c : Core) → Invariant o c → seat < length c.views → IsLinked number rest (P m) s (view_of c.views seat) →
@@ -80,6 +93,7 @@ module _ (o : Origin) (start : Invariant o (first_core o)) (seat number : ℕ) w
         (let laws = serves m s (ghost_begun (view_of c.views seat).ghost (view_of c.views seat).seat s number) linked.fits in
         let f = found_answer c.memory (script.asks m s) in
         let admits = admitted_at m s c inv here linked in
+        let is = found_at m s c inv here linked in
         record {
           fits = record {
             made = here;
@@ -87,12 +101,12 @@ module _ (o : Origin) (start : Invariant o (first_core o)) (seat number : ℕ) w
             step = record {
               begins = linked.begins;
               number = linked.number_is;
-              may = laws.may c (slice_index c.memory.now.pins seat) (slice_index (began_if (is_begun (op_in (view_of c.views seat).seat) (op_in s)) c.began seat (end_of o c.history)) seat) inv
+              may = laws.may c (slice_index c.memory.now.pins seat) (slice_index (began_if (is_begun (op_in (view_of c.views seat).seat) (op_in s)) c.began seat (end_of o c.history)) seat) inv linked.unspent
                   (knows_here c s inv here linked.begins linked.offered linked.number_is);
-              enters = (laws.enters f admits).enters;
+              enters = (laws.enters f is admits).enters;
             };
           };
-          offered = record { kind = laws.offered; before = linked.offered; later = (laws.enters f admits).offered; no_record = laws.none_added f admits };
+          offered = record { kind = laws.offered; before = linked.offered; later = (laws.enters f is admits).offered; no_record = laws.none_added f is admits };
         })
 
     linked_to : (m : M) (s : Seat) (v : View) (c : Core) → view_of c.views seat ≡ v → IsLinked number rest (P m) s v → IsLinked number rest (P m) s (view_of c.views seat)
@@ -102,14 +116,20 @@ module _ (o : Origin) (start : Invariant o (first_core o)) (seat number : ℕ) w
     admitted_here m s v linked f w did = subst (λ (x : ℕ). script.admits m s x) did.answer
         (admitted_at m s did.core (reached_keeps o start did.core did.reached) did.made (linked_to m s v did.core did.at linked))
 
-    -- the ghost part after a step that adds no record
-    ghost_of : (m : M) (s : Seat) (v : View) (f : ℕ) → script.admits m s f → IsLinked number rest (P m) s v →
-        (view_after v (kind m s) (note_of script rec number m s f) f).ghost ≡ ghost_next m s (ghost_begun v.ghost v.seat s number) f
-    ghost_of m s v f admits linked = ap (λ (adds : List Call). ghost_ended adds (ghost_next m s (ghost_begun v.ghost v.seat s number) f))
-        ((serves m s (ghost_begun v.ghost v.seat s number) linked.fits).none_added f admits)
+    found_here : (m : M) (s : Seat) (v : View) → IsLinked number rest (P m) s v → (f : ℕ) (w : View) → Did o seat v (script.asks m s) (note_of script rec number m s) f w →
+        IsFound o seat s (ghost_begun v.ghost v.seat s number) (script.asks m s) f
+    found_here m s v linked f w did = subst (λ (u : View). IsFound o seat s (ghost_begun u.ghost u.seat s number) (script.asks m s) f) did.at
+        (subst (λ (x : ℕ). IsFound o seat s (ghost_begun (view_of did.core.views seat).ghost (view_of did.core.views seat).seat s number) (script.asks m s) x) did.answer
+        (found_at m s did.core (reached_keeps o start did.core did.reached) did.made (linked_to m s v did.core did.at linked)))
 
-    done_of : (m : M) (s : Seat) (v : View) (f : ℕ) → script.admits m s f → IsLinked number rest (P m) s v → (view_after v (kind m s) (note_of script rec number m s f) f).done ≡ rest
-    done_of m s v f admits linked = ap (λ (adds : List Call). v.done ++ adds) ((serves m s (ghost_begun v.ghost v.seat s number) linked.fits).none_added f admits) ∙ (append-nil v.done ∙ linked.done)
+    -- the ghost part after a step that adds no record
+    ghost_of : (m : M) (s : Seat) (v : View) (f : ℕ) → IsFound o seat s (ghost_begun v.ghost v.seat s number) (script.asks m s) f → script.admits m s f → IsLinked number rest (P m) s v →
+        (view_after v (kind m s) (note_of script rec number m s f) f).ghost ≡ ghost_next m s (ghost_begun v.ghost v.seat s number) f
+    ghost_of m s v f is admits linked = ap (λ (adds : List Call). ghost_ended adds (ghost_next m s (ghost_begun v.ghost v.seat s number) f))
+        ((serves m s (ghost_begun v.ghost v.seat s number) linked.fits).none_added f is admits)
+
+    done_of : (m : M) (s : Seat) (v : View) (f : ℕ) → IsFound o seat s (ghost_begun v.ghost v.seat s number) (script.asks m s) f → script.admits m s f → IsLinked number rest (P m) s v → (view_after v (kind m s) (note_of script rec number m s f) f).done ≡ rest
+    done_of m s v f is admits linked = ap (λ (adds : List Call). v.done ++ adds) ((serves m s (ghost_begun v.ghost v.seat s number) linked.fits).none_added f is admits) ∙ (append-nil v.done ∙ linked.done)
 
     keeps : (m : M) (s : Seat) (v : View) → IsLinked number rest (P m) s v → Keeps script (within o seat number script rec) (λ n t w. IsLinked number rest (P n) t w) (IsLeft rest rec R) m s v
     keeps m s v linked = record {
@@ -125,6 +145,7 @@ module _ (o : Origin) (start : Invariant o (first_core o)) (seat number : ℕ) w
         goes_on : (f : ℕ) (w : View) → Did o seat v (script.asks m s) (note_of script rec number m s) f w → (script.after m s f).turn ≡ Go → IsLinked number rest (P (script.after m s f).machine) (script.after m s f).seat w
         goes_on f w did go =
             (let admits = admitted_here m s v linked f w did in
+            let is = found_here m s v linked f w did in
             let u = view_after v (kind m s) (note_of script rec number m s f) f in
             subst (λ (x : View). IsLinked number rest (P (script.after m s f).machine) (script.after m s f).seat x) (sym did.left)
             (record {
@@ -133,20 +154,21 @@ module _ (o : Origin) (start : Invariant o (first_core o)) (seat number : ℕ) w
               offered = refl;
               number_is = number_stays (op_in (script.after m s f).seat) u.ghost.call.number number
                   (number_after (is_begun (op_in v.seat) (op_in s)) v.ghost.call number linked.number_is);
-              done = done_of m s v f admits linked;
+              done = done_of m s v f is admits linked;
               fits = subst (λ (g : Ghost). P (script.after m s f).machine (script.after m s f).seat g)
-                  (sym (ghost_of m s v f admits linked) ∙ sym (begun_self u.ghost (script.after m s f).seat number)) (laws.goes f admits go);
+                  (sym (ghost_of m s v f is admits linked) ∙ sym (begun_self u.ghost (script.after m s f).seat number)) (laws.goes f is admits go);
             }))
 
         ends_so : (f : ℕ) (w : View) (out : Out) → Did o seat v (script.asks m s) (note_of script rec number m s) f w → (script.after m s f).turn ≡ Done out → IsLeft rest rec R out (script.after m s f).seat w
         ends_so f w out did stop =
             (let admits = admitted_here m s v linked f w did in
+            let is = found_here m s v linked f w did in
             subst (λ (x : View). IsLeft rest rec R out (script.after m s f).seat x) (sym did.left)
             (record {
               unspent = linked.unspent;
               seat = refl;
-              done = done_of m s v f admits linked;
-              fits = subst (λ (g : Ghost). R out (script.after m s f).seat g) (sym (ghost_of m s v f admits linked)) (laws.ends f out admits stop);
+              done = done_of m s v f is admits linked;
+              fits = subst (λ (g : Ghost). R out (script.after m s f).seat g) (sym (ghost_of m s v f is admits linked)) (laws.ends f out is admits stop);
             }))
 
     -- a lawful machine leads to its end within a core, for every interleaving

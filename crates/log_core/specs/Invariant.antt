@@ -4,7 +4,7 @@ use Rattle.std.specs.List.{AllByRecursion}
 use Rattle.persistence.specs.Memory.{Memory, cell}
 use Rattle.log_core.specs.Entries.{LogEntry, head_place}
 use Rattle.log_core.specs.Views.{View, view_of}
-use Rattle.log_core.specs.Origin.{Origin, shape, first_generation, Owner, LogBlock, Generation}
+use Rattle.log_core.specs.Origin.{Origin, shape, q_of, first_generation, Owner, LogBlock, Generation}
 use Rattle.log_core.specs.Files.{Write, entries, end_of}
 use Rattle.log_core.specs.Cores.{Core, generation_at, current, chain_names, data_names, is_named, IsKept, head_floor}
 use Rattle.log_core.specs.Sizes.{Sizes}
@@ -85,7 +85,7 @@ pub record Records (o : Origin) (memory : Memory) (views : List View) (history :
 pub record Syncs (o : Origin) (memory : Memory) (views : List View) (history : List Write) (generations : List Generation) (logs : List LogBlock) (synced : ℕ) : Type 0 where
   pub to_end : synced ≤ end_of o history
   pub words : IsSynced (shape o) (λ word. cell memory word) generations logs (head_floor memory) synced
-  pub views_hold : SyncsHold (λ word. cell memory word) memory.past memory.notes synced views
+  pub views_hold : SyncsHold (q_of o) (names_by o logs (entries o history) generations) (λ word. cell memory word) memory.past memory.notes synced views
 
 pub record Invariant (o : Origin) (c : Core) : Type 0 where
   pub sizes : Sizes o c.memory c.views c.began

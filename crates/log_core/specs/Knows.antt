@@ -1,12 +1,13 @@
--- What the invariant says of one seat: what its state is to the core.
-use Rattle.std.specs.Prelude.{ℕ, ◌+◌, ◌≡◌, ◌≢◌, true, []}
+-- What the invariant says of one seat: what its state is to the core. The generation of a valid pin is the present one, or the view
+-- had it pinned.
+use Rattle.std.specs.Prelude.{ℕ, ◌+◌, ◌≡◌, ◌≢◌, ◌⊎◌, true, [], length}
 use Rattle.seat_state.specs.Seats.{Seat}
 use Rattle.persistence.specs.Memory.{cell}
 use Rattle.log_core.specs.Entries.{head_place}
 use Rattle.log_core.specs.Views.{View, Ghost, view_of}
-use Rattle.log_core.specs.Origin.{Origin, first_generation}
+use Rattle.log_core.specs.Origin.{Origin, q_of, first_generation}
 use Rattle.log_core.specs.Files.{entries}
-use Rattle.log_core.specs.Cores.{Core, current, head_floor}
+use Rattle.log_core.specs.Cores.{Core, current, head_floor, IsPinned}
 use Rattle.log_core.specs.Sizes.{SeatFits}
 use Rattle.log_core.specs.Owners.{SeatOwns}
 use Rattle.log_core.specs.Pins.{PinHolds}
@@ -15,7 +16,7 @@ use Rattle.log_core.specs.Owned.{OwnedHold}
 use Rattle.log_core.specs.Giving.{GivingHolds, ScanHolds}
 use Rattle.log_core.specs.Records.{WritesFit, WritesOnce, PutFits, CallHolds, TailHolds, MarksFit}
 use Rattle.log_core.specs.Synced.{SyncHolds}
-use Rattle.log_core.specs.Invariant.{KeptIn, around, names_by}
+use Rattle.log_core.specs.Invariant.{around, names_by}
 
 -- a view with another state of its seat
 abbrev pub with_seat : View → Seat → Ghost → View
@@ -25,7 +26,7 @@ with_seat v s g = record v { seat = s; ghost = g }
 -- first step
 pub record Knows (o : Origin) (c : Core) (n : ℕ) (s : Seat) (g : Ghost) (pin began : ℕ) : Type 0 where
   pub fits : (view_of c.views n).parts ≢ [] → SeatFits o n (with_seat (view_of c.views n) s g)
-  pub kept : (place : ℕ) → s.hold.valid ≡ true → s.hold.generation ≡ first_generation o + place → KeptIn o c place
+  pub kept : (place : ℕ) → s.hold.valid ≡ true → s.hold.generation ≡ first_generation o + place → (place + 1 ≡ length c.generations) ⊎ IsPinned o c.views place
   pub owns : SeatOwns c.owner n s
   pub pin_is : pin ≡ s.hold.pin
   pub pin_holds : PinHolds (first_generation o) (current o c.generations) (cell c.memory head_place) s.hold
@@ -42,4 +43,4 @@ pub record Knows (o : Origin) (c : Core) (n : ℕ) (s : Seat) (g : Ghost) (pin b
   pub calls : CallHolds o c.history (with_seat (view_of c.views n) s g)
   pub tail : TailHolds (with_seat (view_of c.views n) s g) began
   pub marks : MarksFit (λ word. cell c.memory word) c.memory.past c.memory.notes n (with_seat (view_of c.views n) s g)
-  pub syncs : SyncHolds (λ word. cell c.memory word) c.memory.past c.memory.notes c.synced n (with_seat (view_of c.views n) s g)
+  pub syncs : SyncHolds (q_of o) (names_by o c.logs (entries o c.history) c.generations) (λ word. cell c.memory word) c.memory.past c.memory.notes c.synced n (with_seat (view_of c.views n) s g)

@@ -26,7 +26,7 @@ use Rattle.log_core.specs.Files.{Write, entries, map_at, file_at, accepted_reply
 use Rattle.log_core.specs.Cores.{Core, generation_at, is_named, log_at, TrailWord, trail}
 use Rattle.log_core.specs.Works.{shape_of, words_of, tail_index}
 use Rattle.log_core.specs.Needs.{owned_numbers, lacking, is_in_area}
-use Rattle.log_core.specs.Steps.{Kind, LoadsHead, StoresOwnPin, LoadsPinWord, LoadsImageWord, LoadsBitmapWord, SetsBits, ClearsBits, StoresWord, ExchangesSlot, ExchangesLink, ExchangesHead, MarksWord, Fences, NoKind, is_among, content_of, new_meaning, new_snapshots, replaced_by}
+use Rattle.log_core.specs.Steps.{Kind, LoadsHead, StoresOwnPin, LoadsPinWord, LoadsImageWord, LoadsBitmapWord, SetsBits, ClearsBits, StoresWord, ExchangesSlot, ExchangesLink, ExchangesHead, MarksWord, Fences, NoKind, is_among, is_of_owned, content_of, new_meaning, new_snapshots, replaced_by}
 use Rattle.log_core.specs.After.{new_generation, snapshot_meanings}
 use Rattle.log_core.specs.Snapshots.{first_or, IsSnapshot}
 
@@ -66,13 +66,19 @@ pub record IsClearScan (s : Seat) (seats generation : ℕ) : Type 0 where
   pub whole : length s.giving.pins_seen ≡ seats
   pub each : (seat : ℕ) → seat < seats → (slice_index s.giving.pins_seen seat ≡ 0) ⊎ (generation < slice_index s.giving.pins_seen seat)
 
--- a clearing of bits: of blocks of one list, and where a chain has named them, after a scan that found no pin that may need them
-pub data MayClearBits (s : Seat) (seats word bits : ℕ) : Type 0 where
-  OfOwned : ((block : ℕ) → is_among word bits block ≡ true → has (owned_numbers s.blocks.owned) block ≡ true) → MayClearBits s seats word bits
+-- blocks of one list are given back, and where a chain has named them, after a scan that found no pin that may need them
+pub data AreGivenBack (s : Seat) (seats word bits : ℕ) : Type 0 where
+  OfOwned : ((block : ℕ) → is_among word bits block ≡ true → has (owned_numbers s.blocks.owned) block ≡ true) → AreGivenBack s seats word bits
   OfReplaced : ((block : ℕ) → is_among word bits block ≡ true → has s.giving.replaced block ≡ true)
-      → s.giving.head_fenced ≡ true → IsClearScan s seats s.giving.replaced_generation → MayClearBits s seats word bits
+      → s.giving.head_fenced ≡ true → IsClearScan s seats s.giving.replaced_generation → AreGivenBack s seats word bits
   OfLimbo : ((block : ℕ) → is_among word bits block ≡ true → has s.giving.limbo block ≡ true)
-      → IsClearScan s seats s.giving.limbo_generation → MayClearBits s seats word bits
+      → IsClearScan s seats s.giving.limbo_generation → AreGivenBack s seats word bits
+
+-- a clearing of bits: of a bitmap word that there is, of 64 bits
+pub record MayClearBits (s : Seat) (seats word bits : ℕ) : Type 0 where
+  pub inside : word < length s.blocks.found
+  pub small : bits < 2 ^ 64
+  pub given : AreGivenBack s seats word bits
 
 -- a store: of a word of an owned block
 pub record MayStoreWord (s : Seat) (word value : ℕ) : Type 0 where
@@ -229,9 +235,25 @@ May o c g s (MarksWord word) = MayMark (walked_trail o c s) g s word
 May o c g s Fences = MayFence (walked_trail o c s) g s
 May o c g s NoKind = ⊥
 
--- the kinds that are proved to keep the invariant; no other is a step yet
-abbrev pub is_offered : Kind → Bool
-is_offered LoadsHead = true
-is_offered (StoresOwnPin value) = true
-is_offered (LoadsPinWord other) = true
-is_offered _ = false
+-- a mark of a word of an owned block, in a call that is no sync
+pub record IsOwnMark (s : Seat) (word : ℕ) : Type 0 where
+  pub owned : has (owned_numbers s.blocks.owned) (word / words_of s) ≡ true
+  pub no_sync : s.calling.job ≢ Sync
+
+-- the kinds that are proved to keep the invariant, by the state at the ask; no other is a step yet: bits are cleared of owned blocks
+-- alone, words are marked of owned blocks alone, and no sync marks or fences
+abbrev pub IsOfferedKind : Seat → Kind → Type 0
+IsOfferedKind s LoadsHead = Unit {0}
+IsOfferedKind s (StoresOwnPin value) = Unit {0}
+IsOfferedKind s (LoadsPinWord other) = Unit {0}
+IsOfferedKind s (LoadsBitmapWord word) = Unit {0}
+IsOfferedKind s (SetsBits word bits) = Unit {0}
+IsOfferedKind s (ClearsBits word bits) = is_of_owned s word bits ≡ true
+IsOfferedKind s (StoresWord word value) = Unit {0}
+IsOfferedKind s (MarksWord word) = IsOwnMark s word
+IsOfferedKind s Fences = s.calling.job ≢ Sync
+IsOfferedKind s (LoadsImageWord word) = ⊥
+IsOfferedKind s (ExchangesSlot word entry) = ⊥
+IsOfferedKind s (ExchangesLink word block) = ⊥
+IsOfferedKind s (ExchangesHead before next) = ⊥
+IsOfferedKind s NoKind = ⊥

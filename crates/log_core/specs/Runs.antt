@@ -7,10 +7,10 @@ use Rattle.persistence.specs.Memory.{found_answer}
 use Rattle.log_core.specs.Views.{View, Ghost, view_of, op_in}
 use Rattle.log_core.specs.Origin.{Origin, q_of}
 use Rattle.log_core.specs.Cores.{Core, first_core}
-use Rattle.log_core.specs.Works.{Work, Begins, Forgets, Computes}
+use Rattle.log_core.specs.Works.{Work, Begins, Forgets, SetsWord, CountsFilled, Computes}
 use Rattle.log_core.specs.Steps.{Note, Step, Does, Splits, Joins, Kind, kind_of, effect, is_begun, ghost_begun, ghost_after}
 use Rattle.log_core.specs.After.{after}
-use Rattle.log_core.specs.May.{May, is_offered}
+use Rattle.log_core.specs.May.{May, IsOfferedKind}
 use Rattle.log_core.specs.Answers.{Enters}
 
 -- a call that begins has a greater number than the one before it; else the number stays
@@ -78,15 +78,18 @@ Fits o c (Does seat ask note) = MayDo o c seat ask note
 Fits o c (Splits seat) = MaySplit o c seat
 Fits o c (Joins seat other) = MayJoin c seat other
 
--- what a call may compute so far with a step that is offered: it begins, or gives up its kept words
+-- what a call may compute so far with a step that is offered: it begins, gives up its kept words, sets a word of an owned block, or
+-- counts one as filled
 abbrev pub is_offered_work : Work → Bool
 is_offered_work (Begins task bytes) = true
 is_offered_work Forgets = true
+is_offered_work (SetsWord place word value) = true
+is_offered_work (CountsFilled place) = true
 is_offered_work _ = false
 
 -- a step of an offered kind, with offered computations, and no record yet
 pub record DoesOffered (o : Origin) (c : Core) (seat : ℕ) (ask : Ask) (note : Note) (fits : MayDo o c seat ask note) : Type 0 where
-  pub kind : is_offered (kind_of (q_of o) seat ask) ≡ true
+  pub kind : IsOfferedKind note.before (kind_of (q_of o) seat ask)
   pub before : list_all is_offered_work fits.step.begins.works ≡ true
   pub later : list_all is_offered_work fits.step.enters.computed.works ≡ true
   pub no_record : note.adds ≡ []

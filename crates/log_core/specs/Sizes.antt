@@ -1,11 +1,11 @@
 -- The parts of a core fit one another: their lengths, and what each view has of the start.
-use Rattle.std.specs.Prelude.{ℕ, ◌*◌, ◌<◌, ◌≤◌, ◌≡◌, ◌≢◌, ◌⊎◌, List, [], length}
+use Rattle.std.specs.Prelude.{ℕ, ◌*◌, ◌<◌, ◌≤◌, ◌≡◌, ◌≢◌, ◌⊎◌, List, [], length, slice_index}
 use Rattle.std.specs.List.{AllByRecursion}
 use Rattle.log_image.specs.Image.{words_in, total}
 use Rattle.seat_state.specs.Seats.{bitmap_words}
 use Rattle.seat_state.specs.declared.TheConstants.{SEATS}
 use Rattle.persistence.specs.Memory.{Memory, Noted}
-use Rattle.log_core.specs.Views.{View, view_of}
+use Rattle.log_core.specs.Views.{View, view_of, spent_view}
 use Rattle.log_core.specs.Origin.{Origin, shape, first_position}
 
 -- as many seats as there may be, of which one or all were made at first
@@ -26,6 +26,7 @@ pub record MemoryFits (o : Origin) (memory : Memory) (views : ℕ) : Type 0 wher
   pub taken : length memory.now.taken ≡ length o.taken
   pub pins : length memory.now.pins ≡ o.seats
   pub floors : length memory.floors ≡ length o.words
+  pub reached : (word : ℕ) → slice_index memory.floors word ≤ length memory.past
   pub notes : AllByRecursion (λ (note : Noted). (note.seat < views) × (note.word < length o.words) × (note.time ≤ length memory.past)) memory.notes
 
 -- what an unspent view has of the start: its number is its place, and its lists have the lengths of the image
@@ -38,7 +39,7 @@ pub record SeatFits (o : Origin) (place : ℕ) (v : View) : Type 0 where
   pub named : length v.seat.blocks.named ≡ bitmap_words o.geometry
   pub map : length v.seat.walk.map ≡ 65536
 
--- there is a view for each seat made, and the end at a call's first step for each
+-- there is a view for each seat made, and the end at a call's first step for each. A spent view holds nothing
 pub record Sizes (o : Origin) (memory : Memory) (views : List View) (began : List ℕ) : Type 0 where
   pub seats : HasSeats o
   pub image : HasImage o
@@ -47,4 +48,5 @@ pub record Sizes (o : Origin) (memory : Memory) (views : List View) (began : Lis
   pub few : length views ≤ o.seats
   pub begun : length began ≡ length views
   pub made : (view_of views 0).parts ≢ [] → (view_of views 0).made ≡ length views
+  pub spent : (number : ℕ) → (view_of views number).parts ≡ [] → view_of views number ≡ spent_view
   pub each : (number : ℕ) → number < length views → (view_of views number).parts ≢ [] → SeatFits o number (view_of views number)

@@ -1,7 +1,7 @@
 -- A step, its kind, and what it makes of the seat's state and of its view.
 use Rattle.std.specs.Prelude.{ℕ, zero, suc, ◌+◌, ◌-◌, ◌*◌, ◌/◌, ◌%◌, ◌^◌, ◌==◌, ◌&&◌, ◌||◌, not, nat_lt, nat_le, max, min, Bool, true, false, if◌then◌else◌, List, [], ◌∷◌, ◌++◌, length, map, filter, take, drop, replicate, slice_index, slice_set, bit_or, Option, Some, None}
 use Rattle.std.specs.Int.{bit_at}
-use Rattle.std.specs.List.{range_with_len, list_any}
+use Rattle.std.specs.List.{range_with_len, list_any, list_all}
 use Rattle.log_entry.specs.Fields.{field}
 use Rattle.log_entry.specs.declared.layouts.TheConstants.{SEAL, HEAD_BLOCK, HEAD_GENERATION}
 use Rattle.log_entry.specs.declared.shapes.Area.{Area}
@@ -212,17 +212,25 @@ head_exchanged s next found true = record s {
 }
 head_exchanged s next found false = record s { hold = record (s.hold) { head = found } }
 
--- blocks that clearing bits gives back leave each list
-abbrev pub given_back : Seat → ℕ → ℕ → Seat
-given_back s word bits = record s {
-  blocks = record (blocks_but (words_of s) (λ block. is_among word bits block) s.blocks) {
-    found = slice_set s.blocks.found word (without_bits (slice_index s.blocks.found word) bits);
-  };
+-- whether these bits are of owned blocks alone
+abbrev pub is_of_owned : Seat → ℕ → ℕ → Bool
+is_of_owned s word bits = list_all (λ (block : ℕ). not (is_among word bits block) || has (owned_numbers s.blocks.owned) block) (range_with_len (word * 64) 64)
+
+-- blocks that clearing bits gives back leave the list that they are of: the owned ones, or those that collections replaced
+abbrev pub give_if : Bool → Seat → ℕ → ℕ → Seat
+give_if true s word bits = record s { blocks = blocks_but (words_of s) (λ block. is_among word bits block) s.blocks }
+give_if false s word bits = record s {
   giving = record (s.giving) {
     replaced = filter (λ (block : ℕ). not (is_among word bits block)) s.giving.replaced;
     limbo = filter (λ (block : ℕ). not (is_among word bits block)) s.giving.limbo;
   };
 }
+
+abbrev pub not_found : Seat → ℕ → ℕ → Seat
+not_found s word bits = record s { blocks = record (s.blocks) { found = slice_set s.blocks.found word (without_bits (slice_index s.blocks.found word) bits) } }
+
+abbrev pub given_back : Seat → ℕ → ℕ → Seat
+given_back s word bits = not_found (give_if (is_of_owned s word bits) s word bits) word bits
 
 -- whether a head of a generation above this one is marked
 abbrev pub is_head_marked : ℕ → List Marked → Bool

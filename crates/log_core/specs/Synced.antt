@@ -1,5 +1,5 @@
 -- The synced position, and what no crash takes back.
-use Rattle.std.specs.Prelude.{ℕ, ◌+◌, ◌<◌, ◌≤◌, ◌≡◌, ◌≢◌, true, List, [], length, slice_index, Some}
+use Rattle.std.specs.Prelude.{ℕ, ◌+◌, ◌/◌, ◌<◌, ◌≤◌, ◌≡◌, ◌≢◌, true, Bool, List, [], length, slice_index, Some}
 use Rattle.std.specs.List.{AllByRecursion}
 use Rattle.log_entry.specs.Fields.{field}
 use Rattle.log_entry.specs.declared.layouts.TheConstants.{HEAD_GENERATION}
@@ -27,17 +27,19 @@ IsSynced image cells generations logs floor synced =
     (place number : ℕ) → floor ≤ place → place < length generations → (nth_generation generations place).cut ≤ number → number < length logs →
     IsSyncedIn image cells synced (nth_log logs number) (nth_log logs (number + 1))
 
--- a mark of a running sync: of the head, at its own generation or a later one; of another word, at its present value, which is not 0
-pub record SyncMarkHolds (cells : ℕ → Cell) (past : List Replaced) (generation : ℕ) (note : Noted) : Type 0 where
+-- a mark of a running sync: of the head, at its own generation or a later one; of another word, which is of a block that its generation
+-- names, at its present value, which is not 0
+pub record SyncMarkHolds (q : ℕ) (names : ℕ → ℕ → Bool) (cells : ℕ → Cell) (past : List Replaced) (generation : ℕ) (note : Noted) : Type 0 where
   pub head : note.word ≡ head_place → generation ≤ field HEAD_GENERATION (value_at (cells head_place) (index_at past note.time head_place))
+  pub named : note.word ≢ head_place → names generation (note.word / q) ≡ true
   pub other : note.word ≢ head_place → (index_at past note.time note.word ≡ length (cells note.word).past) × ((cells note.word).present ≢ 0)
 
 -- what a view knows of syncs: the position that a running one will answer is the view's, and it and each that was answered is synced
-pub record SyncHolds (cells : ℕ → Cell) (past : List Replaced) (notes : List Noted) (synced seat : ℕ) (v : View) : Type 0 where
+pub record SyncHolds (q : ℕ) (names : ℕ → ℕ → Bool) (cells : ℕ → Cell) (past : List Replaced) (notes : List Noted) (synced seat : ℕ) (v : View) : Type 0 where
   pub to : (position : ℕ) → v.seat.calling.sync_to ≡ Some position → (position ≡ v.seat.walk.position) × (position ≤ synced)
-  pub marks : v.seat.calling.job ≡ Sync → AllByRecursion (SyncMarkHolds cells past v.seat.hold.generation) (notes_of seat notes)
+  pub marks : v.seat.calling.job ≡ Sync → AllByRecursion (SyncMarkHolds q names cells past v.seat.hold.generation) (notes_of seat notes)
   pub valid : v.seat.calling.job ≡ Sync → notes_of seat notes ≢ [] → v.seat.hold.valid ≡ true
   pub answered : AllByRecursion (λ (call : Call). (position : ℕ) → call.reply ≡ Synced position → position ≤ synced) v.done
 
-abbrev pub SyncsHold : (ℕ → Cell) → List Replaced → List Noted → ℕ → List View → Type 0
-SyncsHold cells past notes synced views = (seat : ℕ) → SyncHolds cells past notes synced seat (view_of views seat)
+abbrev pub SyncsHold : ℕ → (ℕ → ℕ → Bool) → (ℕ → Cell) → List Replaced → List Noted → ℕ → List View → Type 0
+SyncsHold q names cells past notes synced views = (seat : ℕ) → SyncHolds q names cells past notes synced seat (view_of views seat)

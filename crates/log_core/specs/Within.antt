@@ -16,7 +16,7 @@ use Rattle.log_core.specs.Origin.{Origin, q_of}
 use Rattle.log_core.specs.Cores.{Core}
 use Rattle.log_core.specs.Works.{Computes}
 use Rattle.log_core.specs.Steps.{Note, Does, kind_of, effect, is_begun, ghost_begun, ghost_after, view_after}
-use Rattle.log_core.specs.May.{May, is_offered}
+use Rattle.log_core.specs.May.{May, IsOfferedKind}
 use Rattle.log_core.specs.Answers.{Enters}
 use Rattle.log_core.specs.Runs.{MayNumber, Allowed, IsReached, is_offered_work}
 use Rattle.log_core.specs.Invariant.{Invariant}
@@ -66,21 +66,31 @@ pub record EntersOffered (g : Ghost) (e t : Seat) (adds : List Call) : Type 0 wh
   pub enters : Enters g e t adds
   pub offered : list_all is_offered_work enters.computed.works ≡ true
 
+-- this may be found: it is the answer to the ask in some core in which the seat is not spent, and that knows it so
+pub record IsFound (o : Origin) (seat : ℕ) (s : Seat) (g : Ghost) (ask : Ask) (f : ℕ) : Type 0 where
+  pub core : Core
+  pub pin : ℕ
+  pub began : ℕ
+  pub holds : Invariant o core
+  pub unspent : (view_of core.views seat).parts ≢ []
+  pub knows : Knows o core seat s g pin began
+  pub is : found_answer core.memory ask ≡ f
+
 -- what a machine owes at one machine, seat and ghost part, whoever drives it: its ask may be made, in each core that knows the seat
 -- so; it admits what may be found there; what it makes of the seat is what the step does, and what a call may compute after it;
 -- and it goes on to what holds on the way, or ends in what holds at the end
 pub record Lawful {M Out : Type 0} (o : Origin) (seat : ℕ) (script : Script M Out) (rec : Out → Seat → List Call)
     (P : M → Seat → Ghost → Type 0) (R : Out → Seat → Ghost → Type 0) (m : M) (s : Seat) (g : Ghost) : Type 0 where
-  pub may : (c : Core) (pin began : ℕ) → Invariant o c → Knows o c seat s g pin began → May o c g s (kind_of (q_of o) seat (script.asks m s))
-  pub offered : is_offered (kind_of (q_of o) seat (script.asks m s)) ≡ true
-  pub admitted : (c : Core) (pin began : ℕ) → Invariant o c → Knows o c seat s g pin began → script.admits m s (found_answer c.memory (script.asks m s))
-  pub enters : (f : ℕ) → script.admits m s f →
+  pub may : (c : Core) (pin began : ℕ) → Invariant o c → (view_of c.views seat).parts ≢ [] → Knows o c seat s g pin began → May o c g s (kind_of (q_of o) seat (script.asks m s))
+  pub offered : IsOfferedKind s (kind_of (q_of o) seat (script.asks m s))
+  pub admitted : (c : Core) (pin began : ℕ) → Invariant o c → (view_of c.views seat).parts ≢ [] → Knows o c seat s g pin began → script.admits m s (found_answer c.memory (script.asks m s))
+  pub enters : (f : ℕ) → IsFound o seat s g (script.asks m s) f → script.admits m s f →
       EntersOffered (ghost_after g s (effect g.marks s (kind_of (q_of o) seat (script.asks m s)) f) (kind_of (q_of o) seat (script.asks m s)) f)
       (effect g.marks s (kind_of (q_of o) seat (script.asks m s)) f) (script.after m s f).seat (adds_at rec (script.after m s f).seat (script.after m s f).turn)
-  pub none_added : (f : ℕ) → script.admits m s f → adds_at rec (script.after m s f).seat (script.after m s f).turn ≡ []
-  pub goes : (f : ℕ) → script.admits m s f → (script.after m s f).turn ≡ Go →
+  pub none_added : (f : ℕ) → IsFound o seat s g (script.asks m s) f → script.admits m s f → adds_at rec (script.after m s f).seat (script.after m s f).turn ≡ []
+  pub goes : (f : ℕ) → IsFound o seat s g (script.asks m s) f → script.admits m s f → (script.after m s f).turn ≡ Go →
       P (script.after m s f).machine (script.after m s f).seat (ghost_after g s (effect g.marks s (kind_of (q_of o) seat (script.asks m s)) f) (kind_of (q_of o) seat (script.asks m s)) f)
-  pub ends : (f : ℕ) (out : Out) → script.admits m s f → (script.after m s f).turn ≡ Done out →
+  pub ends : (f : ℕ) (out : Out) → IsFound o seat s g (script.asks m s) f → script.admits m s f → (script.after m s f).turn ≡ Done out →
       R out (script.after m s f).seat (ghost_after g s (effect g.marks s (kind_of (q_of o) seat (script.asks m s)) f) (kind_of (q_of o) seat (script.asks m s)) f)
 
 -- wherever P holds the machine is lawful

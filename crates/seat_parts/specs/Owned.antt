@@ -1,5 +1,6 @@
 -- The blocks that a seat owns, as contracts see them.
-use Rattle.std.specs.Prelude.{ℕ, ◌+◌, ◌*◌, List, slice_index_or, slice_set, Bool, false}
+use Rattle.std.specs.Prelude.{ℕ, ◌+◌, ◌*◌, ◌/◌, ◌%◌, ◌==◌, ◌&&◌, ◌||◌, not, List, [], ◌∷◌, ◌++◌, map, filter, take, drop, slice_index_or, slice_set, Bool, false, if◌then◌else◌}
+use Rattle.std.specs.Int.{bit_at}
 use Rattle.std.specs.List.{remove_range}
 use Rattle.log_entry.specs.declared.shapes.Area.TheVariants.{Data}
 use Rattle.seat_parts.specs.declared.owned.OwnedBlock.{OwnedBlock}
@@ -26,3 +27,20 @@ with_filled owned k filled = slice_set owned k (record (owned_at owned k) { fill
 -- the owned blocks with the one at a place fenced or not
 abbrev pub with_fenced : List OwnedBlock → ℕ → Bool → List OwnedBlock
 with_fenced owned k fenced = slice_set owned k (record (owned_at owned k) { fenced = fenced })
+
+-- the owned blocks, each filled one fenced
+abbrev pub fenced_all : List OwnedBlock → List OwnedBlock
+fenced_all owned = map (λ (o : OwnedBlock). record o { fenced = o.fenced || o.filled }) owned
+
+-- whether a block's bit is among these bits of a bitmap word
+abbrev pub is_among : ℕ → ℕ → ℕ → Bool
+is_among word bits block = (block / 64 == word) && (bit_at bits (block % 64) == 1)
+
+-- owned blocks, and their contents, without those of which f is true
+abbrev pub owned_but : (ℕ → Bool) → List OwnedBlock → List OwnedBlock
+owned_but f owned = filter (λ (o : OwnedBlock). not (f o.block)) owned
+
+abbrev pub contents_but : ℕ → (ℕ → Bool) → List OwnedBlock → List ℕ → List ℕ
+contents_but q f [] contents = []
+contents_but q f (o ∷ owned) contents =
+    if f o.block then contents_but q f owned (drop q contents) else take q contents ++ contents_but q f owned (drop q contents)

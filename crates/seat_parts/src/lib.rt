@@ -2,6 +2,7 @@
 #![tactic(auto)]
 
 pub mod keeps;
+pub mod leaving;
 pub mod owned;
 pub mod room;
 #[cfg(test)]

@@ -2,6 +2,7 @@
 
 ghost use Rattle.std.specs.Prelude.{◌≡◌, ◌+◌, ◌*◌, ◌<◌, ◌≤◌, ◌++◌, ◌∷◌, [], false, IfOk, length, remove, replicate, take, slice_set};
 
+use crate::leaving::{fence_blocks, keep_blocks, keep_contents};
 use crate::room::{append_zeros, push, remove_words};
 use log_entry::Area;
 use std::alloc::{AllocError, Global};
@@ -44,7 +45,7 @@ impl Model for OwnedBlocks {
 }
 
 impl OwnedBlocks {
-    ghost use Rattle.seat_parts.specs.Owned.{Owned, without_block, with_filled, with_fenced};
+    ghost use Rattle.seat_parts.specs.Owned.{Owned, without_block, with_filled, with_fenced, fenced_all, is_among, owned_but, contents_but};
 
     /// No blocks, with room for `room` blocks of `block_words` words. Only want of memory refuses it.
     pub fn new(alloc: Global, block_words: u16, room: u32) -> Result<OwnedBlocks, AllocError>
@@ -95,18 +96,19 @@ impl OwnedBlocks {
         append_zeros(&mut self.contents, self.block_words as usize);
     }
 
-    /// Sets word `word` of the block at this place. The block then counts as not filled.
+    /// Sets word `word` of the block at this place. The block then counts as neither filled nor fenced.
     pub fn set_word(&mut self, place: u16, word: u16, value: u64)
         requires owned { place < length self.old.blocks }
         requires inside { word < self.old.block_words }
         ensures { self.new ≡ record self.old {
-          blocks = with_filled self.old.blocks place false;
+          blocks = with_fenced (with_filled self.old.blocks place false) place false;
           contents = slice_set self.old.contents (place * self.old.block_words + word) value;
         } }
     {
         let at = place as usize * self.block_words as usize + word as usize;
         self.contents[at] = value;
         self.blocks[place as usize].filled = false;
+        self.blocks[place as usize].fenced = false;
     }
 
     /// Sets whether the block at this place was filled since its content last changed.
@@ -152,5 +154,28 @@ impl OwnedBlocks {
         self.blocks.truncate(place as usize);
         self.contents
             .truncate(place as usize * self.block_words as usize);
+    }
+    /// Counts each filled block as fenced.
+    pub fn fence_filled(&mut self)
+        ensures { self.new ≡ record self.old { blocks = fenced_all self.old.blocks } }
+    {
+        fence_blocks(&mut self.blocks);
+    }
+
+    /// Removes the blocks whose bits are among these bits of word `word` of the bitmap, and their contents.
+    pub fn disown_in_word(&mut self, word: u32, bits: u64)
+        ensures { self.new ≡ record self.old {
+          blocks = owned_but (is_among word bits) self.old.blocks;
+          contents = contents_but self.old.block_words (is_among word bits) self.old.blocks self.old.contents;
+        } }
+    {
+        keep_contents(
+            &mut self.contents,
+            self.blocks.as_slice(),
+            self.block_words as usize,
+            word,
+            bits,
+        );
+        keep_blocks(&mut self.blocks, word, bits);
     }
 }

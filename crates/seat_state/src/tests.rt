@@ -176,6 +176,30 @@ fn blocks_that_a_seat_owns(rt: HostRuntime) -> Result<(), Fail> {
 }
 
 #[test]
+fn blocks_that_are_fenced_and_given_back(rt: HostRuntime) -> Result<(), Fail> {
+    let Ok(geometry) = Geometry::new(40, 4, 64) else {
+        return Ok(());
+    };
+    let mut seat = SeatState::new(rt.alloc(), geometry, 3, 4, 77)?;
+    seat.own(7, Area::Data);
+    seat.own(8, Area::Data);
+    seat.own(64, Area::Data);
+    seat.set_filled(1, true);
+    seat.fence_filled();
+    seat.disown_in_word(0, 128);
+    seat.disown_in_word(1, 1);
+    let left = OwnedBlock {
+        block: 8,
+        area: Area::Data,
+        filled: true,
+        fenced: true,
+    };
+    assert_eq!(rt; seat.owned(), [left].as_slice());
+    assert_eq!(rt; seat.contents().len(), 8);
+    Ok(())
+}
+
+#[test]
 fn bits_of_blocks(rt: HostRuntime) -> Result<(), Fail> {
     let Ok(geometry) = Geometry::new(40, 4, 64) else {
         return Ok(());

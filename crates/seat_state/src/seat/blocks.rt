@@ -1,7 +1,7 @@
 //! The blocks that the present call has taken, found taken or named.
 
 ghost use Rattle.std.specs.Prelude.{◌≡◌, ◌+◌, ◌*◌, ◌<◌, ◌++◌, ◌∷◌, [], false, length, remove, replicate, take, slice_index, slice_set, bit_or};
-ghost use Rattle.seat_parts.specs.Owned.{without_block, with_filled, with_fenced};
+ghost use Rattle.seat_parts.specs.Owned.{without_block, with_filled, with_fenced, fenced_all, is_among, owned_but, contents_but};
 ghost use Rattle.seat_state.specs.Seats.{q_of, owned_room, bitmap_words, without_bits};
 
 use super::SeatState;
@@ -39,13 +39,13 @@ impl SeatState {
     }
 
     /// Sets one word of an owned block's content: word `word`, below q, of the block at place `place` of their list. The
-    /// block then counts as not filled.
+    /// block then counts as neither filled nor fenced.
     pub fn set_word(&mut self, place: u16, word: u16, value: u64)
         requires owned { place < length self.old.blocks.owned }
         requires inside { word < q_of self.old.geometry }
         ensures { self.new ≡ record self.old {
           blocks = record self.old.blocks {
-            owned = with_filled self.old.blocks.owned place false;
+            owned = with_fenced (with_filled self.old.blocks.owned place false) place false;
             contents = slice_set self.old.blocks.contents (place * q_of self.old.geometry + word) value;
           };
         } }
@@ -67,6 +67,25 @@ impl SeatState {
         ensures { self.new ≡ record self.old { blocks = record self.old.blocks { owned = with_fenced self.old.blocks.owned place fenced } } }
     {
         self.owned.set_fenced(place, fenced);
+    }
+
+    /// Counts each filled block as fenced: a fence came.
+    pub fn fence_filled(&mut self)
+        ensures { self.new ≡ record self.old { blocks = record self.old.blocks { owned = fenced_all self.old.blocks.owned } } }
+    {
+        self.owned.fence_filled();
+    }
+
+    /// Removes the blocks whose bits are among these bits of word `word` of the bitmap, and their contents: they were given back.
+    pub fn disown_in_word(&mut self, word: u32, bits: u64)
+        ensures { self.new ≡ record self.old {
+          blocks = record self.old.blocks {
+            owned = owned_but (is_among word bits) self.old.blocks.owned;
+            contents = contents_but (q_of self.old.geometry) (is_among word bits) self.old.blocks.owned self.old.blocks.contents;
+          };
+        } }
+    {
+        self.owned.disown_in_word(word, bits);
     }
 
     /// Removes the block at this place, and its content: it was committed or given back.
@@ -120,7 +139,8 @@ impl SeatState {
 
     /// Takes every bit out of `found`.
     pub fn clear_found(&mut self)
-        ensures { self.new ≡ record self.old { blocks = record self.old.blocks { found = replicate (bitmap_words self.old.geometry) 0 } } }
+        ensures len { length self.new.blocks.found ≡ bitmap_words self.new.geometry }
+        ensures words { self.new ≡ record self.old { blocks = record self.old.blocks { found = replicate (bitmap_words self.old.geometry) 0 } } }
     {
         self.found.fill(0);
     }

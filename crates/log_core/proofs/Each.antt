@@ -1,0 +1,47 @@
+-- Facts of each element of a list.
+use Rattle.std.proofs.Common.{◌≡◌, Bool, true, false, ◌||◌, List, [], ◌∷◌, ◌++◌, filter, cond, map, refl, ap, ◌∙◌}
+use Rattle.std.specs.List.{AllByRecursion, list_any}
+
+pub each_weaker : {X : Type 0} (P Q : X → Type 0) (xs : List X) → ((x : X) → P x → Q x) → AllByRecursion P xs → AllByRecursion Q xs
+each_weaker P Q [] weaker all = tt
+each_weaker P Q (x ∷ xs) weaker all = (weaker x all.0, each_weaker P Q xs weaker all.1)
+
+pub each_push : {X : Type 0} (P : X → Type 0) (xs : List X) (x : X) → AllByRecursion P xs → P x → AllByRecursion P (xs ++ x ∷ [])
+each_push P [] x all new = (new, tt)
+each_push P (y ∷ xs) x all new = (all.0, each_push P xs x all.1 new)
+
+pub each_both : {X : Type 0} (P Q : X → Type 0) (xs : List X) → AllByRecursion P xs → AllByRecursion Q xs → AllByRecursion (λ (x : X). P x × Q x) xs
+each_both P Q [] first second = tt
+each_both P Q (x ∷ xs) first second = ((first.0, second.0), each_both P Q xs first.1 second.1)
+
+cond_each : {X : Type 0} (P : X → Type 0) (b : Bool) (x : X) (xs : List X) → (b ≡ true → P x) → AllByRecursion P xs → AllByRecursion P (cond b (x ∷ xs) xs)
+cond_each P true x xs here rest = (here refl, rest)
+cond_each P false x xs here rest = rest
+
+-- of those that a test leaves
+pub each_filter : {X : Type 0} (P : X → Type 0) (f : X → Bool) (xs : List X) → AllByRecursion (λ (x : X). f x ≡ true → P x) xs → AllByRecursion P (filter f xs)
+each_filter P f [] all = tt
+each_filter P f (x ∷ xs) all = cond_each P (f x) x (filter f xs) all.0 (each_filter P f xs all.1)
+
+-- what follows of one that a test passes, where it does of each
+pub any_each : {X R : Type 0} (P : X → Type 0) (f : X → Bool) (xs : List X) → list_any f xs ≡ true → AllByRecursion P xs → ((x : X) → f x ≡ true → P x → R) → R
+any_each P f [] any all gives = cc
+any_each {X} {R} P f (x ∷ xs) any all gives = by (f x) (λ passes. gives x passes all.0) (λ rest. any_each P f xs rest all.1 gives) any
+  where
+    by : (b : Bool) → (b ≡ true → R) → (list_any f xs ≡ true → R) → (b || list_any f xs) ≡ true → R
+    by true here later e = here refl
+    by false here later e = later e
+
+-- two tests that agree at each element
+pub any_same : {X : Type 0} (f g : X → Bool) (xs : List X) → AllByRecursion (λ (x : X). f x ≡ g x) xs → list_any f xs ≡ list_any g xs
+any_same f g [] same = refl
+any_same f g (x ∷ xs) same = ap (λ (b : Bool). b || list_any f xs) same.0 ∙ ap (λ (b : Bool). g x || b) (any_same f g xs same.1)
+
+pub each_map : {X Y : Type 0} (P : Y → Type 0) (f : X → Y) (xs : List X) → AllByRecursion (λ (x : X). P (f x)) xs → AllByRecursion P (map f xs)
+each_map P f [] all = tt
+each_map P f (x ∷ xs) all = (all.0, each_map P f xs all.1)
+
+-- two functions that agree at each element
+pub map_same : {X Y : Type 0} (f g : X → Y) (xs : List X) → AllByRecursion (λ (x : X). f x ≡ g x) xs → map f xs ≡ map g xs
+map_same f g [] same = refl
+map_same {X} {Y} f g (x ∷ xs) same = ap (λ (y : Y). y ∷ map f xs) same.0 ∙ ap (λ (ys : List Y). g x ∷ ys) (map_same f g xs same.1)
