@@ -9,4 +9,5 @@ pub mod TakeCompose
 pub mod TakeCovered
 pub mod TakeOneWord
 pub mod TakeOverPlain
+pub mod TakeGrowth
 pub mod BlockWords
