@@ -10,4 +10,5 @@ pub mod TakeCovered
 pub mod TakeOneWord
 pub mod TakeOverPlain
 pub mod TakeGrowth
+pub mod TakeEffects
 pub mod BlockWords
