@@ -11,4 +11,5 @@ pub mod TakeOneWord
 pub mod TakeOverPlain
 pub mod TakeGrowth
 pub mod TakeEffects
+pub mod TakeSettles
 pub mod BlockWords
