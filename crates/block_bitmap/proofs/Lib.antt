@@ -12,4 +12,5 @@ pub mod TakeOverPlain
 pub mod TakeGrowth
 pub mod TakeEffects
 pub mod TakeSettles
+pub mod TakeServes
 pub mod BlockWords

@@ -38,7 +38,7 @@ pub record CanPass (area : Area) (count : ℕ) (s : Seat) (p : PlainWords) : Typ
 twice : (f a b : ℕ) → bit_or (bit_or f a) (bit_or a b) ≡ bit_or f (bit_or a b)
 twice f a b = same_from_bits (bit_or (bit_or f a) (bit_or a b)) (bit_or f (bit_or a b)) (λ i. omega (arith, bit_at_or (bit_or f a) (bit_or a b) i, bit_at_or f a i, bit_at_or f (bit_or a b) i, bit_at_or a b i))
 
-last_inside : (area : Area) (s : Seat) → last_word area s < bitmap_words s.geometry
+pub last_inside : (area : Area) (s : Seat) → last_word area s < bitmap_words s.geometry
 last_inside area s = (let inside = within_total s.geometry area in let some = some_in s.geometry area in omega (arith, inside, some))
 
 module _ (area : Area) (passed count : ℕ) (s : Seat) (p : PlainWords) (can : CanPass area count s p) (some : 0 < count) (to : first_of s.geometry area / 64 + passed ≤ last_word area s) where
