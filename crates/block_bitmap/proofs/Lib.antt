@@ -13,4 +13,5 @@ pub mod TakeGrowth
 pub mod TakeEffects
 pub mod TakeSettles
 pub mod TakeServes
+pub mod TakeWithinCore
 pub mod BlockWords

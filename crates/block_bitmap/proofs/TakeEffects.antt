@@ -1,10 +1,9 @@
 -- The core's steps on the bitmap, as taking makes them.
-use Rattle.std.proofs.Common.{◌≡◌, ◌≢◌, ◌<◌, ◌≤◌, ◌+◌, ◌-◌, ◌*◌, ◌/◌, ◌%◌, ◌==◌, ◌&&◌, ◌||◌, nat_lt, nat_le, if◌then◌else◌, ℕ, zero, suc, Bool, true, false, cond, List, [], ◌∷◌, ◌++◌, length, map, take, slice_index, slice_set, refl, sym, ap, ◌∙◌, subst, arith}
+use Rattle.std.proofs.Common.{◌≡◌, ◌<◌, ◌+◌, ◌*◌, ◌/◌, ◌%◌, ◌==◌, ◌&&◌, ◌||◌, nat_lt, nat_le, if◌then◌else◌, ℕ, zero, suc, Bool, true, false, List, [], ◌∷◌, ◌++◌, length, map, take, slice_index, slice_set, refl, sym, ap, ◌∙◌, arith}
 use Rattle.std.specs.Prelude.{filter, replicate, bit_or}
 use Rattle.std.specs.Int.{bit_at}
 use Rattle.std.specs.List.{range_with_len}
 use Rattle.std.proofs.lemmas.Bool.{eq-eqb, eqb-true, eqb-false, ne_eqb, and_parts, and_left, le-leb, lt-leb, lt-ltb, cases_eq, or_cases, false_from_ne_true, leb-true, ltb-true}
-use Rattle.std.proofs.lemmas.List.{length-take}
 use Rattle.log_entry.specs.declared.shapes.Area.{Area}
 use Rattle.log_entry.specs.declared.shapes.Area.TheVariants.{Data, Log, Spare}
 use Rattle.log_image.specs.Image.{Shape, total, is_in_data}
@@ -14,7 +13,7 @@ use Rattle.log_core.specs.Entries.{has}
 use Rattle.log_core.specs.Views.{Marked}
 use Rattle.log_core.specs.Works.{shape_of, words_of}
 use Rattle.log_core.specs.Needs.{is_in_area}
-use Rattle.log_core.specs.Steps.{SetsBits, is_among, is_gained, gained, area_of, taken_block, effect}
+use Rattle.log_core.specs.Steps.{SetsBits, is_among, gained, area_of, taken_block, effect}
 use Rattle.log_core.proofs.BlockLists.{has_filter}
 use Rattle.block_bitmap.specs.declared.take.Take.{Take}
 use Rattle.block_bitmap.specs.TakeBits.{blocks_of_word, blocks_in, bits_of, clear_in, area_in, open_blocks}

@@ -1,6 +1,6 @@
 -- A seat that takes blocks: its lists, and what its call lacks afterwards.
-use Rattle.std.proofs.Common.{◌≡◌, ◌≢◌, ◌<◌, ◌≤◌, ◌+◌, ◌-◌, ◌*◌, ◌==◌, ◌&&◌, ◌||◌, ◌⊎◌, inl, inr, max, not, nat_lt, if◌then◌else◌, ℕ, zero, suc, Bool, true, false, cond, List, [], ◌∷◌, ◌++◌, length, map, slice_index, slice_set, refl, sym, ap, ◌∙◌, subst, arith, append-nil, append_assoc}
-use Rattle.std.specs.Prelude.{filter, bit_or}
+use Rattle.std.proofs.Common.{◌≡◌, ◌≤◌, ◌+◌, ◌-◌, ◌==◌, ◌&&◌, ◌⊎◌, inl, inr, max, not, nat_lt, if◌then◌else◌, ℕ, Bool, true, false, cond, List, [], ◌∷◌, ◌++◌, length, map, refl, sym, ap, ◌∙◌, arith, append-nil, append_assoc}
+use Rattle.std.specs.Prelude.{filter}
 use Rattle.log_entry.specs.Shape.{snapshot_blocks_of}
 use Rattle.std.proofs.lemmas.Bool.{ltb-false, eq-eqb, or_cases, or_left, or_right}
 use Rattle.std.proofs.lemmas.List.{map-append, length-append}

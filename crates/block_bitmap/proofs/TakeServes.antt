@@ -1,28 +1,26 @@
 -- Taking blocks is lawful within a core.
-use Rattle.std.proofs.Common.{◌≡◌, ◌≢◌, ◌<◌, ◌≤◌, ◌+◌, ◌-◌, ◌*◌, ◌/◌, ◌%◌, ◌==◌, ◌&&◌, ◌||◌, ◌⊎◌, inl, inr, not, nat_lt, ℕ, zero, suc, Bool, true, false, List, [], ◌∷◌, ◌++◌, length, slice_index, slice_set, refl, sym, ap, ◌∙◌, subst, arith}
-use Rattle.std.specs.Prelude.{filter, map, take, bit_or, Option, Some, None}
+use Rattle.std.proofs.Common.{◌≡◌, ◌≢◌, ◌<◌, ◌≤◌, ◌+◌, ◌-◌, ◌*◌, ◌/◌, ◌%◌, ◌==◌, ℕ, Bool, true, false, List, [], ◌++◌, length, slice_index, slice_set, refl, sym, ap, ◌∙◌, subst, arith}
+use Rattle.std.specs.Prelude.{map, bit_or, Option, Some, None}
 use Rattle.std.specs.Int.{bit_at}
 use Rattle.std.specs.List.{range_with_len}
 use Rattle.std.proofs.lemmas.Bool.{eqb-true, eqb-false, and_from}
 use Rattle.std.proofs.lemmas.List.{length-append, length-map, length-take, get_or-set_same, get_or-set_other}
 use Rattle.std.proofs.lemmas.Nat.Bits.{bit_at_or}
 use Rattle.log_entry.specs.declared.shapes.Area.{Area}
-use Rattle.log_entry.specs.declared.shapes.Geometry.{Geometry}
 use Rattle.log_entry.specs.declared.calls.Call.{Call}
-use Rattle.log_entry.specs.Geometry.{count_of, first_of}
+use Rattle.log_entry.specs.Geometry.{first_of}
 use Rattle.log_image.specs.Chains.{all_different}
 use Rattle.log_image.specs.Taken.{bit_of}
 use Rattle.seat_state.specs.Seats.{Seat, bitmap_words}
 use Rattle.pmem_words.specs.declared.asks.Turn.{Turn}
 use Rattle.pmem_words.specs.declared.asks.Turn.TheVariants.{Go, Done}
 use Rattle.pmem_words.specs.declared.asks.Place.TheVariants.{Map}
-use Rattle.pmem_words.specs.declared.asks.Ask.TheVariants.{Load, SetBits}
+use Rattle.pmem_words.specs.declared.asks.Ask.TheVariants.{SetBits}
 use Rattle.log_core.specs.Entries.{has}
 use Rattle.log_core.specs.Views.{Ghost, view_of}
 use Rattle.log_core.specs.Origin.{Origin}
 use Rattle.log_core.specs.Cores.{Core}
-use Rattle.log_core.specs.Works.{shape_of}
-use Rattle.log_core.specs.Needs.{is_in_area, owned_numbers, lacking, is_pass_found}
+use Rattle.log_core.specs.Needs.{owned_numbers, is_pass_found}
 use Rattle.log_core.specs.Steps.{LoadsBitmapWord, SetsBits, is_among, effect, ghost_after}
 use Rattle.log_core.specs.May.{MaySetBits}
 use Rattle.log_core.specs.Answers.{HasLacked}

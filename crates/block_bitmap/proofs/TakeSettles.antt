@@ -1,14 +1,14 @@
 -- Where taking blocks goes from a word, and how it ends there.
-use Rattle.std.proofs.Common.{◌≡◌, ◌≢◌, ◌<◌, ◌≤◌, ◌+◌, ◌-◌, ◌*◌, ◌/◌, ◌%◌, ◌==◌, ◌&&◌, ◌||◌, ◌⊎◌, inl, inr, not, nat_lt, ℕ, zero, suc, Bool, true, false, cond, List, [], ◌∷◌, ◌++◌, length, slice_index, refl, sym, ap, ◌∙◌, subst, arith}
-use Rattle.std.specs.Prelude.{filter, Option, Some, None}
+use Rattle.std.proofs.Common.{◌≡◌, ◌<◌, ◌≤◌, ◌+◌, ◌-◌, ◌*◌, ◌/◌, ◌%◌, ◌==◌, ◌&&◌, ◌||◌, ◌⊎◌, inl, inr, not, nat_lt, ℕ, zero, suc, Bool, true, false, cond, List, [], ◌∷◌, ◌++◌, slice_index, refl, sym, ap, ◌∙◌, arith}
+use Rattle.std.specs.Prelude.{filter, Option, None}
 use Rattle.std.specs.Int.{bit_at}
 use Rattle.std.specs.List.{range_with_len, list_any, list_all}
-use Rattle.std.proofs.lemmas.Bool.{eq-eqb, and_from, and_parts, ltb-true, ltb-false, lt-ltb, cases_eq, cases_Bool, or_right, or_left, false≢true}
+use Rattle.std.proofs.lemmas.Bool.{eq-eqb, and_from, ltb-true, ltb-false, lt-ltb, cases_eq, or_right, or_left, false≢true}
 use Rattle.std.proofs.lemmas.List.Folds.{list_any-append}
 use Rattle.std.proofs.lemmas.Nat.Bits.{bit_at-lt}
 use Rattle.log_entry.specs.declared.shapes.Area.{Area}
 use Rattle.log_entry.specs.declared.shapes.Area.TheVariants.{Data, Log, Spare}
-use Rattle.log_entry.specs.Geometry.{count_of, first_of}
+use Rattle.log_entry.specs.Geometry.{first_of}
 use Rattle.log_image.specs.Image.{total}
 use Rattle.log_image.specs.Chains.{all_different}
 use Rattle.log_image.specs.Taken.{bit_of}
@@ -23,9 +23,9 @@ use Rattle.log_core.proofs.BlockLists.{has_filter, in_range}
 use Rattle.block_bitmap.specs.declared.take.Take.{Take}
 use Rattle.block_bitmap.specs.declared.take.Taken.{Taken}
 use Rattle.block_bitmap.specs.declared.take.Taken.TheVariants.{Taken as HasTaken, NoSpace}
-use Rattle.block_bitmap.specs.TakeBits.{blocks_of_word, area_in, open_blocks}
-use Rattle.block_bitmap.specs.TakeScript.{word_of, last_word, open_at, moved_on, settled_by}
-use Rattle.block_bitmap.specs.TakeWithin.{MayLack, HasGrown, KnownFound, TakeStands, HasEnded}
+use Rattle.block_bitmap.specs.TakeBits.{blocks_of_word, area_in}
+use Rattle.block_bitmap.specs.TakeScript.{last_word, open_at, moved_on, settled_by}
+use Rattle.block_bitmap.specs.TakeWithin.{TakeStands, HasEnded}
 use Rattle.block_bitmap.proofs.TakeWords.{area_from}
 
 -- a test that holds of each number of a range

@@ -1,5 +1,5 @@
 -- Taking blocks within a core: when a seat may, and what it has in the end, whatever other seats do meanwhile.
-use Rattle.std.specs.Prelude.{ℕ, ◌+◌, ◌/◌, ◌<◌, ◌≤◌, ◌≡◌, true, List, [], ◌++◌, length, slice_index, Option, Some, None}
+use Rattle.std.specs.Prelude.{ℕ, ◌+◌, ◌/◌, ◌<◌, ◌≤◌, ◌≡◌, true, List, ◌++◌, length, slice_index, Option, Some, None}
 use Rattle.std.specs.Int.{bit_at}
 use Rattle.log_entry.specs.declared.shapes.Area.{Area}
 use Rattle.log_entry.specs.declared.calls.Call.{Call}

@@ -5,6 +5,7 @@ pub mod begin;
 pub mod fill;
 pub mod take;
 pub mod take_bits;
+pub mod take_laws;
 pub mod take_plain;
 #[cfg(test)]
 mod take_tests;
