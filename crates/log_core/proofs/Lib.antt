@@ -78,6 +78,8 @@ pub mod RowsRun
 pub mod RowsLate
 pub mod RowsTurns
 pub mod RowsOffered
+pub mod RowsStart
+pub mod RowsReached
 pub mod Takes
 pub mod Parts
 pub mod OverPlain
