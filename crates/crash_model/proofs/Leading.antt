@@ -147,7 +147,7 @@ rests_ended seat Q out w leaves ended = ∥∥₁_map ended (λ e. (
 
 -- a machine that the core promises begins at a seat of a world at rest
 pub begins_led : {M Out : Type 0} (seat : ℕ) (script : Script M Out) (m : M) (P : Origin → Seat → Ghost → Type 0) (R : Origin → Out → Seat → Ghost → Type 0) (Q : Out → Seat → View → Type 0) (w : WorldNow) →
-    ((o : Origin) → IsStart o → (number : ℕ) (rest : List Call) (s : Seat) (v : View) → IsLinked number rest (P o) s v → Leads script (within o seat number script no_record) (IsLeft rest no_record (R o)) m s v) →
+    ((o : Origin) → IsStart o → (number : ℕ) (rest : List Call) (v : View) → IsLinked number rest (P o) (seat_of w seat) v → Leads script (within o seat number script no_record) (IsLeft rest no_record (R o)) m (seat_of w seat) v) →
     ((o : Origin) (c : Core) (g : Ghost) → IsKnown w o c seat g → P o (seat_of w seat) g) →
     ((o : Origin) (c : Core) → Stands w o c → (rest : List Call) (out : Out) (t : Seat) (v : View) → IsLeft rest no_record (R o) out t v → Q out t v) →
     seat < length w.seats → IsResting w → IsLed seat script no_record Q m w
@@ -163,7 +163,7 @@ begins_led {M} {Out} seat script m P R Q w promise holds weaker inside resting =
           made = at.made;
           number = number;
           leads = leads_weaker script (within o seat number script no_record) (IsLeft v.done no_record (R o)) Q (weaker o c rests.stands v.done)
-              (promise o rests.stands.start number v.done (seat_of w seat) v (record {
+              (promise o rests.stands.start number v.done v (record {
                 unspent = at.computed.unspent;
                 begins = at.computed.begins;
                 offered = at.computed.offered;

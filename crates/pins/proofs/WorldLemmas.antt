@@ -30,19 +30,19 @@ scan_one m s = λ x y. λ i. record { left = le_prop x.left y.left i; few = le_p
 -- where the machines begin
 pub pin_led : (w : WorldNow) (seat : ℕ) → seat < length w.seats → IsResting w → MayTurn seat (seat_of w seat) → IsLed seat pin_script no_record (λ out t v. HasLeft out t v) Begin w
 pin_led w seat inside resting may = begins_led seat pin_script Begin (λ o. MayPin seat) (λ o. IsPinned seat) (λ out t v. HasLeft out t v) w
-    (λ o start number rest s v linked. pins_within o start seat number rest s v linked)
+    (λ o start number rest v linked. pins_within o start seat number rest (seat_of w seat) v linked)
     (λ o c g known. record { number = may.number; no_marks = λ sync. absurd (may.no_sync sync) })
     (λ o c st rest out t v left. record { unspent = left.unspent; same = sym left.seat }) inside resting
 
 pub unpin_led : (w : WorldNow) (seat : ℕ) → seat < length w.seats → IsResting w → MayTurn seat (seat_of w seat) → IsLed seat unpin_script no_record (λ out t v. HasLeft out t v) unpin_of w
 unpin_led w seat inside resting may = begins_led seat unpin_script unpin_of (λ o. MayPin seat) (λ o. IsUnpinned seat) (λ out t v. HasLeft out t v) w
-    (λ o start number rest s v linked. unpins_within o start seat number rest s v linked)
+    (λ o start number rest v linked. unpins_within o start seat number rest (seat_of w seat) v linked)
     (λ o c g known. record { number = may.number; no_marks = λ sync. absurd (may.no_sync sync) })
     (λ o c st rest out t v left. record { unspent = left.unspent; same = sym left.seat }) inside resting
 
 pub scan_led : (w : WorldNow) (seat generation : ℕ) → seat < length w.seats → IsResting w → MayLook seat (length w.seats) (seat_of w seat) → IsLed seat scan_script no_record (λ out t v. HasLeft out t v) (scan_of generation) w
 scan_led w seat generation inside resting may = begins_led seat scan_script (scan_of generation) (λ o. ScanStands o seat (scan_of generation)) (λ o. HasScanned o generation) (λ out t v. HasLeft out t v) w
-    (λ o start number rest s v linked. scans_within o start seat number generation rest s v linked)
+    (λ o start number rest v linked. scans_within o start seat number generation rest (seat_of w seat) v linked)
     (λ o c g known. record { number = may.number; seats = may.seats ∙ sym known.stands.seats; few = may.few; left = may.some; head_fenced = may.head_fenced; unpinned = may.unpinned; seen = λ some. absurd (some refl); free = λ k less. absurd (omega (arith, less)) })
     (λ o c st rest out t v left. record { unspent = left.unspent; same = sym left.seat }) inside resting
 
