@@ -1,4 +1,4 @@
-//! How a seat takes free blocks of an area, fills blocks that it owns, and gives blocks back.
+//! How a seat takes free blocks of an area, fills blocks that it owns, and gives blocks back, and how a task begins.
 #![tactic(auto)]
 
 pub mod alone;
@@ -10,9 +10,17 @@ pub mod give;
 #[cfg(test)]
 mod give_tests;
 pub mod given;
+pub mod take;
+pub mod take_bits;
+pub mod take_laws;
+pub mod take_plain;
+#[cfg(test)]
+mod take_tests;
 pub mod words;
 
 pub use alone::{fill_alone, give_alone};
 pub use begin::begin_alone;
 pub use fill::Fill;
 pub use give::{Give, GiveFrom};
+pub use take::{Take, Taken};
+pub use take_plain::take_alone;
