@@ -77,6 +77,9 @@ pub mod RowsOwners
 pub mod RowsRun
 pub mod RowsLate
 pub mod RowsTurns
+pub mod RowsOffered
+pub mod RowsStart
+pub mod RowsReached
 pub mod Takes
 pub mod Parts
 pub mod OverPlain

@@ -32,4 +32,5 @@ pub mod Samples
 pub mod Rows
 pub mod Refused
 pub mod Gaps
+pub mod Offered
 pub mod Accepted
