@@ -20,3 +20,4 @@ pub mod FillOverPlain
 pub mod FillSteps
 pub mod GivenLemmas
 pub mod GiveOverPlain
+pub mod WorldLemmas

@@ -1,0 +1,129 @@
+-- Machines that run alone at the seats of a world.
+use Rattle.std.proofs.Common.{◌≡◌, ◌<◌, ◌≤◌, ◌+◌, ◌-◌, ◌==◌, ℕ, true, List, [], length, refl, sym, ◌∙◌, ap, subst, arith, Option, Some, None}
+use Rattle.std.proofs.Math.Bridge.{le_prop}
+use Rattle.std.proofs.lemmas.List.{get_or-set_same, get_or-set_other, length-set, set-get_or}
+use Rattle.std.proofs.lemmas.List.FromFn.{get_or-map-range_with_len}
+use Rattle.log_entry.specs.declared.shapes.Area.{Area}
+use Rattle.log_entry.specs.declared.shapes.Area.TheVariants.{Data, Log, Spare}
+use Rattle.log_entry.specs.declared.shapes.Geometry.{Geometry}
+use Rattle.seat_parts.specs.declared.keeps.Task.{Task}
+use Rattle.seat_parts.specs.declared.keeps.Task.TheVariants.{Idle as IdleTask, Pwrite as PwriteTask, Append as AppendTask, Pread as PreadTask, Size as SizeTask, Sync as SyncTask, Collect as CollectTask, Pin as PinTask, Unpin as UnpinTask, Scan as ScanTask, Take as TakeTask, Give as GiveTask, Fill as FillTask, Walk as WalkTask, Offer as OfferTask, Grow as GrowTask, Seal as SealTask}
+use Rattle.seat_state.specs.Seats.{Seat, new_seat, owned_room}
+use Rattle.persistence.specs.Memory.{Memory, notes_of, memory_after}
+use Rattle.log_core.specs.Views.{op_of, no_geometry}
+use Rattle.log_core.specs.Works.{Begins, laid_bytes, worked}
+use Rattle.log_core.specs.Needs.{is_area, lacking}
+use Rattle.log_core.specs.Within.{no_record}
+use Rattle.log_core.proofs.OneView.{same_or_other}
+use Rattle.crash_model.specs.Worlds.{WorldNow, seat_of, set_seat, new_world}
+use Rattle.crash_model.specs.Led.{IsLed, IsResting, IsTurnOf, HasLeft, HasNoMarks}
+use Rattle.crash_model.proofs.Leading.{begins_led}
+use Rattle.crash_model.proofs.Resting.{begun_rests}
+use Rattle.block_bitmap.specs.declared.take.Take.{Take}
+use Rattle.block_bitmap.specs.TakeScript.{MayTake, take_of, take_script, after_at, asks_at, with_found, word_of, less, seat_set, gained_at, known_set}
+use Rattle.block_bitmap.specs.TakeWithin.{MayLack, HasEnded}
+use Rattle.block_bitmap.specs.Seated.{RunsAlone, AreAlone}
+use Rattle.block_bitmap.proofs.TakeServes.{ended_seat}
+use Rattle.block_bitmap.proofs.TakeSteps.{settled_seat}
+use Rattle.block_bitmap.proofs.TakeWithinCore.{takes_within}
+
+-- seats of a world in which nothing was done
+module _ (geometry : Geometry) (words taken : List ℕ) (position seats seat : ℕ) (inside : seat < seats) where
+  new_state : seat_of (new_world geometry words taken position seats) seat ≡ new_seat geometry seat seats position
+  new_state = get_or-map-range_with_len (λ (number : ℕ). new_seat geometry number seats position) 0 seats seat seat (new_seat no_geometry 0 0 0) inside (omega arith)
+
+  pub new_alone : RunsAlone seat (seat_of (new_world geometry words taken position seats) seat) × HasNoMarks (new_world geometry words taken position seats) seat
+  new_alone = (subst (λ (s : Seat). RunsAlone seat s) (sym new_state) (record { number = refl; none_runs = refl }), refl)
+
+  pub new_owned : (seat_of (new_world geometry words taken position seats) seat).blocks.owned ≡ []
+  new_owned = ap (λ (s : Seat). s.blocks.owned) new_state
+
+-- a seat's state that is lent and stays
+pub same_seat : (w : WorldNow) (seat : ℕ) → set_seat w seat (seat_of w seat) ≡ w
+same_seat w seat = ap (λ (seats : List Seat). record w { seats = seats }) (set-get_or w.seats seat (new_seat no_geometry 0 0 0))
+
+-- each runs alone still where one has another state
+pub set_alone : (w : WorldNow) (seat : ℕ) (s : Seat) → seat < length w.seats → RunsAlone seat s → AreAlone w → AreAlone (set_seat w seat s)
+set_alone w seat s inside runs alone other low = same_or_other other seat
+    (λ same. (subst (λ (k : ℕ). RunsAlone k (seat_of (set_seat w seat s) k)) (sym same) (subst (λ (t : Seat). RunsAlone seat t) (sym (get_or-set_same w.seats seat s (new_seat no_geometry 0 0 0) inside)) runs), (alone other here).1))
+    (λ apart. (subst (λ (t : Seat). RunsAlone other t) (sym (get_or-set_other w.seats seat other s (new_seat no_geometry 0 0 0) apart)) (alone other here).0, (alone other here).1))
+  where
+    here : other < length w.seats
+    here = (let same = length-set w.seats seat s in omega (arith, same, low))
+
+-- or makes a turn that leaves its marks
+pub turn_alone : (w v : WorldNow) (seat : ℕ) → IsTurnOf RunsAlone w v seat → notes_of seat v.cells.memory.notes ≡ notes_of seat w.cells.memory.notes → AreAlone w → AreAlone v
+turn_alone w v seat turn marks alone other low = same_or_other other seat
+    (λ same. subst (λ (k : ℕ). RunsAlone k (seat_of v k) × HasNoMarks v k) (sym same) (turn.may (alone seat (subst (λ (k : ℕ). k < length w.seats) same here)).0, marks ∙ (alone seat (subst (λ (k : ℕ). k < length w.seats) same here)).1))
+    (λ apart. (subst (λ (s : Seat). RunsAlone other s) (sym (turn.others other apart)) (alone other here).0, turn.marks other apart ∙ (alone other here).1))
+  where
+    here : other < length w.seats
+    here = (let same = turn.many in omega (arith, same, low))
+
+-- no task has laid bytes where there are none
+no_bytes : (task : Task) → laid_bytes task [] ≡ []
+no_bytes IdleTask = refl
+no_bytes (PwriteTask offset) = refl
+no_bytes AppendTask = refl
+no_bytes (PreadTask offset count) = refl
+no_bytes SizeTask = refl
+no_bytes SyncTask = refl
+no_bytes CollectTask = refl
+no_bytes PinTask = refl
+no_bytes UnpinTask = refl
+no_bytes (ScanTask generation) = refl
+no_bytes (TakeTask area count) = refl
+no_bytes (GiveTask from) = refl
+no_bytes (FillTask first count) = refl
+no_bytes WalkTask = refl
+no_bytes (OfferTask entry) = refl
+no_bytes (GrowTask block) = refl
+no_bytes SealTask = refl
+
+-- a task begins
+pub begun_alone : (w : WorldNow) (seat : ℕ) (task : Task) → seat < length w.seats → op_of task [] ≡ None → AreAlone w → AreAlone (set_seat w seat (worked (seat_of w seat) (Begins task [])))
+begun_alone w seat task inside none alone = set_alone w seat (worked (seat_of w seat) (Begins task [])) inside (record { number = (alone seat inside).0.number; none_runs = none }) alone
+
+pub begun_rest : (w : WorldNow) (seat : ℕ) (task : Task) → seat < length w.seats → op_of task [] ≡ None → AreAlone w → IsResting w → IsResting (set_seat w seat (worked (seat_of w seat) (Begins task [])))
+begun_rest w seat task inside none alone resting = begun_rests w seat task [] inside
+    (record { none_runs = (alone seat inside).0.none_runs; no_marks = (alone seat inside).1; none_laid = no_bytes task; steps = λ op some. cc }) resting
+
+-- where the machine that takes begins
+same_area : (area : Area) → is_area area area ≡ true
+same_area Data = refl
+same_area Log = refl
+same_area Spare = refl
+
+pub take_led : (w : WorldNow) (seat count : ℕ) (area : Area) → seat < length w.seats → IsResting w → 0 < count → count ≤ 4 → (seat_of w seat).calling.job ≡ TakeTask area count → (seat_of w seat).blocks.owned ≡ [] →
+    IsLed seat take_script no_record (λ out t v. HasLeft out t v) (take_of area count) w
+take_led w seat count area inside resting some few job owned = begins_led seat take_script (take_of area count) (λ o. MayLack area count) (λ o. HasEnded area count (seat_of w seat)) (λ out t v. HasLeft out t v) w
+    (λ o start number rest v linked. takes_within o start seat number area count rest (seat_of w seat) v linked)
+    (λ o c g known. record { some = some; lacks = lacks; room = room })
+    (λ o c st rest out t v left. record { unspent = left.unspent; same = sym left.seat }) inside resting
+  where
+    lacks : count ≤ lacking (seat_of w seat) (seat_of w seat).calling.job area
+    lacks = rw (job, same_area area, owned) (omega arith)
+
+    room : length (seat_of w seat).blocks.owned + count ≤ owned_room (seat_of w seat).geometry
+    room = (let none : length (seat_of w seat).blocks.owned ≡ 0 = ap length owned in omega (arith, none, few))
+
+-- what it admits is said once
+pub take_one : (m : Take) (s : Seat) → IsProp (MayTake m s)
+take_one m s = λ x y. λ i. record { to = le_prop x.to y.to i; inside = le_prop x.inside y.inside i; room = le_prop x.room y.room i }
+
+-- its turns leave the seat's call, and its marks
+take_calls : (known : Option ℕ) (m : Take) (s : Seat) (a seat : ℕ) → RunsAlone seat s → RunsAlone seat (after_at known m s a).seat
+take_calls None m s a seat runs = subst (λ (t : Seat). RunsAlone seat t) (sym (settled_seat m (with_found (word_of m s) a s) a)) (record { number = runs.number; none_runs = runs.none_runs })
+take_calls (Some known) m s a seat runs =
+    subst (λ (t : Seat). RunsAlone seat t) (sym (ended_seat (m.count - length (gained_at m s known a) == 0) (less m (length (gained_at m s known a))) (seat_set m s known a) (known_set m s known a)))
+    (record { number = runs.number; none_runs = runs.none_runs })
+
+pub take_keeps : (m : Take) (s : Seat) (a seat : ℕ) → RunsAlone seat s → RunsAlone seat (take_script.after m s a).seat
+take_keeps m s a seat runs = take_calls m.known m s a seat runs
+
+pub take_marks : (m : Take) (s : Seat) (memory : Memory) (seat : ℕ) → notes_of seat (memory_after memory seat (take_script.asks m s)).notes ≡ notes_of seat memory.notes
+take_marks m s memory seat = by m.known
+  where
+    by : (known : Option ℕ) → notes_of seat (memory_after memory seat (asks_at known m s)).notes ≡ notes_of seat memory.notes
+    by None = refl
+    by (Some known) = refl
