@@ -22,7 +22,7 @@ use Rattle.crash_model.proofs.Resting.{begun_rests}
 use Rattle.block_bitmap.specs.declared.take.Take.{Take}
 use Rattle.block_bitmap.specs.TakeScript.{MayTake, take_of, take_script, after_at, asks_at, with_found, word_of, less, seat_set, gained_at, known_set}
 use Rattle.block_bitmap.specs.TakeWithin.{MayLack, HasEnded}
-use Rattle.block_bitmap.specs.Seated.{RunsAlone, AreAlone}
+use Rattle.block_bitmap.specs.Seated.{RunsAlone, AreAlone, AreAloneBut}
 use Rattle.block_bitmap.proofs.TakeServes.{ended_seat}
 use Rattle.block_bitmap.proofs.TakeSteps.{settled_seat}
 use Rattle.block_bitmap.proofs.TakeWithinCore.{takes_within}
@@ -32,8 +32,8 @@ module _ (geometry : Geometry) (words taken : List ℕ) (position seats seat : �
   new_state : seat_of (new_world geometry words taken position seats) seat ≡ new_seat geometry seat seats position
   new_state = get_or-map-range_with_len (λ (number : ℕ). new_seat geometry number seats position) 0 seats seat seat (new_seat no_geometry 0 0 0) inside (omega arith)
 
-  pub new_alone : RunsAlone seat (seat_of (new_world geometry words taken position seats) seat) × HasNoMarks (new_world geometry words taken position seats) seat
-  new_alone = (subst (λ (s : Seat). RunsAlone seat s) (sym new_state) (record { number = refl; none_runs = refl }), refl)
+  pub new_runs : RunsAlone seat (seat_of (new_world geometry words taken position seats) seat)
+  new_runs = subst (λ (s : Seat). RunsAlone seat s) (sym new_state) (record { number = refl; none_runs = refl })
 
   pub new_owned : (seat_of (new_world geometry words taken position seats) seat).blocks.owned ≡ []
   new_owned = ap (λ (s : Seat). s.blocks.owned) new_state
@@ -44,21 +44,40 @@ same_seat w seat = ap (λ (seats : List Seat). record w { seats = seats }) (set-
 
 -- each runs alone still where one has another state
 pub set_alone : (w : WorldNow) (seat : ℕ) (s : Seat) → seat < length w.seats → RunsAlone seat s → AreAlone w → AreAlone (set_seat w seat s)
-set_alone w seat s inside runs alone other low = same_or_other other seat
-    (λ same. (subst (λ (k : ℕ). RunsAlone k (seat_of (set_seat w seat s) k)) (sym same) (subst (λ (t : Seat). RunsAlone seat t) (sym (get_or-set_same w.seats seat s (new_seat no_geometry 0 0 0) inside)) runs), (alone other here).1))
-    (λ apart. (subst (λ (t : Seat). RunsAlone other t) (sym (get_or-set_other w.seats seat other s (new_seat no_geometry 0 0 0) apart)) (alone other here).0, (alone other here).1))
+set_alone w seat s inside runs alone = record {
+  run = λ other low. same_or_other other seat
+      (λ same. subst (λ (k : ℕ). RunsAlone k (seat_of (set_seat w seat s) k)) (sym same) (subst (λ (t : Seat). RunsAlone seat t) (sym (get_or-set_same w.seats seat s (new_seat no_geometry 0 0 0) inside)) runs))
+      (λ apart. subst (λ (t : Seat). RunsAlone other t) (sym (get_or-set_other w.seats seat other s (new_seat no_geometry 0 0 0) apart)) (alone.run other (here other low)));
+  no_marks = λ other low. alone.no_marks other (here other low);
+}
   where
-    here : other < length w.seats
-    here = (let same = length-set w.seats seat s in omega (arith, same, low))
+    here : (other : ℕ) → other < length (set_seat w seat s).seats → other < length w.seats
+    here other low = (let same = length-set w.seats seat s in omega (arith, same, low))
 
--- or makes a turn that leaves its marks
-pub turn_alone : (w v : WorldNow) (seat : ℕ) → IsTurnOf RunsAlone w v seat → notes_of seat v.cells.memory.notes ≡ notes_of seat w.cells.memory.notes → AreAlone w → AreAlone v
-turn_alone w v seat turn marks alone other low = same_or_other other seat
-    (λ same. subst (λ (k : ℕ). RunsAlone k (seat_of v k) × HasNoMarks v k) (sym same) (turn.may (alone seat (subst (λ (k : ℕ). k < length w.seats) same here)).0, marks ∙ (alone seat (subst (λ (k : ℕ). k < length w.seats) same here)).1))
-    (λ apart. (subst (λ (s : Seat). RunsAlone other s) (sym (turn.others other apart)) (alone other here).0, turn.marks other apart ∙ (alone other here).1))
+-- or makes a turn
+pub turn_alone_but : (w v : WorldNow) (seat : ℕ) → IsTurnOf RunsAlone w v seat → AreAloneBut w seat → AreAloneBut v seat
+turn_alone_but w v seat turn alone = record {
+  run = λ other low. same_or_other other seat
+      (λ same. subst (λ (k : ℕ). RunsAlone k (seat_of v k)) (sym same) (turn.may (subst (λ (k : ℕ). RunsAlone k (seat_of w k)) same (alone.run other (here other low)))))
+      (λ apart. subst (λ (s : Seat). RunsAlone other s) (sym (turn.others other apart)) (alone.run other (here other low)));
+  no_marks = λ other apart low. turn.marks other apart ∙ alone.no_marks other apart (here other low);
+}
   where
-    here : other < length w.seats
-    here = (let same = turn.many in omega (arith, same, low))
+    here : (other : ℕ) → other < length v.seats → other < length w.seats
+    here other low = (let same = turn.many in omega (arith, same, low))
+
+pub alone_but : (w : WorldNow) (seat : ℕ) → AreAlone w → AreAloneBut w seat
+alone_but w seat alone = record { run = alone.run; no_marks = λ other apart low. alone.no_marks other low }
+
+pub all_alone : (w : WorldNow) (seat : ℕ) → AreAloneBut w seat → HasNoMarks w seat → AreAlone w
+all_alone w seat alone none = record {
+  run = alone.run;
+  no_marks = λ other low. same_or_other other seat (λ same. subst (λ (k : ℕ). HasNoMarks w k) (sym same) none) (λ apart. alone.no_marks other apart low);
+}
+
+-- that leaves its marks
+pub turn_alone : (w v : WorldNow) (seat : ℕ) → seat < length w.seats → IsTurnOf RunsAlone w v seat → notes_of seat v.cells.memory.notes ≡ notes_of seat w.cells.memory.notes → AreAlone w → AreAlone v
+turn_alone w v seat inside turn marks alone = all_alone v seat (turn_alone_but w v seat turn (alone_but w seat alone)) (marks ∙ alone.no_marks seat inside)
 
 -- no task has laid bytes where there are none
 no_bytes : (task : Task) → laid_bytes task [] ≡ []
@@ -82,11 +101,17 @@ no_bytes SealTask = refl
 
 -- a task begins
 pub begun_alone : (w : WorldNow) (seat : ℕ) (task : Task) → seat < length w.seats → op_of task [] ≡ None → AreAlone w → AreAlone (set_seat w seat (worked (seat_of w seat) (Begins task [])))
-begun_alone w seat task inside none alone = set_alone w seat (worked (seat_of w seat) (Begins task [])) inside (record { number = (alone seat inside).0.number; none_runs = none }) alone
+begun_alone w seat task inside none alone = set_alone w seat (worked (seat_of w seat) (Begins task [])) inside (record { number = (alone.run seat inside).number; none_runs = none }) alone
 
 pub begun_rest : (w : WorldNow) (seat : ℕ) (task : Task) → seat < length w.seats → op_of task [] ≡ None → AreAlone w → IsResting w → IsResting (set_seat w seat (worked (seat_of w seat) (Begins task [])))
 begun_rest w seat task inside none alone resting = begun_rests w seat task [] inside
-    (record { none_runs = (alone seat inside).0.none_runs; no_marks = (alone seat inside).1; none_laid = no_bytes task; steps = λ op some. cc }) resting
+    (record { none_runs = (alone.run seat inside).none_runs; no_marks = alone.no_marks seat inside; none_laid = no_bytes task; steps = λ op some. cc }) resting
+
+pub begun_seat : (w v : WorldNow) (seat : ℕ) (task : Task) → seat < length w.seats → v ≡ set_seat w seat (worked (seat_of w seat) (Begins task [])) → seat_of v seat ≡ worked (seat_of w seat) (Begins task [])
+begun_seat w v seat task inside same = ap (λ (x : WorldNow). seat_of x seat) same ∙ get_or-set_same w.seats seat (worked (seat_of w seat) (Begins task [])) (new_seat no_geometry 0 0 0) inside
+
+pub begun_inside : (w v : WorldNow) (seat : ℕ) (task : Task) → seat < length w.seats → v ≡ set_seat w seat (worked (seat_of w seat) (Begins task [])) → seat < length v.seats
+begun_inside w v seat task inside same = subst (λ (n : ℕ). seat < n) (sym (ap (λ (x : WorldNow). length x.seats) same ∙ length-set w.seats seat (worked (seat_of w seat) (Begins task [])))) inside
 
 -- where the machine that takes begins
 same_area : (area : Area) → is_area area area ≡ true

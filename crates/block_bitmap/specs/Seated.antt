@@ -10,10 +10,12 @@ pub record RunsAlone (seat : ℕ) (s : Seat) : Type 0 where
   pub number : s.number ≡ seat
   pub none_runs : op_in s ≡ None
 
--- no seat runs a call, and none but this one has marks that no fence followed
-abbrev pub AreAloneBut : WorldNow → ℕ → Type 0
-AreAloneBut w seat = (other : ℕ) → other < length w.seats → RunsAlone other (seat_of w other) × (other ≢ seat → HasNoMarks w other)
+-- no seat runs a call, and none has marks that no fence followed
+pub record AreAlone (w : WorldNow) : Type 0 where
+  pub run : (seat : ℕ) → seat < length w.seats → RunsAlone seat (seat_of w seat)
+  pub no_marks : (seat : ℕ) → seat < length w.seats → HasNoMarks w seat
 
--- none has any
-abbrev pub AreAlone : WorldNow → Type 0
-AreAlone w = (seat : ℕ) → seat < length w.seats → RunsAlone seat (seat_of w seat) × HasNoMarks w seat
+-- none but this one has any
+pub record AreAloneBut (w : WorldNow) (seat : ℕ) : Type 0 where
+  pub run : (other : ℕ) → other < length w.seats → RunsAlone other (seat_of w other)
+  pub no_marks : (other : ℕ) → other ≢ seat → other < length w.seats → HasNoMarks w other

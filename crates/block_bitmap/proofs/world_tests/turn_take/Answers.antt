@@ -1,7 +1,7 @@
 use Rattle.std.proofs.Common.{rules, ◌≡◌, sym, ◌∙◌}
 use Rattle.crash_model.specs.Worlds.{seat_of, answer_in, turned}
 use Rattle.crash_model.specs.Led.{HasLeft}
-use Rattle.crash_model.proofs.Leading.{fits_led, admits_led, goes_led, turn_led, rests_led}
+use Rattle.crash_model.proofs.Leading.{fits_led, admits_led, goes_led, inside_led, turn_led, rests_led}
 use Rattle.log_core.specs.Within.{no_record}
 use Rattle.block_bitmap.specs.TakeScript.{take_script}
 use Rattle.block_bitmap.specs.Seated.{RunsAlone}
@@ -21,6 +21,7 @@ returns-clause-keeps c = rw c.turn.ensures.world (turn_led take_script c.args.wo
 
 pub returns-clause-alone : goal.returns-clause-alone
 returns-clause-alone c = λ alone. rw c.turn.ensures.world (turn_alone c.args.world.now (turned take_script c.args.world.now c.args.seat c.args.take.now) c.args.seat
+    (inside_led c.args.seat take_script no_record (λ out t v. HasLeft out t v) c.args.take.now c.args.world.now c.requires.led)
     (turn_led take_script c.args.world.now c.args.seat c.args.take.now c.requires.led RunsAlone c.requires.room
     (take_keeps c.args.take.now (seat_of c.args.world.now c.args.seat) (answer_in take_script c.args.world.now c.args.seat c.args.take.now) c.args.seat))
     (take_marks c.args.take.now (seat_of c.args.world.now c.args.seat) c.args.world.now.cells.memory c.args.seat) alone)
