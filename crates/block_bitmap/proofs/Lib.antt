@@ -20,3 +20,5 @@ pub mod FillOverPlain
 pub mod FillSteps
 pub mod GivenLemmas
 pub mod GiveOverPlain
+pub mod FillOwned
+pub mod FilledSeats

@@ -12,3 +12,4 @@ pub mod Giving
 pub mod GiveLowering
 pub mod Filled
 pub mod Given
+pub mod FillWithin
