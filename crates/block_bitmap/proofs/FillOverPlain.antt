@@ -94,7 +94,7 @@ module _ (Q : Unit {0} → Seat → PlainWords → Type 0) where
         many = unfilled_many s p
 
         fits : (v : PlainWords) → length v.words ≡ length w.words → block_at t p * q_of s.geometry + q_of s.geometry ≤ length v.words
-        fits v long = (let same : block_at t p * q_of s.geometry ≡ block_at s p * q_of s.geometry = ap (λ (b : ℕ). b * q_of s.geometry) (unfilled_each s p here p) in omega (arith, inside, long, same))
+        fits v long = (let same : block_at t p * q_of s.geometry ≡ block_at s p * q_of s.geometry = ap (λ (b : ℕ). b * q_of s.geometry) (unfilled_each s p p) in omega (arith, inside, long, same))
 
         v : PlainWords
         v = record w { words = with_words s p 0 (q_of s.geometry) w.words }
@@ -114,7 +114,7 @@ module _ (Q : Unit {0} → Seat → PlainWords → Type 0) where
             (rw (more_words 0 n (q_of s.geometry) (omega (arith, is)))
             (stores_lead (suc n) 1 t w1 (still_unfilled s p here) (omega (arith, is)) (omega arith) more (omega (arith, owned, many)) few (fits w1 (length-set w.words (image_word s p 0) (content_at s p 0)))
             (subst (λ (words : List ℕ). Leads fill_script (over fill_script plain) Q (Mark p left 0) t (record w { words = words }))
-            (ap (λ (q : ℕ). with_words s p 0 q w.words) is ∙ sym (same_words s (stored_in s p) (unfilled_each s p here) p 1 (suc n) w1.words)) marked)))
+            (ap (λ (q : ℕ). with_words s p 0 q w.words) is ∙ sym (same_words s (stored_in s p) (unfilled_each s p) p 1 (suc n) w1.words)) marked)))
 
   fence_leads : (s : Seat) (w : PlainWords) → Q tt (all_fenced s) w → Leads fill_script (over fill_script plain) Q Fence s w
   fence_leads s w then = leads_plain fill_script Q Fence s w tt (λ small. tt) then
@@ -131,9 +131,9 @@ module _ (Q : Unit {0} → Seat → PlainWords → Type 0) where
       (rw (lt-ltb 1 (suc (suc n)) (omega arith))
       (subst (λ (k : ℕ). Leads fill_script (over fill_script plain) Q (Store (p + 1) k 0) (filled_anew s p) v) (let less : suc n ≡ suc (suc n) - 1 = omega arith in less)
       (blocks_lead (suc n) (p + 1) (filled_anew s p) v (omega arith) (let many = anew_many s p in omega (arith, many, owned)) (omega (arith, few))
-      (λ k low high. (let same : block_at (filled_anew s p) k * q_of s.geometry ≡ block_at s k * q_of s.geometry = ap (λ (b : ℕ). b * q_of s.geometry) (anew_each s p here k) in
+      (λ k low high. (let same : block_at (filled_anew s p) k * q_of s.geometry ≡ block_at s k * q_of s.geometry = ap (λ (b : ℕ). b * q_of s.geometry) (anew_each s p k) in
       let long = length_words s p 0 (q_of s.geometry) w.words in let inside = has k (omega (arith, low)) (omega (arith, high)) in omega (arith, same, long, inside)))
-      (subst (λ (words : List ℕ). Q tt (filled_seat s p (suc (suc n))) (record w { words = words })) (sym (same_stored s (filled_anew s p).blocks.owned (anew_each s p here) (p + 1) (suc n) v.words)) then))))
+      (subst (λ (words : List ℕ). Q tt (filled_seat s p (suc (suc n))) (record w { words = words })) (sym (same_stored s (filled_anew s p).blocks.owned (anew_each s p) (p + 1) (suc n) v.words)) then))))
     where
       here : p < length s.blocks.owned
       here = omega (arith, owned)

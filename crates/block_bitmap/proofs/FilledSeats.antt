@@ -27,10 +27,9 @@ pub filled_contents : (s : Seat) (first n : ℕ) → (filled_from s first n).blo
 filled_contents s first zero = refl
 filled_contents s first (suc n) = filled_contents (filled_anew s first) (first + 1) n
 
-pub filled_blocks : (s : Seat) (first n : ℕ) → first + n ≤ length s.blocks.owned → (k : ℕ) → block_at (filled_from s first n) k ≡ block_at s k
-filled_blocks s first zero inside k = refl
-filled_blocks s first (suc n) inside k =
-    filled_blocks (filled_anew s first) (first + 1) n (let many = anew_many s first in omega (arith, inside, many)) k ∙ anew_each s first (omega (arith, inside)) k
+pub filled_blocks : (s : Seat) (first n k : ℕ) → block_at (filled_from s first n) k ≡ block_at s k
+filled_blocks s first zero k = refl
+filled_blocks s first (suc n) k = filled_blocks (filled_anew s first) (first + 1) n k ∙ anew_each s first k
 
 -- stored once more, a block is as after the first store
 pub stored_unfilled : (s : Seat) (p word : ℕ) → p < length s.blocks.owned → unfilled (stored_to s p word) p ≡ unfilled s p
@@ -76,6 +75,9 @@ each_fenced s first n k inside low high =
     let filled = each_filled s first n k inside low high in
     (omega (arith, long, here), ap (λ (o : OwnedBlock). o.filled) is ∙ filled, ap (λ (o : OwnedBlock). o.fenced) is ∙ or_right (owned_at t.blocks.owned k).fenced (owned_at t.blocks.owned k).filled filled))
 
+pub fenced_many : (s : Seat) (first n : ℕ) → length (filled_seat s first n).blocks.owned ≡ length s.blocks.owned
+fenced_many s first n = length-map (filled_from s first n).blocks.owned fence ∙ filled_many s first n
+
 -- the words of a block stand where they stood, and have their content
 module _ (s : Seat) (first n : ℕ) where
   abbrev t : Seat
@@ -84,11 +86,11 @@ module _ (s : Seat) (first n : ℕ) where
   same_q : q_of t.geometry ≡ q_of s.geometry
   same_q = ap q_of (filled_geometry s first n)
 
-  pub same_word : (place word : ℕ) → first + n ≤ length s.blocks.owned → place < length s.blocks.owned → image_word (filled_seat s first n) place word ≡ image_word s place word
-  same_word place word inside here =
+  pub same_word : (place word : ℕ) → place < length s.blocks.owned → image_word (filled_seat s first n) place word ≡ image_word s place word
+  same_word place word here =
       (let many = filled_many s first n in
       let is = ap (λ (o : OwnedBlock). o.block) (get_or-map fence t.blocks.owned place none none (omega (arith, many, here))) in
-      let block : block_at (filled_seat s first n) place ≡ block_at s place = is ∙ filled_blocks s first n inside place in
+      let block : block_at (filled_seat s first n) place ≡ block_at s place = is ∙ filled_blocks s first n place in
       (λ i. block i * same_q i + word))
 
   pub same_content : (place word : ℕ) → content_at (filled_seat s first n) place word ≡ content_at s place word

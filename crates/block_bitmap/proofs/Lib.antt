@@ -22,3 +22,5 @@ pub mod GivenLemmas
 pub mod GiveOverPlain
 pub mod FillOwned
 pub mod FilledSeats
+pub mod FillServes
+pub mod FillWithinCore

@@ -49,10 +49,10 @@ owning s owned = record s { blocks = record s.blocks { owned = owned } }
 abbrev pub stored_in : Seat → ℕ → List OwnedBlock
 stored_in s p = with_fenced (with_filled s.blocks.owned p false) p false
 
-pub unfilled_each : (s : Seat) (p : ℕ) → p < length s.blocks.owned → (k : ℕ) → block_at (unfilled s p) k ≡ block_at s k
-unfilled_each s p inside k =
-    ap (λ (owned : List OwnedBlock). (owned_at owned k).block) (both_marks s.blocks.owned p false false inside)
-    ∙ same_blocks s.blocks.owned p k (record (owned_at s.blocks.owned p) { filled = false; fenced = false }) refl
+pub unfilled_each : (s : Seat) (p k : ℕ) → block_at (unfilled s p) k ≡ block_at s k
+unfilled_each s p k =
+    same_blocks (with_filled s.blocks.owned p false) p k (record (owned_at (with_filled s.blocks.owned p false) p) { fenced = false }) refl
+    ∙ same_blocks s.blocks.owned p k (record (owned_at s.blocks.owned p) { filled = false }) refl
 
 pub unfilled_many : (s : Seat) (p : ℕ) → length (unfilled s p).blocks.owned ≡ length s.blocks.owned
 unfilled_many s p = length-set (with_filled s.blocks.owned p false) p (record (owned_at (with_filled s.blocks.owned p false) p) { fenced = false })
@@ -61,8 +61,8 @@ unfilled_many s p = length-set (with_filled s.blocks.owned p false) p (record (o
 pub counted_each : (s : Seat) (p k : ℕ) → block_at (counted s p) k ≡ block_at s k
 counted_each s p k = same_blocks s.blocks.owned p k (record (owned_at s.blocks.owned p) { filled = true }) refl
 
-pub anew_each : (s : Seat) (p : ℕ) → p < length s.blocks.owned → (k : ℕ) → block_at (filled_anew s p) k ≡ block_at s k
-anew_each s p inside k = counted_each (unfilled s p) p k ∙ unfilled_each s p inside k
+pub anew_each : (s : Seat) (p k : ℕ) → block_at (filled_anew s p) k ≡ block_at s k
+anew_each s p k = counted_each (unfilled s p) p k ∙ unfilled_each s p k
 
 pub anew_many : (s : Seat) (p : ℕ) → length (filled_anew s p).blocks.owned ≡ length s.blocks.owned
 anew_many s p = length-set (unfilled s p).blocks.owned p (record (owned_at (unfilled s p).blocks.owned p) { filled = true }) ∙ unfilled_many s p
