@@ -21,3 +21,7 @@ pub mod FillSteps
 pub mod GivenLemmas
 pub mod GiveOverPlain
 pub mod WorldLemmas
+pub mod FillOwned
+pub mod FilledSeats
+pub mod FillServes
+pub mod FillWithinCore

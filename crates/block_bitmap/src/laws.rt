@@ -1,0 +1,12 @@
+//! What filling blocks promises within a core, as the contract of a function that does nothing.
+
+ghost use Rattle.block_bitmap.specs.FillWithin.{FillsWithin, FilledAreCertain};
+
+/// From every start, at every seat that has so many owned blocks from a place on, runs no sync and has no mark of a head that is
+/// still to be fenced, and whatever other seats do between its steps: each ask of a fill is a step that the core allows, each
+/// answer that comes there is admitted, and it ends. The blocks are then filled and fenced, and from then on, while the seat has
+/// this view, only its content is possible in each of their words.
+pub fn law_fills_within()
+    ensures fills { FillsWithin }
+    ensures certain { FilledAreCertain }
+{}
