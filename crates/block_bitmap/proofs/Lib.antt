@@ -25,3 +25,5 @@ pub mod FillOwned
 pub mod FilledSeats
 pub mod FillServes
 pub mod FillWithinCore
+pub mod WorldTakes
+pub mod WorldFills

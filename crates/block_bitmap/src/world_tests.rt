@@ -1,17 +1,18 @@
 //! Two seats on one image of two data blocks and a log block take, fill and give blocks.
 
-ghost use Rattle.std.specs.Prelude.{◌≡◌, ◌≢◌, ◌<◌, ◌≤◌, ◌+◌, ℕ, length, [], IfOk, None, true};
+ghost use Rattle.std.specs.Prelude.{◌≡◌, ◌≢◌, ◌<◌, ◌≤◌, ◌+◌, ◌^◌, ℕ, length, slice_index, [], IfOk, None, true};
 ghost use Rattle.log_core.specs.Views.{op_of};
 ghost use Rattle.log_core.specs.Within.{no_record};
 ghost use Rattle.log_core.specs.Works.{Begins, worked};
 ghost use Rattle.crash_model.specs.Worlds.{seat_of, set_seat};
 ghost use Rattle.crash_model.specs.Led.{IsResting, IsLed, HasLeft, IsTurnOf};
 ghost use Rattle.pmem_words.specs.declared.asks.Turn.TheVariants.{Go, Done};
+ghost use Rattle.block_bitmap.specs.Filling.{fill_script};
 ghost use Rattle.block_bitmap.specs.TakeScript.{take_script};
-ghost use Rattle.block_bitmap.specs.Seated.{RunsAlone, AreAlone};
+ghost use Rattle.block_bitmap.specs.Seated.{RunsAlone, AreAlone, AreAloneBut};
 
 use super::*;
-use crash_model::World;
+use crash_model::{Choice, World};
 use image_tools::mkfs;
 use log_entry::{Area, Geometry};
 use pmem_words::{Task, Turn};
@@ -99,8 +100,114 @@ fn take_in(world: &mut World, seat: u8, area: Area, count: u16) -> Result<Taken,
     }
 }
 
+/// Sets each word of the one block that a seat owns.
+fn set_all(world: &mut World, seat: u8, value: u64)
+    requires inside { seat < length world.old.seats }
+    requires resting { IsResting world.old }
+    requires alone { AreAlone world.old }
+    requires owned { length (seat_of world.old seat).blocks.owned ≡ 1 }
+    ensures resting { IsResting world.new }
+    ensures alone { AreAlone world.new }
+    ensures owned { length (seat_of world.new seat).blocks.owned ≡ 1 }
+    ensures others { (other : ℕ) → other ≢ seat → seat_of world.new other ≡ seat_of world.old other }
+    ensures many { length world.new.seats ≡ length world.old.seats }
+    ensures room { world.new.cells.room ≡ world.old.cells.room }
+{
+    for word in 0..8 {
+        set_in(world, seat, word, value);
+    }
+}
+
+/// Sets a word of the one block that a seat owns.
+fn set_in(world: &mut World, seat: u8, word: u16, value: u64)
+    requires inside { seat < length world.old.seats }
+    requires resting { IsResting world.old }
+    requires alone { AreAlone world.old }
+    requires owned { length (seat_of world.old seat).blocks.owned ≡ 1 }
+    requires word { word < 8 }
+    ensures resting { IsResting world.new }
+    ensures alone { AreAlone world.new }
+    ensures owned { length (seat_of world.new seat).blocks.owned ≡ 1 }
+    ensures others { (other : ℕ) → other ≢ seat → seat_of world.new other ≡ seat_of world.old other }
+    ensures many { length world.new.seats ≡ length world.old.seats }
+    ensures room { world.new.cells.room ≡ world.old.cells.room }
+{
+    world.seat(seat).set_word(0, word, value);
+}
+
+/// Does nothing: its contract says of words that they have 64 bits, which a contract over a list of numbers has to be told.
+fn bound(words: &[u64])
+    ensures { (place : ℕ) → slice_index words.now place < 2 ^ 64 }
+{}
+
+/// A seat begins to fill the one block that it owns.
+fn begin_fill(world: &mut World, seat: u8) -> Fill
+    requires inside { seat < length world.old.seats }
+    requires resting { IsResting world.old }
+    requires alone { AreAlone world.old }
+    requires owned { length (seat_of world.old seat).blocks.owned ≡ 1 }
+    ensures led { IsLed seat fill_script no_record (λ out t v. HasLeft out t v) result world.new }
+    ensures alone { AreAloneBut world.new seat }
+    ensures others { (other : ℕ) → other ≢ seat → seat_of world.new other ≡ seat_of world.old other }
+    ensures many { length world.new.seats ≡ length world.old.seats }
+    ensures room { world.new.cells.room ≡ world.old.cells.room }
+{
+    begin_in(world, seat, Task::Fill { first: 0, count: 1 });
+    bound(world.seat(seat).contents());
+    Fill::new(0, 1)
+}
+
+/// One turn of a seat that fills blocks.
+fn turn_fill(world: &mut World, seat: u8, fill: &mut Fill) -> Turn<()>
+    requires room { 0 < world.old.cells.room }
+    requires led { IsLed seat fill_script no_record (λ out t v. HasLeft out t v) fill.old world.old }
+    ensures keeps { IsTurnOf RunsAlone world.old world.new seat }
+    ensures alone { AreAloneBut world.old seat → AreAloneBut world.new seat }
+    ensures go { result ≡ Go → IsLed seat fill_script no_record (λ out t v. HasLeft out t v) fill.new world.new }
+    ensures done { (out : Unit {0}) → result ≡ Done out → IsResting world.new }
+    ensures fenced { (out : Unit {0}) → result ≡ Done out → AreAloneBut world.old seat → AreAlone world.new }
+{
+    world.turn(seat, fill)
+}
+
+/// So many turns of a seat that fills blocks, none of them the last.
+fn go_on(world: &mut World, seat: u8, fill: &mut Fill, turns: u16) -> Result<(), Unfinished>
+    requires room { turns ≤ world.old.cells.room }
+    requires led { IsLed seat fill_script no_record (λ out t v. HasLeft out t v) fill.old world.old }
+    requires alone { AreAloneBut world.old seat }
+    ensures led { IfOk result (λ _. IsLed seat fill_script no_record (λ out t v. HasLeft out t v) fill.new world.new) }
+    ensures alone { IfOk result (λ _. AreAloneBut world.new seat) }
+    ensures others { IfOk result (λ _. (other : ℕ) → other ≢ seat → seat_of world.new other ≡ seat_of world.old other) }
+    ensures many { IfOk result (λ _. length world.new.seats ≡ length world.old.seats) }
+    ensures room { IfOk result (λ _. world.new.cells.room + turns ≡ world.old.cells.room) }
+{
+    for _ in 0..turns {
+        let Turn::Go = turn_fill(world, seat, fill) else {
+            return Err(Unfinished);
+        };
+    }
+    Ok(())
+}
+
+/// The last turn of a seat that fills blocks.
+fn end_fill(world: &mut World, seat: u8, mut fill: Fill) -> Result<(), Unfinished>
+    requires room { 1 ≤ world.old.cells.room }
+    requires led { IsLed seat fill_script no_record (λ out t v. HasLeft out t v) fill world.old }
+    requires alone { AreAloneBut world.old seat }
+    ensures resting { IfOk result (λ _. IsResting world.new) }
+    ensures alone { IfOk result (λ _. AreAlone world.new) }
+    ensures others { IfOk result (λ _. (other : ℕ) → other ≢ seat → seat_of world.new other ≡ seat_of world.old other) }
+    ensures many { IfOk result (λ _. length world.new.seats ≡ length world.old.seats) }
+    ensures room { IfOk result (λ _. world.new.cells.room + 1 ≡ world.old.cells.room) }
+{
+    match turn_fill(world, seat, &mut fill) {
+        Turn::Go => Err(Unfinished),
+        Turn::Done(()) => Ok(()),
+    }
+}
+
 #[test]
-fn blocks_are_taken_by_two_seats(rt: HostRuntime) -> Result<(), Fail> {
+fn a_filled_block_outlasts_a_crash(rt: HostRuntime) -> Result<(), Fail> {
     let Ok(geometry) = Geometry::new(2, 1, 64) else {
         return Ok(());
     };
@@ -108,6 +215,18 @@ fn blocks_are_taken_by_two_seats(rt: HostRuntime) -> Result<(), Fail> {
     let taken = take_in(&mut world, 0, Area::Data, 1)?;
     assert_eq!(rt; taken, Taken::Taken);
     assert_eq!(rt; owns_only(&mut world, 0, 1), true);
+    set_all(&mut world, 0, 5);
+    let mut fill = begin_fill(&mut world, 0);
+    go_on(&mut world, 0, &mut fill, 16)?;
+    let left = world.survivors(rt.alloc(), Choice::Oldest)?;
+    assert_eq!(rt; left.len(), 192);
+    assert_eq!(rt; left[8], 0);
+    end_fill(&mut world, 0, fill)?;
+    for choice in [Choice::Oldest, Choice::Newest, Choice::Drawn(7)] {
+        let left = world.survivors(rt.alloc(), choice)?;
+        assert_eq!(rt; left.len(), 192);
+        assert_eq!(rt; &left[8..16], [5; 8].as_slice());
+    }
     let taken = take_in(&mut world, 1, Area::Data, 2)?;
     assert_eq!(rt; taken, Taken::NoSpace { area: Area::Data });
     assert_eq!(rt; owns_only(&mut world, 1, 2), true);

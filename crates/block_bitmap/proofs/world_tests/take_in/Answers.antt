@@ -7,7 +7,8 @@ use Rattle.crash_model.specs.Worlds.{seat_of}
 use Rattle.crash_model.specs.Led.{IsLed, HasLeft}
 use Rattle.block_bitmap.specs.declared.take.Take.{Take}
 use Rattle.block_bitmap.specs.TakeScript.{take_script}
-use Rattle.block_bitmap.proofs.WorldLemmas.{begun_seat, begun_inside, take_led}
+use Rattle.block_bitmap.proofs.WorldLemmas.{begun_seat, begun_inside}
+use Rattle.block_bitmap.proofs.WorldTakes.{take_led}
 use Rattle.block_bitmap.proofs.world_tests.take_in.Goals as goal
 
 pub turn_take-requires-clause-led : goal.turn_take-requires-clause-led

@@ -5,7 +5,8 @@ use Rattle.crash_model.proofs.Leading.{fits_led, admits_led, goes_led, inside_le
 use Rattle.log_core.specs.Within.{no_record}
 use Rattle.block_bitmap.specs.TakeScript.{take_script}
 use Rattle.block_bitmap.specs.Seated.{RunsAlone}
-use Rattle.block_bitmap.proofs.WorldLemmas.{take_one, take_keeps, take_marks, turn_alone}
+use Rattle.block_bitmap.proofs.WorldLemmas.{turn_alone}
+use Rattle.block_bitmap.proofs.WorldTakes.{take_one, take_keeps, take_marks}
 use Rattle.block_bitmap.proofs.world_tests.turn_take.Goals as goal
 
 pub turn-requires-clause-fits : goal.turn-requires-clause-fits
