@@ -11,17 +11,18 @@ use Rattle.seat_parts.specs.declared.keeps.Task.TheVariants.{Idle as IdleTask, P
 use Rattle.seat_state.specs.Seats.{Seat, new_seat, owned_room}
 use Rattle.persistence.specs.Memory.{Memory, notes_of, memory_after}
 use Rattle.log_core.specs.Views.{op_of, no_geometry}
-use Rattle.log_core.specs.Works.{Begins, laid_bytes, worked}
+use Rattle.log_core.specs.Works.{Begins, SetsWord, laid_bytes, worked}
 use Rattle.log_core.specs.Needs.{is_area, lacking}
 use Rattle.log_core.specs.Within.{no_record}
 use Rattle.log_core.proofs.OneView.{same_or_other}
 use Rattle.crash_model.specs.Worlds.{WorldNow, seat_of, set_seat, new_world}
 use Rattle.crash_model.specs.Led.{IsLed, IsResting, IsTurnOf, HasLeft, HasNoMarks}
 use Rattle.crash_model.proofs.Leading.{begins_led}
-use Rattle.crash_model.proofs.Resting.{begun_rests}
+use Rattle.crash_model.proofs.Resting.{begun_rests, word_rests}
 use Rattle.block_bitmap.specs.declared.take.Take.{Take}
 use Rattle.block_bitmap.specs.TakeScript.{MayTake, take_of, take_script, after_at, asks_at, with_found, word_of, less, seat_set, gained_at, known_set}
 use Rattle.block_bitmap.specs.TakeWithin.{MayLack, HasEnded}
+use Rattle.block_bitmap.proofs.BlockWords.{q_range}
 use Rattle.block_bitmap.specs.Seated.{RunsAlone, AreAlone, AreAloneBut}
 use Rattle.block_bitmap.proofs.TakeServes.{ended_seat}
 use Rattle.block_bitmap.proofs.TakeSteps.{settled_seat}
@@ -78,6 +79,11 @@ all_alone w seat alone none = record {
 -- that leaves its marks
 pub turn_alone : (w v : WorldNow) (seat : ℕ) → seat < length w.seats → IsTurnOf RunsAlone w v seat → notes_of seat v.cells.memory.notes ≡ notes_of seat w.cells.memory.notes → AreAlone w → AreAlone v
 turn_alone w v seat inside turn marks alone = all_alone v seat (turn_alone_but w v seat turn (alone_but w seat alone)) (marks ∙ alone.no_marks seat inside)
+
+-- a word of the one owned block is set
+pub word_rest : (w : WorldNow) (seat word value : ℕ) → seat < length w.seats → length (seat_of w seat).blocks.owned ≡ 1 → word < 8 → value < 2 ^ 64 → IsResting w → IsResting (set_seat w seat (worked (seat_of w seat) (SetsWord 0 word value)))
+word_rest w seat word value inside one low small resting = word_rests w seat 0 word value inside
+    (record { owned = omega (arith, one); inside = (let wide = (q_range (seat_of w seat).geometry).0 in omega (arith, low, wide)); small = small }) resting
 
 -- no task has laid bytes where there are none
 no_bytes : (task : Task) → laid_bytes task [] ≡ []
