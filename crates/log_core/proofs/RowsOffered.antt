@@ -12,7 +12,7 @@ use Rattle.log_core.specs.Steps.{is_begun, ghost_begun, kind_of}
 use Rattle.log_core.specs.May.{May, IsOfferedKind, OfHead, OfTrail, OfNewHead}
 use Rattle.log_core.specs.Runs.{Fits, Allowed, MayNumber, is_offered_work}
 use Rattle.log_core.specs.Samples.{step_of}
-use Rattle.log_core.specs.Offered.{FilledNoMore, OfferedKinds, NotOffered}
+use Rattle.log_core.specs.Offered.{FilledNoMore, BitmapMayBeRead, OfferedKinds, NotOffered}
 use Rattle.log_core.proofs.RowsTaken.{bits_taken, fence_follows}
 use Rattle.log_core.proofs.RowsMay.{word_may_be_marked}
 use Rattle.log_core.proofs.RowsGiven.{bits_cleared, sync_ends}
@@ -21,6 +21,14 @@ use Rattle.log_core.proofs.RowTells.{is_sync, is_put}
 
 pub filled_no_more : FilledNoMore
 filled_no_more = (refl, refl, refl, refl, refl, refl, refl)
+
+pub bitmap_may_be_read : BitmapMayBeRead
+bitmap_may_be_read = (
+  record { inside = omega arith; area = Data; lacks = omega arith },
+  λ may. (let inside = may.inside in omega (arith, inside)),
+  λ may. (let lacks = may.lacks in omega (arith, lacks)),
+  λ may. (let few = may.few in omega (arith, few)),
+)
 
 -- a step with what its call computes before it, and nothing after it
 module _ (o : Origin) (c : Core) (seat number : ℕ) (ask : Ask) (works : List Work) where
@@ -51,7 +59,7 @@ module _ (o : Origin) (c : Core) (seat number : ℕ) (ask : Ask) (works : List W
 
 pub offered_kinds : OfferedKinds
 offered_kinds = (
-  step_allowed _ _ 0 _ _ [] (omega arith) (one_part 0) tt refl (record { inside = omega arith; area = Data; lacks = omega arith }) tt refl,
+  step_allowed _ _ 0 _ _ [] (omega arith) (one_part 0) tt refl bitmap_may_be_read.0 tt refl,
   step_allowed _ _ 0 _ _ [] (omega arith) (one_part 0) tt refl bits_taken.7 tt refl,
   step_allowed _ _ 0 _ _ (SetsWord 0 0 170 ∷ []) (omega arith) (one_part 0) (record { owned = omega arith; inside = omega arith; small = omega arith }, tt) refl (record { owned = refl; small = omega arith }) tt refl,
   step_allowed _ _ 0 _ _ [] (omega arith) (one_part 0) tt refl word_may_be_marked.2 (record { owned = refl; no_sync = λ sync. false≢true (ap is_sync sync) }) refl,

@@ -9,6 +9,7 @@ use Rattle.log_core.specs.Views.{view_of}
 use Rattle.log_core.specs.Origin.{Free, Header, InChain, OwnedBy}
 use Rattle.log_core.specs.Cores.{Core}
 use Rattle.log_core.specs.Works.{Work, SetsWord, CountsFilled, stored_at, worked}
+use Rattle.log_core.specs.May.{MayLoadBitmapWord, MaySetBits}
 use Rattle.log_core.specs.Runs.{Fits, Allowed, IsReached}
 use Rattle.log_core.specs.Starts.{IsStart}
 use Rattle.log_core.specs.Invariant.{Invariant}
@@ -30,6 +31,14 @@ FilledNoMore =
     × (cell stored_again.memory 8 ≡ record { present = 171; past = 0 ∷ 170 ∷ []; floor = 1 })
     × (stored_at (view_of (stepping image_a stored_words 0 (Mark 8) 1 [] []).views 0).ghost.stored 8 ≡ Some (record { word = 8; value = 170; marked = true }))
     × (stored_at (view_of (stepping image_a stored_words 0 (Mark 8) 1 [] []).views 0).ghost.stored 9 ≡ Some (record { word = 9; value = 0; marked = false }))
+
+-- a bitmap word that there is may be loaded in a call that lacks blocks, and in no sync
+abbrev pub BitmapMayBeRead : Type 0
+BitmapMayBeRead =
+    MayLoadBitmapWord (view_of walked.views 0).seat 0
+    × (MayLoadBitmapWord (view_of walked.views 0).seat 1 → ⊥)
+    × (MayLoadBitmapWord (view_of syncing.views 0).seat 0 → ⊥)
+    × (MaySetBits (view_of syncing.views 0).seat 0 4 → ⊥)
 
 -- a step of a seat in its running call meets the condition of its kind, and is allowed
 abbrev pub MayBeMade : Core → ℕ → Ask → List Work → Type 0

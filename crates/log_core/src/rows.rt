@@ -1,7 +1,7 @@
 //! Worked states and steps, each the contract of a function that does nothing: what they compute to, and states that are refused.
 
 ghost use Rattle.log_core.specs.Rows.{JustMade, PinsInThreeSteps, ScanSeesPins, ComesToTail, BitsTaken, FenceFollows, SlotWon, SlotLost, WriteEnds, LinkWon, LinkLost, HeadWon, HeadLost, KeptUntilUnpinned, BitsCleared, BitsNotCleared, CollectEnds, SyncEnds, FilesByPosition, EarlyFiles, WalkedTrail, LacksBlocks, EntryTakenIn, ReadLays, BaseWords, SnapshotRead, QuietCalls, RepliesFit, LimitsFit};
-ghost use Rattle.log_core.specs.Offered.{FilledNoMore, OfferedKinds, NotOffered, BlockRuns};
+ghost use Rattle.log_core.specs.Offered.{FilledNoMore, BitmapMayBeRead, OfferedKinds, NotOffered, BlockRuns};
 ghost use Rattle.log_core.specs.Refused.{OtherEntryPossible, HeadSkips, LogHasMore, BitWithoutOwner, BlockOnTwoLists, ChainBlockFree, OtherContentPossible, PinOfAnother, ViewOfAnother, StoredNotPresent, ReplacedStillNamed, RecordOfNoWrite, SyncedMayBeLost, NamedTwice, SnapshotNamesMore, WriteOfNoSeat};
 ghost use Rattle.log_core.specs.Gaps.{BitPastTheWord, MarkOfOwnedBlock, FloorAhead, SpentViewHolds};
 ghost use Rattle.log_core.specs.Accepted.{PinMayBeStored, WordMayBeLoaded, WordMayBeMarked, EntryMayBePut, OrderStands, PinsStand, ViewsStand, OwnedStands, GivingsStand, RecordsStand, SyncsStand, ContentsStand, OwnersStand, PinRuns, WriteFits, ViewsJoin, ViewsSplit, LateWrite, LateSync, LateWalk, RunsMayBePut, CollectionsInTurn};
@@ -70,6 +70,7 @@ pub fn law_accepted()
     ensures word_may_be_loaded { WordMayBeLoaded }
     ensures word_may_be_marked { WordMayBeMarked }
     ensures entry_may_be_put { EntryMayBePut }
+    ensures bitmap_may_be_read { BitmapMayBeRead }
     ensures offered_kinds { OfferedKinds }
     ensures not_offered { NotOffered }
     ensures block_runs { BlockRuns }
