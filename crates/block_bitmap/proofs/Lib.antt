@@ -24,3 +24,7 @@ pub mod FillOwned
 pub mod FilledSeats
 pub mod FillServes
 pub mod FillWithinCore
+pub mod FewBlocks
+pub mod GiveServes
+pub mod OwnedInCore
+pub mod GiveWithinCore

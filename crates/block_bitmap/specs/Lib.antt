@@ -13,3 +13,4 @@ pub mod GiveLowering
 pub mod Filled
 pub mod Given
 pub mod FillWithin
+pub mod GiveWithin
