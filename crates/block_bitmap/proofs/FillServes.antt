@@ -29,7 +29,7 @@ use Rattle.block_bitmap.specs.Filled.{filled_anew, filled_from}
 use Rattle.block_bitmap.specs.FillWithin.{IsCalm, IsStored, stored_to, IsAtBlock, StoreStands, MarkStands, FenceStands, FillStands, IsFilled}
 use Rattle.block_bitmap.proofs.BlockWords.{q_range}
 use Rattle.block_bitmap.proofs.OwnedFlags.{both_marks, unfilled_each, unfilled_many, owning}
-use Rattle.block_bitmap.proofs.OwnedInCore.{low_block, few_owned}
+use Rattle.block_bitmap.proofs.OwnedInCore.{few_owned}
 use Rattle.block_bitmap.proofs.FillOwned.{has_at, set_by_number, stored_here, marked_here, marked_other, head_unmarked}
 use Rattle.block_bitmap.proofs.FilledSeats.{filled_more, filled_many, stored_unfilled, each_fenced}
 
@@ -137,7 +137,7 @@ module _ (o : Origin) (seat first count : ℕ) (start : Seat) where
   store_lawful place left word s g stands = record {
     may = λ c pin began inv unspent knows. record { owned = mine place left word s g stands.here; small = stands.here.calm.small (place * q_of s.geometry + word) };
     offered = tt;
-    admitted = λ c pin began inv unspent knows. has_blocks o seat first count place left word s g stands.here (few_owned o seat c s g pin began inv knows);
+    admitted = λ c pin began inv unspent knows. has_blocks place left word s g stands.here (few_owned o seat c s g pin began inv knows);
     enters = λ f found admits. entered _ _ (unfilled s place) Go (stores place left word s g stands.here f found.knows.owns.owned.once);
     none_added = λ f found admits. refl;
     goes = λ f found admits go. stores_on place left word s g stands f (nat_lt (word + 1) (q_of s.geometry)) refl;
@@ -256,7 +256,7 @@ module _ (o : Origin) (seat first count : ℕ) (start : Seat) where
   mark_lawful place left word s g stands = record {
     may = λ c pin began inv unspent knows. OfOwned (mine place left word s g stands.here) stands.here.calm.no_sync;
     offered = record { owned = mine place left word s g stands.here; no_sync = stands.here.calm.no_sync };
-    admitted = λ c pin began inv unspent knows. has_blocks o seat first count place left word s g stands.here (few_owned o seat c s g pin began inv knows);
+    admitted = λ c pin began inv unspent knows. has_blocks place left word s g stands.here (few_owned o seat c s g pin began inv knows);
     enters = λ f found admits. enters_marked place left word s g stands f (nat_lt (word + 1) (q_of s.geometry)) refl;
     none_added = λ f found admits. goes_none place left word s g stands f (nat_lt (word + 1) (q_of s.geometry));
     goes = λ f found admits go. goes_marked place left word s g stands f (owns_no_header o found.core seat s g found.pin found.began place found.holds found.knows (inside place left word s g stands.here)) (nat_lt (word + 1) (q_of s.geometry)) refl;

@@ -1,33 +1,32 @@
 -- Giving owned blocks back is lawful within a core.
-use Rattle.std.proofs.Common.{◌≡◌, ◌≢◌, ◌<◌, ◌≤◌, ◌+◌, ◌-◌, ◌*◌, ◌/◌, ◌%◌, ◌^◌, ◌⊎◌, inl, inr, ◌==◌, ◌&&◌, ◌||◌, not, ℕ, zero, suc, Bool, true, false, if◌then◌else◌, List, [], ◌∷◌, length, refl, sym, ap, ◌∙◌, subst, arith}
+use Rattle.std.proofs.Common.{◌≡◌, ◌≢◌, ◌<◌, ◌≤◌, ◌+◌, ◌*◌, ◌/◌, ◌%◌, ◌^◌, ◌⊎◌, inl, inr, ◌==◌, ◌||◌, not, ℕ, Bool, true, false, if◌then◌else◌, List, [], ◌∷◌, length, refl, sym, ap, ◌∙◌, subst, arith}
 use Rattle.std.specs.List.{AllByRecursion, list_all, range_with_len}
 use Rattle.std.specs.Prelude.{bit_or}
 use Rattle.std.proofs.Math.Pow.{pow_mono}
 use Rattle.std.proofs.lemmas.Nat.{or_lt}
 use Rattle.std.proofs.lemmas.Bool.{eqb-true, eqb-false, eq-eqb, and_parts, and_from, or_left, or_right}
-use Rattle.std.proofs.lemmas.List.{nil_from_length, length-map}
-use Rattle.log_image.specs.Image.{total}
+use Rattle.std.proofs.lemmas.List.{nil_from_length}
 use Rattle.seat_parts.specs.Owned.{is_among}
 use Rattle.seat_parts.specs.declared.owned.OwnedBlock.{OwnedBlock}
-use Rattle.seat_state.specs.Seats.{Seat, bitmap_words}
+use Rattle.seat_state.specs.Seats.{Seat}
 use Rattle.pmem_words.specs.declared.asks.Turn.{Turn}
 use Rattle.pmem_words.specs.declared.asks.Turn.TheVariants.{Go, Done}
 use Rattle.log_core.specs.Entries.{has}
 use Rattle.log_core.specs.Views.{Ghost, view_of}
-use Rattle.log_core.specs.Origin.{Origin, shape, OwnedBy, Free}
+use Rattle.log_core.specs.Origin.{Origin}
 use Rattle.log_core.specs.Cores.{Core}
 use Rattle.log_core.specs.Needs.{owned_numbers}
 use Rattle.log_core.specs.Steps.{ClearsBits, effect, ghost_after, is_of_owned, give_if, not_found}
-use Rattle.log_core.specs.May.{MayClearBits, OfOwned}
+use Rattle.log_core.specs.May.{OfOwned}
 use Rattle.log_core.specs.Invariant.{Invariant}
 use Rattle.log_core.specs.Knows.{Knows}
-use Rattle.log_core.specs.Within.{no_record, adds_at, EntersOffered, IsFound, Lawful, Serves}
+use Rattle.log_core.specs.Within.{no_record, adds_at, EntersOffered, Serves}
 use Rattle.block_bitmap.specs.declared.give.Give.{Give}
-use Rattle.block_bitmap.specs.GivenBits.{with_bit, bits_from, bits_in}
+use Rattle.block_bitmap.specs.GivenBits.{with_bit, bits_from}
 use Rattle.block_bitmap.specs.BitsIn.{has_block, among_in, least_is}
-use Rattle.block_bitmap.specs.Giving.{HasGiven, next_word, next_bits, given_seat, given_count, give_turn, give_script}
+use Rattle.block_bitmap.specs.Giving.{next_word, next_bits, given_seat, given_count, give_turn, give_script}
 use Rattle.block_bitmap.specs.GiveLowering.{left_few}
-use Rattle.block_bitmap.specs.Given.{AreInside, emptied}
+use Rattle.block_bitmap.specs.Given.{AreInside}
 use Rattle.block_bitmap.specs.GiveWithin.{GiveStands, IsGiven}
 use Rattle.block_bitmap.proofs.OwnedInCore.{low_block, few_owned}
 use Rattle.block_bitmap.proofs.GivenLemmas.{word_inside}

@@ -1,5 +1,5 @@
 -- Giving owned blocks back within a core, from every start.
-use Rattle.std.proofs.Common.{ℕ, ◌+◌, refl, arith, inl}
+use Rattle.std.proofs.Common.{refl, arith, inl}
 use Rattle.log_core.specs.Within.{no_record}
 use Rattle.log_core.proofs.Serving.{leads_within}
 use Rattle.log_core.proofs.StartMeets.{start_meets}

@@ -1,5 +1,5 @@
 -- The blocks that a seat owns in a core are of the image, and few.
-use Rattle.std.proofs.Common.{◌≡◌, ◌<◌, ◌≤◌, ℕ, true, length, sym, ap, ◌∙◌, arith}
+use Rattle.std.proofs.Common.{◌≡◌, ◌<◌, ◌≤◌, ℕ, true, length, sym, ◌∙◌, arith}
 use Rattle.std.proofs.lemmas.List.{length-map}
 use Rattle.log_image.specs.Image.{total}
 use Rattle.seat_parts.specs.declared.owned.OwnedBlock.{OwnedBlock}
