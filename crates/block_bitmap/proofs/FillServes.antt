@@ -24,11 +24,12 @@ use Rattle.log_core.proofs.OwnedLists.{block_of, stored_at_other}
 use Rattle.log_core.proofs.Fences.{no_sync_fenced}
 use Rattle.block_bitmap.specs.declared.fill.Fill.TheVariants.{Store, Mark, Fence}
 use Rattle.block_bitmap.specs.OwnedWords.{block_at, image_word, content_at, unfilled, counted, all_fenced}
-use Rattle.block_bitmap.specs.Filling.{fill_script, stored_next, block_next, marked_after}
+use Rattle.block_bitmap.specs.Filling.{HasBlocks, fill_script, stored_next, block_next, marked_after}
 use Rattle.block_bitmap.specs.Filled.{filled_anew, filled_from}
 use Rattle.block_bitmap.specs.FillWithin.{IsCalm, IsStored, stored_to, IsAtBlock, StoreStands, MarkStands, FenceStands, FillStands, IsFilled}
 use Rattle.block_bitmap.proofs.BlockWords.{q_range}
 use Rattle.block_bitmap.proofs.OwnedFlags.{both_marks, unfilled_each, unfilled_many, owning}
+use Rattle.block_bitmap.proofs.OwnedInCore.{few_owned}
 use Rattle.block_bitmap.proofs.FillOwned.{has_at, set_by_number, stored_here, marked_here, marked_other, head_unmarked}
 use Rattle.block_bitmap.proofs.FilledSeats.{filled_more, filled_many, stored_unfilled, each_fenced}
 
@@ -64,11 +65,14 @@ entered g e t turn same = subst (λ adds. EntersOffered g e t adds) (sym (none_a
 module _ (o : Origin) (seat first count : ℕ) (start : Seat) where
   module _ (place left word : ℕ) (s : Seat) (g : Ghost) (here : IsAtBlock first count place left word s g) where
     inside : place < length s.blocks.owned
-    inside = (let owned = here.blocks.owned in let some = here.blocks.some in omega (arith, owned, some))
+    inside = (let owned = here.owned in let some = here.some in omega (arith, owned, some))
+
+    has_blocks : length s.blocks.owned ≤ 65535 → HasBlocks place left word s
+    has_blocks few = record { some = here.some; owned = here.owned; few = (let owned = here.owned in omega (arith, owned, few)); inside = here.inside }
 
     -- the word at hand is of that block
     is_of : image_word s place word / words_of s ≡ block_at s place
-    is_of = block_of (shape_of s) (block_at s place) word here.blocks.inside
+    is_of = block_of (shape_of s) (block_at s place) word here.inside
 
     mine : has (owned_numbers s.blocks.owned) (image_word s place word / words_of s) ≡ true
     mine = ap (has (owned_numbers s.blocks.owned)) is_of ∙ has_at s.blocks.owned place inside
@@ -108,7 +112,9 @@ module _ (o : Origin) (seat first count : ℕ) (start : Seat) where
 
     abbrev at_next : (k : ℕ) → k < q_of s.geometry → IsAtBlock first count place left k (unfilled s place) next
     at_next k low = (let h = stands.here in let many = unfilled_many s place in record {
-      blocks = record { some = h.blocks.some; owned = (let owned = h.blocks.owned in omega (arith, owned, many)); few = h.blocks.few; inside = low };
+      some = h.some;
+      owned = (let owned = h.owned in omega (arith, owned, many));
+      inside = low;
       calm = record { no_sync = h.calm.no_sync; no_head = h.calm.no_head; small = h.calm.small };
       done = h.done;
       at = h.at;
@@ -124,14 +130,14 @@ module _ (o : Origin) (seat first count : ℕ) (start : Seat) where
     stores_on false last = record {
       here = at_next 0 (let low = (q_range s.geometry).0 in omega (arith, low));
       seat = seat_stored;
-      stored = λ k low. subst (λ (b : Bool). IsStored (unfilled s place) next place k b) (sym (le-ltb k 0 (omega arith))) (stored_more k (let most = ltb-false (word + 1) (q_of s.geometry) last in let within = stands.here.blocks.inside in omega (arith, low, most, within)));
+      stored = λ k low. subst (λ (b : Bool). IsStored (unfilled s place) next place k b) (sym (le-ltb k 0 (omega arith))) (stored_more k (let most = ltb-false (word + 1) (q_of s.geometry) last in let within = stands.here.inside in omega (arith, low, most, within)));
     }
 
   store_lawful : (place left word : ℕ) (s : Seat) (g : Ghost) → StoreStands first count start place left word s g → Lawful o seat fill_script no_record (FillStands first count start) (IsFilled first count start) (Store place left word) s g
   store_lawful place left word s g stands = record {
     may = λ c pin began inv unspent knows. record { owned = mine place left word s g stands.here; small = stands.here.calm.small (place * q_of s.geometry + word) };
     offered = tt;
-    admitted = λ c pin began inv unspent knows. stands.here.blocks;
+    admitted = λ c pin began inv unspent knows. has_blocks place left word s g stands.here (few_owned o seat c s g pin began inv knows);
     enters = λ f found admits. entered _ _ (unfilled s place) Go (stores place left word s g stands.here f found.knows.owns.owned.once);
     none_added = λ f found admits. refl;
     goes = λ f found admits go. stores_on place left word s g stands f (nat_lt (word + 1) (q_of s.geometry)) refl;
@@ -148,7 +154,7 @@ module _ (o : Origin) (seat first count : ℕ) (start : Seat) where
       where
         by : (k ≡ word) ⊎ (k ≢ word) → IsStored s marked place k (nat_lt k (word + 1))
         by (inl same) = subst (λ (j : ℕ). IsStored s marked place j (nat_lt j (word + 1))) (sym same)
-            (rw (lt-ltb word (word + 1) (omega arith)) (marked_here g.stored (image_word s place word) (content_at s place word) (nat_lt word word) (stands.stored word stands.here.blocks.inside)))
+            (rw (lt-ltb word (word + 1) (omega arith)) (marked_here g.stored (image_word s place word) (content_at s place word) (nat_lt word word) (stands.stored word stands.here.inside)))
         by (inr apart) = subst (λ (b : Bool). IsStored s marked place k b) (order (cases_lt k word))
             (marked_other g.stored (image_word s place word) (image_word s place k) (words_apart s place k word apart) ∙ stands.stored k low)
           where
@@ -164,7 +170,9 @@ module _ (o : Origin) (seat first count : ℕ) (start : Seat) where
       marks_on : word + 1 < q_of s.geometry → MarkStands first count start place left (word + 1) s marked
       marks_on more = record {
         here = record {
-          blocks = record { some = stands.here.blocks.some; owned = stands.here.blocks.owned; few = stands.here.blocks.few; inside = more };
+          some = stands.here.some;
+          owned = stands.here.owned;
+          inside = more;
           calm = record { no_sync = stands.here.calm.no_sync; no_head = calm_marked; small = stands.here.calm.small };
           done = stands.here.done;
           at = stands.here.at;
@@ -188,12 +196,14 @@ module _ (o : Origin) (seat first count : ℕ) (start : Seat) where
       all_owned = ap (λ (t : Seat). length t.blocks.owned) stands.seat ∙ unfilled_many (filled_from start first stands.here.done) place ∙ filled_many start first stands.here.done
 
       blocks_on : (b : Bool) → nat_lt 1 left ≡ b → FillStands first count start (block_next b place left) (counted s place) marked
-      blocks_on true more = (let h = stands.here in let less = ltb-true 1 left more in let all = h.many in let owned = h.blocks.owned in let few = h.blocks.few in let at = h.at in
+      blocks_on true more = (let h = stands.here in let less = ltb-true 1 left more in let all = h.many in let owned = h.owned in let at = h.at in
           let many : length (counted s place).blocks.owned ≡ length s.blocks.owned = length-set s.blocks.owned place (record (owned_at s.blocks.owned place) { filled = true }) in
           let low = (q_range s.geometry).0 in
           record {
             here = record {
-              blocks = record { some = omega (arith, less); owned = omega (arith, less, owned, many); few = omega (arith, less, few); inside = omega (arith, low) };
+              some = omega (arith, less);
+              owned = omega (arith, less, owned, many);
+              inside = omega (arith, low);
               calm = counted_calm;
               done = suc h.done;
               at = omega (arith, at);
@@ -202,7 +212,7 @@ module _ (o : Origin) (seat first count : ℕ) (start : Seat) where
             seat = seat_counted;
             stored = λ k none. absurd (omega (arith, none));
           })
-      blocks_on false last = (let h = stands.here in let most = ltb-false 1 left last in let some_left = h.blocks.some in let all = h.many in let owned = h.blocks.owned in let at = h.at in let long = all_owned in
+      blocks_on false last = (let h = stands.here in let most = ltb-false 1 left last in let some_left = h.some in let all = h.many in let owned = h.owned in let at = h.at in let long = all_owned in
           let done : suc h.done ≡ count = omega (arith, all, most, some_left) in
           record {
             calm = counted_calm;
@@ -226,7 +236,7 @@ module _ (o : Origin) (seat first count : ℕ) (start : Seat) where
     enters_marked false last = record {
       enters = record {
         last = counted s place;
-        computed = record { works = CountsFilled place ∷ []; may = (may_count (let most = ltb-false (word + 1) (q_of s.geometry) last in let within = stands.here.blocks.inside in omega (arith, most, within)), tt); gives = refl };
+        computed = record { works = CountsFilled place ∷ []; may = (may_count (let most = ltb-false (word + 1) (q_of s.geometry) last in let within = stands.here.inside in omega (arith, most, within)), tt); gives = refl };
         going_on = refl;
         adds_are = tt;
         seat_is = refl;
@@ -246,7 +256,7 @@ module _ (o : Origin) (seat first count : ℕ) (start : Seat) where
   mark_lawful place left word s g stands = record {
     may = λ c pin began inv unspent knows. OfOwned (mine place left word s g stands.here) stands.here.calm.no_sync;
     offered = record { owned = mine place left word s g stands.here; no_sync = stands.here.calm.no_sync };
-    admitted = λ c pin began inv unspent knows. stands.here.blocks;
+    admitted = λ c pin began inv unspent knows. has_blocks place left word s g stands.here (few_owned o seat c s g pin began inv knows);
     enters = λ f found admits. enters_marked place left word s g stands f (nat_lt (word + 1) (q_of s.geometry)) refl;
     none_added = λ f found admits. goes_none place left word s g stands f (nat_lt (word + 1) (q_of s.geometry));
     goes = λ f found admits go. goes_marked place left word s g stands f (owns_no_header o found.core seat s g found.pin found.began place found.holds found.knows (inside place left word s g stands.here)) (nat_lt (word + 1) (q_of s.geometry)) refl;

@@ -21,7 +21,9 @@ use Rattle.block_bitmap.proofs.FillServes.{fill_serves}
 begins : (first count : ℕ) (s : Seat) (g : Ghost) → MayFill first count s g → StoreStands first count s first count 0 s g
 begins first count s g may = record {
   here = record {
-    blocks = record { some = may.some; owned = may.owned; few = may.few; inside = (let low = (q_range s.geometry).0 in omega (arith, low)) };
+    some = may.some;
+    owned = may.owned;
+    inside = (let low = (q_range s.geometry).0 in omega (arith, low));
     calm = may.calm;
     done = 0;
     at = omega arith;

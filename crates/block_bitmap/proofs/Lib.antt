@@ -27,3 +27,8 @@ pub mod FillServes
 pub mod FillWithinCore
 pub mod WorldTakes
 pub mod WorldFills
+pub mod FewBlocks
+pub mod GiveServes
+pub mod OwnedInCore
+pub mod GiveWithinCore
+pub mod WorldGives

@@ -18,7 +18,7 @@ use Rattle.log_core.specs.Within.{no_record, within, IsLinked, IsLeft}
 use Rattle.block_bitmap.specs.declared.fill.Fill.{Fill}
 use Rattle.block_bitmap.specs.declared.fill.Fill.TheVariants.{Store, Mark, Fence}
 use Rattle.block_bitmap.specs.OwnedWords.{image_word, content_at, unfilled}
-use Rattle.block_bitmap.specs.Filling.{HasBlocks, fill_of, fill_script}
+use Rattle.block_bitmap.specs.Filling.{fill_of, fill_script}
 use Rattle.block_bitmap.specs.Filled.{filled_from, filled_seat}
 
 -- a seat whose fence is for its owned blocks alone: it runs no sync, and has no mark of a head that is still to be fenced. Its blocks
@@ -32,7 +32,6 @@ pub record IsCalm (s : Seat) (g : Ghost) : Type 0 where
 pub record MayFill (first count : ℕ) (s : Seat) (g : Ghost) : Type 0 where
   pub some : 0 < count
   pub owned : first + count ≤ length s.blocks.owned
-  pub few : first + count ≤ 65536
   pub calm : IsCalm s g
 
 -- the seat before the store of a word of the block at a place: from the first store on, the block is not filled
@@ -46,7 +45,9 @@ IsStored s g place word marked = stored_at g.stored (image_word s place word) �
 
 -- where a fill stands at a block: so many blocks are done
 pub record IsAtBlock (first count place left word : ℕ) (s : Seat) (g : Ghost) : Type 0 where
-  pub blocks : HasBlocks place left word s
+  pub some : 0 < left
+  pub owned : place + left ≤ length s.blocks.owned
+  pub inside : word < q_of s.geometry
   pub calm : IsCalm s g
   pub done : ℕ
   pub at : place ≡ first + done

@@ -14,3 +14,4 @@ pub mod Filled
 pub mod Given
 pub mod Seated
 pub mod FillWithin
+pub mod GiveWithin

@@ -1,6 +1,7 @@
-//! What filling blocks promises within a core, as the contract of a function that does nothing.
+//! What filling and giving blocks promise within a core, as contracts of functions that do nothing.
 
 ghost use Rattle.block_bitmap.specs.FillWithin.{FillsWithin, FilledAreCertain};
+ghost use Rattle.block_bitmap.specs.GiveWithin.{GivesWithin};
 
 /// From every start, at every seat that has so many owned blocks from a place on, runs no sync and has no mark of a head that is
 /// still to be fenced, and whatever other seats do between its steps: each ask of a fill is a step that the core allows, each
@@ -9,4 +10,11 @@ ghost use Rattle.block_bitmap.specs.FillWithin.{FillsWithin, FilledAreCertain};
 pub fn law_fills_within()
     ensures fills { FillsWithin }
     ensures certain { FilledAreCertain }
+{}
+
+/// From every start, at every seat that owns a block, and whatever other seats do between its steps: each ask of a giving is a
+/// step that the core allows, each answer that comes there is admitted, and it ends. It answers how many blocks the seat owned;
+/// it then owns none, and nothing else of it has changed but its bits of blocks found taken, which are without theirs.
+pub fn law_gives_within()
+    ensures { GivesWithin }
 {}

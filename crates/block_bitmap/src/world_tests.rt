@@ -8,6 +8,7 @@ ghost use Rattle.crash_model.specs.Worlds.{seat_of, set_seat};
 ghost use Rattle.crash_model.specs.Led.{IsResting, IsLed, HasLeft, IsTurnOf};
 ghost use Rattle.pmem_words.specs.declared.asks.Turn.TheVariants.{Go, Done};
 ghost use Rattle.block_bitmap.specs.Filling.{fill_script};
+ghost use Rattle.block_bitmap.specs.Giving.{give_script};
 ghost use Rattle.block_bitmap.specs.TakeScript.{take_script};
 ghost use Rattle.block_bitmap.specs.Seated.{RunsAlone, AreAlone, AreAloneBut};
 
@@ -16,6 +17,7 @@ use crash_model::{Choice, World};
 use image_tools::mkfs;
 use log_entry::{Area, Geometry};
 use pmem_words::{Task, Turn};
+use seat_parts::GiveFrom as Listed;
 use std::alloc::{AllocError, Global};
 use std::test::Fail;
 
@@ -206,6 +208,41 @@ fn end_fill(world: &mut World, seat: u8, mut fill: Fill) -> Result<(), Unfinishe
     }
 }
 
+/// One turn of a seat that gives the blocks that it owns back.
+fn turn_give(world: &mut World, seat: u8, give: &mut Give) -> Turn<u32>
+    requires room { 0 < world.old.cells.room }
+    requires led { IsLed seat give_script no_record (λ out t v. HasLeft out t v) give.old world.old }
+    ensures keeps { IsTurnOf RunsAlone world.old world.new seat }
+    ensures alone { AreAlone world.old → AreAlone world.new }
+    ensures go { result ≡ Go → IsLed seat give_script no_record (λ out t v. HasLeft out t v) give.new world.new }
+    ensures done { (out : ℕ) → result ≡ Done out → IsResting world.new }
+    ensures given { (out : ℕ) → result ≡ Done out → (seat_of world.new seat).blocks.owned ≡ [] }
+{
+    world.turn(seat, give)
+}
+
+/// A seat gives the one block that it owns back, in one turn.
+fn give_in(world: &mut World, seat: u8) -> Result<u32, Unfinished>
+    requires room { 1 ≤ world.old.cells.room }
+    requires inside { seat < length world.old.seats }
+    requires resting { IsResting world.old }
+    requires alone { AreAlone world.old }
+    requires owned { length (seat_of world.old seat).blocks.owned ≡ 1 }
+    ensures resting { IfOk result (λ _. IsResting world.new) }
+    ensures alone { IfOk result (λ _. AreAlone world.new) }
+    ensures given { IfOk result (λ _. (seat_of world.new seat).blocks.owned ≡ []) }
+    ensures others { IfOk result (λ _. (other : ℕ) → other ≢ seat → seat_of world.new other ≡ seat_of world.old other) }
+    ensures many { IfOk result (λ _. length world.new.seats ≡ length world.old.seats) }
+    ensures room { IfOk result (λ _. world.new.cells.room + 1 ≡ world.old.cells.room) }
+{
+    begin_in(world, seat, Task::Give { from: Listed::Owned });
+    let mut give = Give::new(GiveFrom::Owned);
+    match turn_give(world, seat, &mut give) {
+        Turn::Go => Err(Unfinished),
+        Turn::Done(count) => Ok(count),
+    }
+}
+
 #[test]
 fn a_filled_block_outlasts_a_crash(rt: HostRuntime) -> Result<(), Fail> {
     let Ok(geometry) = Geometry::new(2, 1, 64) else {
@@ -229,6 +266,11 @@ fn a_filled_block_outlasts_a_crash(rt: HostRuntime) -> Result<(), Fail> {
     }
     let taken = take_in(&mut world, 1, Area::Data, 2)?;
     assert_eq!(rt; taken, Taken::NoSpace { area: Area::Data });
+    assert_eq!(rt; owns_only(&mut world, 1, 2), true);
+    let given = give_in(&mut world, 1)?;
+    assert_eq!(rt; given, 1);
+    let taken = take_in(&mut world, 1, Area::Data, 1)?;
+    assert_eq!(rt; taken, Taken::Taken);
     assert_eq!(rt; owns_only(&mut world, 1, 2), true);
     assert_eq!(rt; world.position(), 0);
     assert_eq!(rt; world.synced(), 0);

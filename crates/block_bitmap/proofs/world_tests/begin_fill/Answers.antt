@@ -20,4 +20,4 @@ returns-clause-led c =
     (sym (ap (λ (s : Seat). set_seat c.begin_in.new.world c.args.seat s) c.seat.ensures.value ∙ same_seat c.begin_in.new.world c.args.seat))
     (subst (λ (m : Fill). IsLed c.args.seat fill_script no_record (λ out t v. HasLeft out t v) m c.begin_in.new.world) (sym c.new.ensures)
     (fill_led c.begin_in.new.world c.args.seat 0 1 (begun_inside c.args.world.now c.begin_in.new.world c.args.seat (FillTask 0 1) c.requires.inside c.begin_in.ensures.same) c.begin_in.ensures.resting
-    (omega arith) (omega (arith, owned)) (omega arith) small c.begin_in.ensures.alone)))
+    (omega arith) (omega (arith, owned)) small c.begin_in.ensures.alone)))
