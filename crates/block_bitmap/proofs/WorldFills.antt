@@ -1,13 +1,12 @@
 -- The machine that fills blocks, at a seat of a world.
-use Rattle.std.proofs.Common.{◌≡◌, ◌≢◌, ◌<◌, ◌≤◌, ◌+◌, ◌^◌, nat_lt, ℕ, Bool, true, false, List, [], ◌∷◌, length, refl, sym, subst, arith, slice_index, None}
+use Rattle.std.proofs.Common.{◌≡◌, ◌≢◌, ◌<◌, ◌≤◌, ◌+◌, ◌^◌, nat_lt, ℕ, Bool, true, false, List, [], ◌∷◌, length, refl, sym, subst, slice_index, None}
 use Rattle.std.proofs.Math.Bridge.{le_prop}
-use Rattle.log_entry.specs.declared.calls.Op.{Op}
 use Rattle.seat_parts.specs.declared.keeps.Task.{Task}
 use Rattle.seat_parts.specs.declared.keeps.Task.TheVariants.{Sync}
 use Rattle.seat_state.specs.Seats.{Seat, q_of}
-use Rattle.pmem_words.specs.declared.asks.Turn.TheVariants.{Go, Done}
+use Rattle.pmem_words.specs.declared.asks.Turn.TheVariants.{Done}
 use Rattle.persistence.proofs.FenceLaws.{fences_forget_own_marks}
-use Rattle.log_core.specs.Views.{Ghost, Marked, op_in, op_of}
+use Rattle.log_core.specs.Views.{Ghost, Marked, op_of}
 use Rattle.log_core.specs.Origin.{Origin}
 use Rattle.log_core.specs.Cores.{Core}
 use Rattle.log_core.specs.Steps.{is_head_marked}
@@ -18,7 +17,6 @@ use Rattle.crash_model.proofs.Leading.{begins_led}
 use Rattle.crash_model.proofs.Resting.{IsKnown, no_marks_known}
 use Rattle.block_bitmap.specs.declared.fill.Fill.{Fill}
 use Rattle.block_bitmap.specs.declared.fill.Fill.TheVariants.{Store, Mark, Fence}
-use Rattle.block_bitmap.specs.OwnedWords.{unfilled, counted, all_fenced}
 use Rattle.block_bitmap.specs.Filling.{HasBlocks, fill_of, fill_admits, fill_script, marked_after}
 use Rattle.block_bitmap.specs.FillWithin.{MayFill, IsCalm, IsFilled}
 use Rattle.block_bitmap.specs.Seated.{RunsAlone, AreAlone}

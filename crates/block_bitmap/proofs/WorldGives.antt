@@ -4,7 +4,7 @@ use Rattle.std.proofs.Math.Bridge.{le_prop}
 use Rattle.std.proofs.lemmas.Bool.{eqb-true}
 use Rattle.seat_parts.specs.declared.owned.OwnedBlock.{OwnedBlock}
 use Rattle.seat_state.specs.Seats.{Seat}
-use Rattle.pmem_words.specs.declared.asks.Turn.TheVariants.{Go, Done}
+use Rattle.pmem_words.specs.declared.asks.Turn.TheVariants.{Done}
 use Rattle.log_core.specs.Within.{no_record}
 use Rattle.crash_model.specs.Worlds.{WorldNow, seat_of, turned, told_in}
 use Rattle.crash_model.specs.Led.{IsLed, IsResting, HasLeft}

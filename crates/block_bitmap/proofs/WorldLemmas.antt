@@ -1,32 +1,20 @@
 -- Machines that run alone at the seats of a world.
-use Rattle.std.proofs.Common.{◌≡◌, ◌<◌, ◌≤◌, ◌+◌, ◌-◌, ◌==◌, ℕ, true, List, [], length, refl, sym, ◌∙◌, ap, subst, arith, Option, Some, None}
-use Rattle.std.proofs.Math.Bridge.{le_prop}
+use Rattle.std.proofs.Common.{◌≡◌, ◌<◌, ◌^◌, ℕ, List, [], length, refl, sym, ◌∙◌, ap, subst, arith, None}
 use Rattle.std.proofs.lemmas.List.{get_or-set_same, get_or-set_other, length-set, set-get_or}
 use Rattle.std.proofs.lemmas.List.FromFn.{get_or-map-range_with_len}
-use Rattle.log_entry.specs.declared.shapes.Area.{Area}
-use Rattle.log_entry.specs.declared.shapes.Area.TheVariants.{Data, Log, Spare}
 use Rattle.log_entry.specs.declared.shapes.Geometry.{Geometry}
 use Rattle.seat_parts.specs.declared.keeps.Task.{Task}
 use Rattle.seat_parts.specs.declared.keeps.Task.TheVariants.{Idle as IdleTask, Pwrite as PwriteTask, Append as AppendTask, Pread as PreadTask, Size as SizeTask, Sync as SyncTask, Collect as CollectTask, Pin as PinTask, Unpin as UnpinTask, Scan as ScanTask, Take as TakeTask, Give as GiveTask, Fill as FillTask, Walk as WalkTask, Offer as OfferTask, Grow as GrowTask, Seal as SealTask}
-use Rattle.seat_state.specs.Seats.{Seat, new_seat, owned_room}
-use Rattle.persistence.specs.Memory.{Memory, notes_of, memory_after}
+use Rattle.seat_state.specs.Seats.{Seat, new_seat}
+use Rattle.persistence.specs.Memory.{notes_of}
 use Rattle.log_core.specs.Views.{op_of, no_geometry}
 use Rattle.log_core.specs.Works.{Begins, SetsWord, laid_bytes, worked}
-use Rattle.log_core.specs.Needs.{is_area, lacking}
-use Rattle.log_core.specs.Within.{no_record}
 use Rattle.log_core.proofs.OneView.{same_or_other}
 use Rattle.crash_model.specs.Worlds.{WorldNow, seat_of, set_seat, new_world}
-use Rattle.crash_model.specs.Led.{IsLed, IsResting, IsTurnOf, HasLeft, HasNoMarks}
-use Rattle.crash_model.proofs.Leading.{begins_led}
+use Rattle.crash_model.specs.Led.{IsResting, IsTurnOf, HasNoMarks}
 use Rattle.crash_model.proofs.Resting.{begun_rests, word_rests}
-use Rattle.block_bitmap.specs.declared.take.Take.{Take}
-use Rattle.block_bitmap.specs.TakeScript.{MayTake, take_of, take_script, after_at, asks_at, with_found, word_of, less, seat_set, gained_at, known_set}
-use Rattle.block_bitmap.specs.TakeWithin.{MayLack, HasEnded}
 use Rattle.block_bitmap.proofs.BlockWords.{q_range}
 use Rattle.block_bitmap.specs.Seated.{RunsAlone, AreAlone, AreAloneBut}
-use Rattle.block_bitmap.proofs.TakeServes.{ended_seat}
-use Rattle.block_bitmap.proofs.TakeSteps.{settled_seat}
-use Rattle.block_bitmap.proofs.TakeWithinCore.{takes_within}
 
 -- seats of a world in which nothing was done
 module _ (geometry : Geometry) (words taken : List ℕ) (position seats seat : ℕ) (inside : seat < seats) where
