@@ -43,7 +43,7 @@ module _ (Q : Unit {0} → Seat → PlainWords → Type 0) (p left : ℕ) where
 abbrev owning : Seat → List OwnedBlock → Seat
 owning s owned = record s { blocks = record s.blocks { owned = owned } }
 
-length_words : (s : Seat) (p word n : ℕ) (words : List ℕ) → length (with_words s p word n words) ≡ length words
+pub length_words : (s : Seat) (p word n : ℕ) (words : List ℕ) → length (with_words s p word n words) ≡ length words
 length_words s p word zero words = refl
 length_words s p word (suc n) words = length_words s p (word + 1) n (slice_set words (image_word s p word) (content_at s p word)) ∙ length-set words (image_word s p word) (content_at s p word)
 
