@@ -14,4 +14,5 @@ pub mod TakeEffects
 pub mod TakeSettles
 pub mod TakeServes
 pub mod TakeWithinCore
+pub mod TakeSafe
 pub mod BlockWords
