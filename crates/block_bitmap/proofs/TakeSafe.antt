@@ -1,23 +1,21 @@
 -- Taking blocks over any memory that takes loads of words of the bitmap and settings of their bits: each ask is taken and each answer
 -- admitted.
-use Rattle.std.proofs.Common.{◌≡◌, ◌<◌, ◌≤◌, ◌+◌, ◌-◌, ◌*◌, ◌/◌, ◌==◌, nat_lt, ℕ, Bool, true, false, List, [], ◌∷◌, length, map, refl, sym, ap, ◌∙◌, subst, arith}
+use Rattle.std.proofs.Common.{◌≡◌, ◌<◌, ◌≤◌, ◌+◌, ◌-◌, ◌==◌, nat_lt, ℕ, Bool, true, false, List, [], ◌∷◌, length, map, refl, sym, ◌∙◌, subst, arith}
 use Rattle.std.specs.Prelude.{bit_or, Option, Some, None, slice_index}
-use Rattle.std.proofs.lemmas.Bool.{ltb-true, eqb-false}
+use Rattle.std.proofs.lemmas.Bool.{ltb-true}
 use Rattle.std.proofs.lemmas.List.{length-append, length-map, length-set}
-use Rattle.log_entry.specs.Geometry.{count_of, first_of}
 use Rattle.log_entry.specs.declared.shapes.Area.{Area}
 use Rattle.seat_state.specs.Seats.{Seat, owned_room, bitmap_words}
 use Rattle.pmem_words.specs.Conducts.{Conduct}
 use Rattle.pmem_words.specs.Courses.{over}
-use Rattle.pmem_words.specs.Leads.{Leads, Keeps}
+use Rattle.pmem_words.specs.Leads.{Keeps}
 use Rattle.pmem_words.specs.Drives.{IsSafe}
-use Rattle.pmem_words.specs.declared.asks.Turn.TheVariants.{Go, Done}
+use Rattle.pmem_words.specs.declared.asks.Turn.TheVariants.{Go}
 use Rattle.pmem_words.specs.declared.asks.Place.TheVariants.{Map}
 use Rattle.pmem_words.specs.declared.asks.Ask.{Ask}
 use Rattle.pmem_words.specs.declared.asks.Ask.TheVariants.{Load, SetBits}
 use Rattle.pmem_words.proofs.LeadsLemmas.{leads_by, safe_by}
 use Rattle.block_bitmap.specs.declared.take.Take.{Take}
-use Rattle.block_bitmap.specs.declared.take.Taken.{Taken}
 use Rattle.block_bitmap.specs.TakeScript.{take_of, word_of, last_word, MayTake, open_at, gained_at, seat_set, known_set, with_found, fresh, less, moved_on, settled_by, ended_or, after_at, take_script}
 use Rattle.block_bitmap.specs.TakeLowering.{take_lowers}
 use Rattle.block_bitmap.proofs.TakeWords.{some_in}
