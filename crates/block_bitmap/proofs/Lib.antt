@@ -16,3 +16,8 @@ pub mod TakeServes
 pub mod TakeWithinCore
 pub mod TakeSafe
 pub mod BlockWords
+pub mod OwnedFlags
+pub mod FillOverPlain
+pub mod FillSteps
+pub mod GivenLemmas
+pub mod GiveOverPlain

@@ -7,13 +7,14 @@ use Rattle.std.proofs.lemmas.Bool.{eq-eqb, eqb-true, eqb-false, ne_eqb, and_part
 use Rattle.log_entry.specs.declared.shapes.Area.{Area}
 use Rattle.log_entry.specs.declared.shapes.Area.TheVariants.{Data, Log, Spare}
 use Rattle.log_image.specs.Image.{Shape, total, is_in_data}
+use Rattle.seat_parts.specs.Owned.{is_among}
 use Rattle.seat_parts.specs.declared.owned.OwnedBlock.{OwnedBlock}
 use Rattle.seat_state.specs.Seats.{Seat}
 use Rattle.log_core.specs.Entries.{has}
 use Rattle.log_core.specs.Views.{Marked}
 use Rattle.log_core.specs.Works.{shape_of, words_of}
 use Rattle.log_core.specs.Needs.{is_in_area}
-use Rattle.log_core.specs.Steps.{SetsBits, is_among, gained, area_of, taken_block, effect}
+use Rattle.log_core.specs.Steps.{SetsBits, gained, area_of, taken_block, effect}
 use Rattle.log_core.proofs.BlockLists.{has_filter}
 use Rattle.block_bitmap.specs.declared.take.Take.{Take}
 use Rattle.block_bitmap.specs.TakeBits.{blocks_of_word, blocks_in, bits_of, clear_in, area_in, open_blocks}

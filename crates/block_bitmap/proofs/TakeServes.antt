@@ -11,6 +11,7 @@ use Rattle.log_entry.specs.declared.calls.Call.{Call}
 use Rattle.log_entry.specs.Geometry.{first_of}
 use Rattle.log_image.specs.Chains.{all_different}
 use Rattle.log_image.specs.Taken.{bit_of}
+use Rattle.seat_parts.specs.Owned.{is_among}
 use Rattle.seat_state.specs.Seats.{Seat, bitmap_words}
 use Rattle.pmem_words.specs.declared.asks.Turn.{Turn}
 use Rattle.pmem_words.specs.declared.asks.Turn.TheVariants.{Go, Done}
@@ -21,7 +22,7 @@ use Rattle.log_core.specs.Views.{Ghost, view_of}
 use Rattle.log_core.specs.Origin.{Origin}
 use Rattle.log_core.specs.Cores.{Core}
 use Rattle.log_core.specs.Needs.{owned_numbers, is_pass_found}
-use Rattle.log_core.specs.Steps.{LoadsBitmapWord, SetsBits, is_among, effect, ghost_after}
+use Rattle.log_core.specs.Steps.{LoadsBitmapWord, SetsBits, effect, ghost_after}
 use Rattle.log_core.specs.May.{MaySetBits}
 use Rattle.log_core.specs.Answers.{HasLacked}
 use Rattle.log_core.specs.Within.{no_record, adds_at, EntersOffered, IsFound, Lawful, Serves}

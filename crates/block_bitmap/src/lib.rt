@@ -1,8 +1,15 @@
 //! How a seat takes free blocks of an area, fills blocks that it owns, and gives blocks back, and how a task begins.
 #![tactic(auto)]
 
+pub mod alone;
 pub mod begin;
 pub mod fill;
+#[cfg(test)]
+mod fill_tests;
+pub mod give;
+#[cfg(test)]
+mod give_tests;
+pub mod given;
 pub mod take;
 pub mod take_bits;
 pub mod take_laws;
@@ -11,7 +18,9 @@ pub mod take_plain;
 mod take_tests;
 pub mod words;
 
+pub use alone::{fill_alone, give_alone};
 pub use begin::begin_alone;
 pub use fill::Fill;
+pub use give::{Give, GiveFrom};
 pub use take::{Take, Taken};
 pub use take_plain::take_alone;

@@ -1,5 +1,5 @@
 -- A machine that leads to its end within a core does so in a world, turn by turn.
-use Rattle.std.proofs.Common.{◌≡◌, ◌≢◌, ◌<◌, ◌≤◌, ◌^◌, get_or, map, ℕ, Bool, List, [], length, refl, sym, ◌∙◌, ap, subst, arith, slice_set}
+use Rattle.std.proofs.Common.{◌≡◌, ◌≢◌, ◌<◌, ℕ, List, [], length, refl, sym, ◌∙◌, ap, subst, arith, slice_set}
 use Rattle.std.proofs.Math.Logic.{∥∥₁_elim, ∥∥₁_map}
 use Rattle.std.proofs.Math.Bridge.{le_prop}
 use Rattle.std.proofs.lemmas.List.{get_or-set_same, get_or-set_other, length-set}
@@ -7,29 +7,25 @@ use Rattle.log_entry.specs.declared.calls.Call.{Call}
 use Rattle.seat_state.specs.Seats.{Seat, new_seat}
 use Rattle.pmem_words.specs.Scripts.{Script}
 use Rattle.pmem_words.specs.Leads.{Leads}
+use Rattle.pmem_words.specs.declared.asks.Ask.{Ask}
+use Rattle.pmem_words.specs.declared.asks.Ask.TheVariants.{Load, Store, Exchange, SetBits, ClearBits, Mark, Fence}
 use Rattle.pmem_words.specs.declared.asks.Turn.TheVariants.{Go, Done}
 use Rattle.pmem_words.proofs.LeadsLemmas.{ready_now, go_now, end_now, leads_weaker}
-use Rattle.persistence.specs.Memory.{Memory, found_answer}
-use Rattle.std.proofs.lemmas.List.FromFn.{get_or-map-range_with_len, length-map-range_with_len}
-use Rattle.log_entry.specs.declared.shapes.Geometry.{Geometry}
-use Rattle.log_image.specs.Keeps.{Keeps}
-use Rattle.seat_state.specs.declared.TheConstants.{SEATS}
-use Rattle.std.specs.List.{range_with_len}
-use Rattle.persistence.specs.Cells.{CellsNow, fresh_memory}
-use Rattle.log_core.specs.Views.{View, Ghost, view_of, spent_view, new_view, no_geometry, op_in}
-use Rattle.log_core.specs.Origin.{Origin, q_of, first_position, first_views, made_by}
-use Rattle.log_core.specs.Cores.{Core, first_core}
-use Rattle.log_core.specs.Steps.{Does, kind_of, view_after, is_begun, ghost_begun}
+use Rattle.persistence.specs.Memory.{Memory, found_answer, memory_after, notes_of}
+use Rattle.persistence.proofs.FenceLaws.{fences_forget_own_marks, notes_of-push_other}
+use Rattle.log_core.specs.Views.{View, Ghost, view_of, spent_view, no_geometry}
+use Rattle.log_core.specs.Origin.{Origin, q_of}
+use Rattle.log_core.specs.Cores.{Core}
+use Rattle.log_core.specs.Steps.{Does, kind_of, view_after, ghost_begun}
 use Rattle.log_core.specs.After.{after}
-use Rattle.log_core.specs.Runs.{Allowed, MayNumber}
+use Rattle.log_core.specs.Runs.{Allowed}
 use Rattle.log_core.specs.Within.{no_record, note_of, Did, IsReadyIn, within, IsLinked, IsLeft}
-use Rattle.log_core.specs.Starts.{IsStart, origin_of}
-use Rattle.log_core.proofs.Serving.{stays}
-use Rattle.log_core.proofs.StartKept.{same_position}
+use Rattle.log_core.specs.Starts.{IsStart}
 use Rattle.log_core.proofs.OneView.{same_or_other}
-use Rattle.crash_model.specs.Worlds.{WorldNow, Stands, FitsCore, HasFitting, seat_of, world_after, answer_in, told_in, turned, new_world}
-use Rattle.crash_model.specs.Led.{IsAtRest, LeadsIn, IsLed, EndsIn, HasEnded, RestsIn, IsResting}
-use Rattle.crash_model.proofs.Standing.{stands_after, stands_with, new_stands_by}
+use Rattle.crash_model.specs.Worlds.{WorldNow, Stands, FitsCore, HasFitting, seat_of, world_after, answer_in, told_in, turned}
+use Rattle.crash_model.specs.Led.{IsComputed, IsAtRest, LeadsIn, IsLed, EndsIn, HasEnded, RestsIn, IsResting, HasLeft, IsTurnOf}
+use Rattle.crash_model.proofs.Standing.{stands_after, stands_with}
+use Rattle.crash_model.proofs.Resting.{IsKnown, left_computed, number_next, next_may, known_at_rest}
 
 module _ {M Out : Type 0} (seat : ℕ) (script : Script M Out) (rec : Out → Seat → List Call) (Q : Out → Seat → View → Type 0) (m : M) (w : WorldNow) where
   module _ (o : Origin) (c : Core) (led : LeadsIn seat script rec Q m w o c) where
@@ -98,8 +94,7 @@ module _ {M Out : Type 0} (seat : ℕ) (script : Script M Out) (rec : Out → Se
         let same_seat : seat_of (turned script w seat m) other ≡ seat_of w other = get_or-set_other w.seats seat other (told_in script w seat m).seat (new_seat no_geometry 0 0 0) apart in
         record {
           made = subst (λ (n : ℕ). other < n) (sym (length-set c.views seat left)) before.made;
-          unspent = subst (λ (u : View). u.parts ≢ []) (sym same_view) before.unspent;
-          same = same_seat ∙ (before.same ∙ ap (λ (u : View). u.seat) (sym same_view));
+          computed = subst (λ (x : Seat). IsComputed (view_of next.views other) x) (sym same_seat) (subst (λ (u : View). IsComputed u (seat_of w other)) (sym same_view) before.computed);
         })
 
     goes_on : (told_in script w seat m).turn ≡ Go → LeadsIn seat script rec Q (told_in script w seat m).machine (turned script w seat m) o next
@@ -145,15 +140,15 @@ rests_ended seat Q out w leaves ended = ∥∥₁_map ended (λ e. (
   record {
     stands = e.2.stands;
     seats = λ other inside. same_or_other other seat
-        (λ same. subst (λ (k : ℕ). IsAtRest w e.1 k) (sym same) (let l = leaves (seat_of w seat) (view_of e.1.views seat) e.2.ends in record { made = e.2.made; unspent = l.0; same = l.1 }))
+        (λ same. subst (λ (k : ℕ). IsAtRest w e.1 k) (sym same) (let l = leaves (seat_of w seat) (view_of e.1.views seat) e.2.ends in record { made = e.2.made; computed = left_computed (view_of e.1.views seat) (seat_of w seat) l.0 l.1 }))
         (λ apart. e.2.others other apart inside);
   },
 ))
 
 -- a machine that the core promises begins at a seat of a world at rest
 pub begins_led : {M Out : Type 0} (seat : ℕ) (script : Script M Out) (m : M) (P : Origin → Seat → Ghost → Type 0) (R : Origin → Out → Seat → Ghost → Type 0) (Q : Out → Seat → View → Type 0) (w : WorldNow) →
-    ((o : Origin) → IsStart o → (number : ℕ) (rest : List Call) (s : Seat) (v : View) → IsLinked number rest (P o) s v → Leads script (within o seat number script no_record) (IsLeft rest no_record (R o)) m s v) →
-    ((o : Origin) (c : Core) → Stands w o c → (g : Ghost) → P o (seat_of w seat) g) →
+    ((o : Origin) → IsStart o → (number : ℕ) (rest : List Call) (v : View) → IsLinked number rest (P o) (seat_of w seat) v → Leads script (within o seat number script no_record) (IsLeft rest no_record (R o)) m (seat_of w seat) v) →
+    ((o : Origin) (c : Core) (g : Ghost) → IsKnown w o c seat g → P o (seat_of w seat) g) →
     ((o : Origin) (c : Core) → Stands w o c → (rest : List Call) (out : Out) (t : Seat) (v : View) → IsLeft rest no_record (R o) out t v → Q out t v) →
     seat < length w.seats → IsResting w → IsLed seat script no_record Q m w
 begins_led {M} {Out} seat script m P R Q w promise holds weaker inside resting = ∥∥₁_map resting (λ r. (r.0, r.1, begin r.0 r.1 r.2))
@@ -162,64 +157,58 @@ begins_led {M} {Out} seat script m P R Q w promise holds weaker inside resting =
     begin o c rests =
         (let at = rests.seats seat inside in
         let v = view_of c.views seat in
-        let number = v.ghost.call.number in
+        let number = number_next v (seat_of w seat) in
         record {
           stands = rests.stands;
           made = at.made;
           number = number;
           leads = leads_weaker script (within o seat number script no_record) (IsLeft v.done no_record (R o)) Q (weaker o c rests.stands v.done)
-              (promise o rests.stands.start number v.done (seat_of w seat) v (record {
-                unspent = at.unspent;
-                begins = record { works = []; may = tt; gives = at.same };
-                offered = refl;
-                number_is = subst (λ (s : Seat). MayNumber (is_begun (op_in v.seat) (op_in s)) v.ghost.call.number number) (sym at.same) (subst (λ (b : Bool). MayNumber b v.ghost.call.number number) (sym (stays (op_in v.seat))) refl);
+              (promise o rests.stands.start number v.done v (record {
+                unspent = at.computed.unspent;
+                begins = at.computed.begins;
+                offered = at.computed.offered;
+                number_is = next_may v (seat_of w seat);
                 done = refl;
-                fits = holds o c rests.stands (ghost_begun v.ghost v.seat (seat_of w seat) number);
+                fits = holds o c (ghost_begun v.ghost v.seat (seat_of w seat) number) (known_at_rest w o c seat inside rests);
               }));
           others = λ other apart low. rests.seats other low;
         })
 
--- room is no part of rest
-pub rests_room : (w : WorldNow) (room : ℕ) → IsResting w → IsResting (record w { cells = record (w.cells) { room = room } })
-rests_room w room resting = ∥∥₁_map resting (λ r. (
-  r.0,
-  r.1,
-  record {
-    stands = (let s = r.2.stands in record { start = s.start; geometry = s.geometry; seats = s.seats; reached = s.reached; memory = s.memory; position = s.position; synced = s.synced });
-    seats = λ seat inside. (let at = r.2.seats seat inside in record { made = at.made; unspent = at.unspent; same = at.same });
-  },
-))
-
--- a world in which nothing was done is at rest
-pub new_rests : (geometry : Geometry) (words taken : List ℕ) (generation position size seats : ℕ) → ((place : ℕ) → get_or words place 0 < 2 ^ 64) → 0 < seats → seats ≤ SEATS →
-    ∥ Keeps geometry words taken generation position size ∥₁ → IsResting (new_world geometry words taken position seats)
-new_rests geometry words taken generation position size seats small some few kept = ∥∥₁_map kept (λ k. (origin k, first_core (origin k), rests k))
-  where
-    origin : Keeps geometry words taken generation position size → Origin
-    origin k = origin_of geometry seats seats words taken k.chain k.file
-
-    rests : (k : Keeps geometry words taken generation position size) → RestsIn (new_world geometry words taken position seats) (origin k) (first_core (origin k))
-    rests k = (let st = new_stands_by geometry words taken generation position size seats small some few k in
-        let same = same_position geometry words taken generation position size seats seats k in record {
-          stands = st;
-          seats = λ seat low. (let inside : seat < seats = (let e = length-map-range_with_len (λ (n : ℕ). new_seat geometry n seats position) 0 seats in omega (arith, e, low)) in
-              let view_is : view_of (first_views (origin k)) seat ≡ new_view geometry seats (first_position (origin k)) (made_by seats seat) seat =
-              get_or-map-range_with_len (λ (n : ℕ). new_view geometry seats (first_position (origin k)) (made_by seats n) n) 0 seats seat seat spent_view inside (omega arith) in
-              record {
-                made = (let e = length-map-range_with_len (λ (n : ℕ). new_view geometry seats (first_position (origin k)) (made_by seats n) n) 0 seats in omega (arith, e, inside));
-                unspent = subst (λ (v : View). v.parts ≢ []) (sym view_is) (λ none. cc);
-                same = get_or-map-range_with_len (λ (n : ℕ). new_seat geometry n seats position) 0 seats seat seat (new_seat no_geometry 0 0 0) inside (omega arith)
-                    ∙ (ap (λ (p : ℕ). new_seat geometry seat seats p) (sym same) ∙ ap (λ (v : View). v.seat) (sym view_is));
-              });
-        })
-
-pub made_rests : (geometry : Geometry) (words taken : List ℕ) (generation position size seats : ℕ) → ((place : ℕ) → get_or words place 0 < 2 ^ 64) → 0 < seats → seats ≤ SEATS →
-    ∥ Keeps geometry words taken generation position size ∥₁ → (g : Geometry) (p : ℕ) (cells : CellsNow) (states : List Seat) → g ≡ geometry → p ≡ position →
-    cells ≡ record { memory = fresh_memory words taken seats; room = 0 } → states ≡ map (λ (n : ℕ). new_seat g n seats p) (range_with_len 0 seats) →
-    IsResting (record { geometry = g; cells = cells; seats = states; position = p; synced = p })
-made_rests geometry words taken generation position size seats small some few kept g p cells states g_is p_is cells_is states_is =
-    rw (states_is, cells_is, g_is, p_is) (new_rests geometry words taken generation position size seats small some few kept)
-
 -- the seat of a machine that leads is there
 pub inside_led : {M Out : Type 0} (seat : ℕ) (script : Script M Out) (rec : Out → Seat → List Call) (Q : Out → Seat → View → Type 0) (m : M) (w : WorldNow) → IsLed seat script rec Q m w → seat < length w.seats
 inside_led seat script rec Q m w led = ∥∥₁_elim led le_prop (λ l. seat_here seat script rec Q m w l.0 l.1 l.2)
+
+pub left_all : {Out : Type 0} (out : Out) (t : Seat) (v : View) → HasLeft out t v → (v.parts ≢ []) × (t ≡ v.seat)
+left_all out t v left = (left.unspent, left.same)
+
+-- marks are a seat's own
+others_marks : (m : Memory) (seat other : ℕ) (ask : Ask) → other ≢ seat → notes_of other (memory_after m seat ask).notes ≡ notes_of other m.notes
+others_marks m seat other (Mark word) apart = notes_of-push_other other m.notes (record { seat = seat; word = word; time = length m.past }) apart
+others_marks m seat other Fence apart = (fences_forget_own_marks m seat).1 other apart
+others_marks m seat other (Load p) apart = refl
+others_marks m seat other (Store p value) apart = refl
+others_marks m seat other (Exchange p before after) apart = refl
+others_marks m seat other (SetBits p bits) apart = refl
+others_marks m seat other (ClearBits p bits) apart = refl
+
+-- a turn leaves the other seats
+module _ {M Out : Type 0} (script : Script M Out) (w : WorldNow) (seat : ℕ) (m : M) (inside : seat < length w.seats) where
+  pub told_seat : seat_of (turned script w seat m) seat ≡ (told_in script w seat m).seat
+  told_seat = get_or-set_same w.seats seat (told_in script w seat m).seat (new_seat no_geometry 0 0 0) inside
+
+  pub is_turn : (May : ℕ → Seat → Type 0) → 0 < w.cells.room → (May seat (seat_of w seat) → May seat (told_in script w seat m).seat) → IsTurnOf May w (turned script w seat m) seat
+  is_turn May some keeps = record {
+    many = length-set w.seats seat (told_in script w seat m).seat;
+    room = omega (arith, some);
+    others = λ other apart. get_or-set_other w.seats seat other (told_in script w seat m).seat (new_seat no_geometry 0 0 0) apart;
+    marks = λ other apart. others_marks w.cells.memory seat other (script.asks m (seat_of w seat)) apart;
+    may = λ may. subst (λ (s : Seat). May seat s) (sym told_seat) (keeps may);
+  }
+
+-- a turn of a machine that leaves the seat its view's state at its end: it is a turn, and after the last one each seat is at rest
+module _ {M Out : Type 0} (script : Script M Out) (w : WorldNow) (seat : ℕ) (m : M) (led : IsLed seat script no_record (λ out t v. HasLeft out t v) m w) where
+  pub turn_led : (May : ℕ → Seat → Type 0) → 0 < w.cells.room → (May seat (seat_of w seat) → May seat (told_in script w seat m).seat) → IsTurnOf May w (turned script w seat m) seat
+  turn_led May some keeps = is_turn script w seat m (inside_led seat script no_record (λ out t v. HasLeft out t v) m w led) May some keeps
+
+  pub rests_led : (out : Out) → (told_in script w seat m).turn ≡ Done out → IsResting (turned script w seat m)
+  rests_led out done = rests_ended seat (λ out t v. HasLeft out t v) out (turned script w seat m) (left_all out) (ends_led seat script no_record (λ out t v. HasLeft out t v) m w out led done)

@@ -1,20 +1,31 @@
 -- A machine at a seat of a world that leads to its end within a core; and seats at rest.
-use Rattle.std.specs.Prelude.{ℕ, ◌<◌, ◌≡◌, ◌≢◌, length, List, []}
+use Rattle.std.specs.Prelude.{ℕ, ◌<◌, ◌+◌, ◌≡◌, ◌≢◌, true, false, length, List, [], Some, None}
+use Rattle.std.specs.List.{list_all}
+use Rattle.log_entry.specs.declared.calls.Op.{Op}
 use Rattle.log_entry.specs.declared.calls.Call.{Call}
+use Rattle.seat_parts.specs.declared.keeps.Task.{Task}
 use Rattle.seat_state.specs.Seats.{Seat}
 use Rattle.pmem_words.specs.Scripts.{Script}
 use Rattle.pmem_words.specs.Leads.{Leads}
-use Rattle.log_core.specs.Views.{View, view_of}
+use Rattle.persistence.specs.Memory.{notes_of}
+use Rattle.log_core.specs.Views.{View, view_of, op_in, op_of}
 use Rattle.log_core.specs.Origin.{Origin}
 use Rattle.log_core.specs.Cores.{Core}
+use Rattle.log_core.specs.Works.{Computes, laid_bytes, is_quiet}
+use Rattle.log_core.specs.Runs.{is_offered_work}
 use Rattle.log_core.specs.Within.{within}
 use Rattle.crash_model.specs.Worlds.{WorldNow, Stands, seat_of}
 
--- a seat is at rest in a core: it is made and not spent, and its state is its view's
+-- a view that is not spent is computed on to this state, by computations that are offered
+pub record IsComputed (v : View) (s : Seat) : Type 0 where
+  pub unspent : v.parts ≢ []
+  pub begins : Computes v.ghost v.seat s
+  pub offered : list_all is_offered_work begins.works ≡ true
+
+-- a seat is at rest in a core: it is made and not spent, and its state is what it has computed since its last step
 pub record IsAtRest (w : WorldNow) (c : Core) (seat : ℕ) : Type 0 where
   pub made : seat < length c.views
-  pub unspent : (view_of c.views seat).parts ≢ []
-  pub same : seat_of w seat ≡ (view_of c.views seat).seat
+  pub computed : IsComputed (view_of c.views seat) (seat_of w seat)
 
 -- in some core state that the world stands for, the machine leads from the seat's state and view to its end, and each other seat is
 -- at rest. The number is the seat's present call's
@@ -45,3 +56,27 @@ pub record RestsIn (w : WorldNow) (o : Origin) (c : Core) : Type 0 where
 
 abbrev pub IsResting : WorldNow → Type 0
 IsResting w = ∥ ((o : Origin) × (c : Core) × RestsIn w o c) ∥₁
+
+-- each mark of a seat was followed by a fence of it
+abbrev pub HasNoMarks : WorldNow → ℕ → Type 0
+HasNoMarks w seat = notes_of seat w.cells.memory.notes ≡ []
+
+-- a seat at rest may begin a task: it runs no call and has no marks; a read has no bytes, and a call makes steps
+pub record MayBeginAt (w : WorldNow) (seat : ℕ) (task : Task) (bytes : List ℕ) : Type 0 where
+  pub none_runs : op_in (seat_of w seat) ≡ None
+  pub no_marks : HasNoMarks w seat
+  pub none_laid : laid_bytes task bytes ≡ []
+  pub steps : (op : Op) → op_of task bytes ≡ Some op → is_quiet (seat_of w seat).geometry.block_bytes op ≡ false
+
+-- a machine has left the seat its view's state
+pub record HasLeft {Out : Type 0} (out : Out) (t : Seat) (v : View) : Type 0 where
+  pub unspent : v.parts ≢ []
+  pub same : t ≡ v.seat
+
+-- a turn of a seat leaves the other seats and their marks, takes room for one step, and keeps what May says of the seat by its number
+pub record IsTurnOf (May : ℕ → Seat → Type 0) (w v : WorldNow) (seat : ℕ) : Type 0 where
+  pub many : length v.seats ≡ length w.seats
+  pub room : v.cells.room + 1 ≡ w.cells.room
+  pub others : (other : ℕ) → other ≢ seat → seat_of v other ≡ seat_of w other
+  pub marks : (other : ℕ) → other ≢ seat → notes_of other v.cells.memory.notes ≡ notes_of other w.cells.memory.notes
+  pub may : May seat (seat_of w seat) → May seat (seat_of v seat)

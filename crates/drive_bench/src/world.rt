@@ -3,10 +3,10 @@
 ghost use Rattle.std.specs.Prelude.{◌≡◌, ◌≢◌, ◌<◌, ◌≤◌, ◌+◌, ◌*◌, ℕ, length, IfOk};
 ghost use Rattle.log_core.specs.Within.{no_record};
 ghost use Rattle.crash_model.specs.Worlds.{WorldNow, seat_of};
-ghost use Rattle.crash_model.specs.Led.{IsResting, IsLed};
+ghost use Rattle.crash_model.specs.Led.{IsResting, IsLed, HasLeft, IsTurnOf};
 ghost use Rattle.pmem_words.specs.declared.asks.Turn.TheVariants.{Go, Done};
 ghost use Rattle.pins.specs.Pinning.{pin_script};
-ghost use Rattle.pins.specs.Seated.{MayTurn, IsTurn, HasLeft};
+ghost use Rattle.pins.specs.Seated.{MayTurn};
 
 use crash_model::World;
 use image_tools::mkfs;
@@ -36,7 +36,7 @@ fn sixteen_seats(alloc: Global, geometry: Geometry, steps: u32) -> Result<World,
 fn turn_pin(world: &mut World, seat: u8, pin: &mut Pin) -> Turn<Head>
     requires room { 0 < world.old.cells.room }
     requires led { IsLed seat pin_script no_record (λ out t v. HasLeft out t v) pin.old world.old }
-    ensures keeps { IsTurn world.old world.new seat }
+    ensures keeps { IsTurnOf MayTurn world.old world.new seat }
     ensures go { result ≡ Go → IsLed seat pin_script no_record (λ out t v. HasLeft out t v) pin.new world.new }
     ensures done { (head : Head) → result ≡ Done head → IsResting world.new }
 {
@@ -75,7 +75,7 @@ fn unpin_in(world: &mut World, seat: u8)
     requires resting { IsResting world.old }
     requires may { MayTurn seat (seat_of world.old seat) }
     ensures resting { IsResting world.new }
-    ensures keeps { IsTurn world.old world.new seat }
+    ensures keeps { IsTurnOf MayTurn world.old world.new seat }
 {
     let mut unpin = Unpin::new();
     world.turn(seat, &mut unpin);

@@ -7,10 +7,11 @@ use Rattle.std.proofs.lemmas.List.{map-append}
 use Rattle.log_image.specs.Image.{Shape}
 use Rattle.log_image.specs.Chains.{all_different}
 use Rattle.image_steps.proofs.NameLemmas.{range_different}
+use Rattle.seat_parts.specs.Owned.{is_among, owned_but}
 use Rattle.seat_parts.specs.declared.owned.OwnedBlock.{OwnedBlock}
 use Rattle.log_core.specs.Entries.{has}
 use Rattle.log_core.specs.Needs.{owned_numbers}
-use Rattle.log_core.specs.Steps.{is_among, is_gained, gained, taken_block, owned_but}
+use Rattle.log_core.specs.Steps.{is_gained, gained, taken_block}
 
 -- a list keeps exactly the blocks that pass a test
 pub has_filter : (p : ℕ → Bool) (blocks : List ℕ) (block : ℕ) → has (filter p blocks) block ≡ (p block && has blocks block)

@@ -3,12 +3,12 @@ use Rattle.std.proofs.Common.{◌≡◌, ◌≢◌, ◌⊎◌, ℕ, ◌^◌, ◌
 use Rattle.std.proofs.lemmas.Bool.{and_parts}
 use Rattle.log_image.specs.Image.{Shape, total}
 use Rattle.log_image.specs.Taken.{bit_of}
+use Rattle.seat_parts.specs.Owned.{is_among, owned_but}
 use Rattle.seat_parts.specs.declared.owned.OwnedBlock.{OwnedBlock}
 use Rattle.seat_state.specs.Seats.{without_bits}
 use Rattle.log_core.specs.Entries.{has}
 use Rattle.log_core.specs.Origin.{Owner, Free, Header, OwnedBy}
 use Rattle.log_core.specs.Needs.{owned_numbers}
-use Rattle.log_core.specs.Steps.{is_among, owned_but}
 use Rattle.log_core.specs.Owners.{bit_for, BitsFit, IsListOf}
 use Rattle.log_core.proofs.BitWords.{taken_cleared}
 use Rattle.log_core.proofs.BlockLists.{has_filter, different_filter, numbers_but}

@@ -3,6 +3,7 @@ use Rattle.std.proofs.Common.{◌≡◌, ◌≢◌, ℕ, ◌*◌, ◌<◌, ◌||
 use Rattle.std.specs.List.{range_with_len}
 use Rattle.std.proofs.lemmas.List.{length-set}
 use Rattle.image_steps.proofs.NameLemmas.{test_in}
+use Rattle.seat_parts.specs.Owned.{is_among}
 use Rattle.seat_state.specs.Seats.{Seat, without_bits}
 use Rattle.pmem_words.specs.declared.asks.Place.TheVariants.{Map}
 use Rattle.pmem_words.specs.declared.asks.Ask.TheVariants.{ClearBits}
@@ -13,7 +14,7 @@ use Rattle.log_core.specs.Origin.{Origin, shape, Owner}
 use Rattle.log_core.specs.Cores.{Core}
 use Rattle.log_core.specs.Works.{words_of}
 use Rattle.log_core.specs.Needs.{owned_numbers}
-use Rattle.log_core.specs.Steps.{ClearsBits, is_among, is_of_owned, give_if, not_found, stored_but, effect, ghost_after}
+use Rattle.log_core.specs.Steps.{ClearsBits, is_of_owned, give_if, not_found, stored_but, effect, ghost_after}
 use Rattle.log_core.specs.May.{MayClearBits}
 use Rattle.log_core.specs.Owners.{BitsFit}
 use Rattle.log_core.specs.Invariant.{Invariant}

@@ -67,6 +67,7 @@ pub mod RowsWorks
 pub mod RowsRefused
 pub mod RowsWrong
 pub mod RowsGaps
+pub mod RowsClauses
 pub mod RowsMay
 pub mod RowsOrder
 pub mod RowsViews
@@ -76,6 +77,9 @@ pub mod RowsOwners
 pub mod RowsRun
 pub mod RowsLate
 pub mod RowsTurns
+pub mod RowsOffered
+pub mod RowsStart
+pub mod RowsReached
 pub mod Takes
 pub mod Parts
 pub mod OverPlain

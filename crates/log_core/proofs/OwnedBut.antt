@@ -4,7 +4,7 @@ use Rattle.std.specs.List.{AllByRecursion}
 use Rattle.std.proofs.lemmas.Bool.{eqb-true, true≢false, and_from}
 use Rattle.std.proofs.lemmas.List.{length-append, length-drop, length-take-le, get_or-take, get_or-drop, get_or_append_left, get_or-append_right}
 use Rattle.std.proofs.lemmas.Nat.{div-mul-add}
-use Rattle.seat_parts.specs.Owned.{owned_at}
+use Rattle.seat_parts.specs.Owned.{owned_at, contents_but, owned_but}
 use Rattle.seat_parts.specs.declared.owned.OwnedBlock.{OwnedBlock}
 use Rattle.seat_state.specs.Seats.{Seat, Blocks}
 use Rattle.persistence.specs.Memory.{Replaced, Noted, Cell}
@@ -12,7 +12,7 @@ use Rattle.log_core.specs.Entries.{has, place_in}
 use Rattle.log_core.specs.Views.{Ghost, Stored}
 use Rattle.log_core.specs.Works.{shape_of, words_of, owned_block, stored_at}
 use Rattle.log_core.specs.Needs.{owned_numbers}
-use Rattle.log_core.specs.Steps.{area_of, owned_but, contents_but, stored_but}
+use Rattle.log_core.specs.Steps.{area_of, stored_but}
 use Rattle.log_core.specs.Owned.{StoredHolds, OwnedHold}
 use Rattle.log_core.proofs.BlockLists.{has_filter, numbers_but}
 use Rattle.log_core.proofs.OwnedPlaces.{owning, PlacesFit, owned_stays}

@@ -18,15 +18,15 @@ use Rattle.log_core.specs.Runs.{is_offered_work}
 use Rattle.log_core.specs.Within.{no_record, adds_at, IsFound, EntersOffered, Lawful, Serves, FitsNext}
 
 -- computations after others
-worked_more : (s : Seat) (first second : List Work) → worked_all s (first ++ second) ≡ worked_all (worked_all s first) second
+pub worked_more : (s : Seat) (first second : List Work) → worked_all s (first ++ second) ≡ worked_all (worked_all s first) second
 worked_more s [] second = refl
 worked_more s (work ∷ first) second = worked_more (worked s work) first second
 
-may_more : (g : Ghost) (s : Seat) (first second : List Work) → MayWorkAll g s first → MayWorkAll g (worked_all s first) second → MayWorkAll g s (first ++ second)
+pub may_more : (g : Ghost) (s : Seat) (first second : List Work) → MayWorkAll g s first → MayWorkAll g (worked_all s first) second → MayWorkAll g s (first ++ second)
 may_more g s [] second may more = more
 may_more g s (work ∷ first) second may more = (may.0, may_more g (worked s work) first second may.1 more)
 
-all_more : (f : Work → Bool) (first second : List Work) → list_all f first ≡ true → list_all f second ≡ true → list_all f (first ++ second) ≡ true
+pub all_more : (f : Work → Bool) (first second : List Work) → list_all f first ≡ true → list_all f second ≡ true → list_all f (first ++ second) ≡ true
 all_more f [] second all more = more
 all_more f (work ∷ first) second all more = by (f work) (λ rest. all_more f first second rest more) all
   where

@@ -1,13 +1,13 @@
 -- Rows of blocks that are given back, and of a sync.
 use Rattle.std.proofs.Common.{◌≡◌, ◌⊎◌, ◌≤◌, ◌<◌, ◌||◌, ◌==◌, ◌∙◌, ℕ, zero, suc, Bool, true, false, List, [], length, refl, sym, inl, inr, arith, ap}
 use Rattle.std.proofs.lemmas.Bool.{false≢true, true≢false}
+use Rattle.seat_parts.specs.Owned.{is_among}
 use Rattle.seat_state.specs.Seats.{Seat}
 use Rattle.log_core.specs.Entries.{has}
 use Rattle.log_core.specs.Views.{View, view_of}
 use Rattle.log_core.specs.Origin.{Origin, Generation}
 use Rattle.log_core.specs.Cores.{IsKept, IsPinned}
 use Rattle.log_core.specs.Needs.{owned_numbers}
-use Rattle.log_core.specs.Steps.{is_among}
 use Rattle.log_core.specs.May.{MayClearBits, AreGivenBack, OfOwned, OfReplaced, OfLimbo, IsClearScan}
 use Rattle.log_core.specs.Rows.{collected, scan_held, scan_clear, KeptUntilUnpinned, BitsCleared, BitsNotCleared, CollectEnds, SyncEnds}
 use Rattle.log_core.proofs.RowTells.{limbo_of, is_put, said, none_not_some}

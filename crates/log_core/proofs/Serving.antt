@@ -46,7 +46,7 @@ reached_keeps o start c reached = subst (λ (x : Core). Invariant o x) reached.e
 
 module _ (o : Origin) (start : Invariant o (first_core o)) (seat number : ℕ) where
   -- what a core knows of the state that a seat has computed from its view
-  knows_here : (c : Core) (s : Seat) → Invariant o c → seat < length c.views → (begins : Computes (view_of c.views seat).ghost (view_of c.views seat).seat s) → list_all is_offered_work begins.works ≡ true →
+  pub knows_here : (c : Core) (s : Seat) → Invariant o c → seat < length c.views → (begins : Computes (view_of c.views seat).ghost (view_of c.views seat).seat s) → list_all is_offered_work begins.works ≡ true →
       MayNumber (is_begun (op_in (view_of c.views seat).seat) (op_in s)) (view_of c.views seat).ghost.call.number number →
       Knows o c seat s (ghost_begun (view_of c.views seat).ghost (view_of c.views seat).seat s number) (slice_index c.memory.now.pins seat)
       (slice_index (began_if (is_begun (op_in (view_of c.views seat).seat) (op_in s)) c.began seat (end_of o c.history)) seat)

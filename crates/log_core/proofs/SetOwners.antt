@@ -5,11 +5,12 @@ use Rattle.std.proofs.lemmas.List.Folds.{list_any-append}
 use Rattle.log_image.specs.Image.{Shape, total}
 use Rattle.log_image.specs.Taken.{bit_of}
 use Rattle.image_steps.proofs.NameLemmas.{different_join}
+use Rattle.seat_parts.specs.Owned.{is_among}
 use Rattle.seat_parts.specs.declared.owned.OwnedBlock.{OwnedBlock}
 use Rattle.log_core.specs.Entries.{has}
 use Rattle.log_core.specs.Origin.{Owner, Free, Header, InChain, OwnedBy, LeftTo}
 use Rattle.log_core.specs.Needs.{owned_numbers}
-use Rattle.log_core.specs.Steps.{is_among, is_gained, gained, taken_block}
+use Rattle.log_core.specs.Steps.{is_gained, gained, taken_block}
 use Rattle.log_core.specs.Owners.{bit_for, BitsFit, IsListOf}
 use Rattle.log_core.proofs.BitWords.{taken_set, gained_clear}
 use Rattle.log_core.proofs.BlockLists.{has_gained, gained_once, numbers_taken}

@@ -2,6 +2,7 @@
 use Rattle.std.proofs.Common.{◌≡◌, ◌≢◌, ℕ, ◌<◌, true, [], length, refl, slice_index, bit_or}
 use Rattle.std.proofs.lemmas.List.{length-set}
 use Rattle.log_image.specs.Image.{total}
+use Rattle.seat_parts.specs.Owned.{is_among}
 use Rattle.seat_state.specs.Seats.{Seat}
 use Rattle.pmem_words.specs.declared.asks.Place.TheVariants.{Map}
 use Rattle.pmem_words.specs.declared.asks.Ask.TheVariants.{SetBits}
@@ -10,7 +11,7 @@ use Rattle.log_core.specs.Views.{Ghost, view_of}
 use Rattle.log_core.specs.Origin.{Origin, shape, Owner}
 use Rattle.log_core.specs.Cores.{Core}
 use Rattle.log_core.specs.Works.{shape_of}
-use Rattle.log_core.specs.Steps.{SetsBits, is_among, gained, effect, lacked_after, ghost_after}
+use Rattle.log_core.specs.Steps.{SetsBits, gained, effect, lacked_after, ghost_after}
 use Rattle.log_core.specs.May.{MaySetBits}
 use Rattle.log_core.specs.Owners.{BitsFit}
 use Rattle.log_core.specs.Invariant.{Invariant}

@@ -6,6 +6,7 @@ use Rattle.log_entry.specs.declared.calls.Op.{Op}
 use Rattle.log_entry.specs.declared.calls.Op.TheVariants.{Size}
 use Rattle.log_image.specs.Entries.{Meaning, direct_meaning, names, all_names}
 use Rattle.log_image.specs.Blocks.{entry_count as snapshot_count, slots_of}
+use Rattle.seat_parts.specs.Owned.{is_among}
 use Rattle.seat_state.specs.Seats.{Seat}
 use Rattle.pmem_words.specs.Asks.{answer}
 use Rattle.pmem_words.specs.declared.asks.Ask.{Ask}
@@ -15,7 +16,7 @@ use Rattle.log_core.specs.Views.{view_of, spent_view, op_in}
 use Rattle.log_core.specs.Origin.{Origin, q_of, Owner, Free, Header, InChain, OwnedBy, LeftTo, LogBlock, Generation}
 use Rattle.log_core.specs.Files.{Write, end_of}
 use Rattle.log_core.specs.Cores.{Core, number_at}
-use Rattle.log_core.specs.Steps.{Note, Step, Does, Splits, Joins, Kind, SetsBits, ClearsBits, ExchangesSlot, ExchangesLink, ExchangesHead, Fences, kind_of, is_among, is_gained, content_of, new_meaning, new_snapshots, replaced_by, effect, is_begun, view_after, view_left, view_right, view_joined}
+use Rattle.log_core.specs.Steps.{Note, Step, Does, Splits, Joins, Kind, SetsBits, ClearsBits, ExchangesSlot, ExchangesLink, ExchangesHead, Fences, kind_of, is_gained, content_of, new_meaning, new_snapshots, replaced_by, effect, is_begun, view_after, view_left, view_right, view_joined}
 
 -- the write of the running call, with this word as its entry
 abbrev pub op_or_size : Option Op → Op

@@ -31,4 +31,6 @@ pub mod Within
 pub mod Samples
 pub mod Rows
 pub mod Refused
+pub mod Gaps
+pub mod Offered
 pub mod Accepted

@@ -16,6 +16,7 @@ use Rattle.log_image.specs.Entries.{Meaning, names}
 use Rattle.log_image.specs.Maps.{block_in, end_of as entry_end}
 use Rattle.log_image.specs.Chains.{all_different}
 use Rattle.log_image.specs.Format.{fits, is_direct, is_indirect, is_indirect_block}
+use Rattle.seat_parts.specs.Owned.{is_among}
 use Rattle.seat_parts.specs.declared.keeps.Task.TheVariants.{Sync, Collect}
 use Rattle.seat_parts.specs.declared.owned.OwnedBlock.{OwnedBlock}
 use Rattle.seat_state.specs.Seats.{Seat}
@@ -26,7 +27,7 @@ use Rattle.log_core.specs.Files.{Write, entries, map_at, file_at, accepted_reply
 use Rattle.log_core.specs.Cores.{Core, generation_at, is_named, log_at, TrailWord, trail}
 use Rattle.log_core.specs.Works.{shape_of, words_of, tail_index}
 use Rattle.log_core.specs.Needs.{owned_numbers, lacking, is_in_area}
-use Rattle.log_core.specs.Steps.{Kind, LoadsHead, StoresOwnPin, LoadsPinWord, LoadsImageWord, LoadsBitmapWord, SetsBits, ClearsBits, StoresWord, ExchangesSlot, ExchangesLink, ExchangesHead, MarksWord, Fences, NoKind, is_among, is_of_owned, content_of, new_meaning, new_snapshots, replaced_by}
+use Rattle.log_core.specs.Steps.{Kind, LoadsHead, StoresOwnPin, LoadsPinWord, LoadsImageWord, LoadsBitmapWord, SetsBits, ClearsBits, StoresWord, ExchangesSlot, ExchangesLink, ExchangesHead, MarksWord, Fences, NoKind, is_of_owned, content_of, new_meaning, new_snapshots, replaced_by}
 use Rattle.log_core.specs.After.{new_generation, snapshot_meanings}
 use Rattle.log_core.specs.Snapshots.{first_or, IsSnapshot}
 

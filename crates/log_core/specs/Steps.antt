@@ -10,6 +10,7 @@ use Rattle.log_entry.specs.declared.calls.Call.{Call}
 use Rattle.log_entry.specs.declared.calls.Op.{Op}
 use Rattle.log_image.specs.Image.{Shape, total, is_in_data}
 use Rattle.log_image.specs.Entries.{Meaning, names}
+use Rattle.seat_parts.specs.Owned.{is_among, owned_but, contents_but, fenced_all}
 use Rattle.seat_parts.specs.declared.keeps.KeptWord.{KeptWord}
 use Rattle.seat_parts.specs.declared.keeps.Task.{Task}
 use Rattle.seat_parts.specs.declared.keeps.Task.TheVariants.{Sync}
@@ -88,10 +89,6 @@ kind_of q seat (ClearBits (FenceOf other) bits) = NoKind
 kind_of q seat (Mark word) = MarksWord word
 kind_of q seat Fence = Fences
 
--- whether a block's bit is among these bits of a bitmap word
-abbrev pub is_among : ℕ → ℕ → ℕ → Bool
-is_among word bits block = (block / 64 == word) && (bit_at bits (block % 64) == 1)
-
 -- whether setting these bits takes the block: its bit is among them and was found clear
 abbrev pub is_gained : ℕ → ℕ → ℕ → ℕ → Bool
 is_gained word bits found block = is_among word bits block && (bit_at found (block % 64) == 0)
@@ -107,15 +104,7 @@ gained word bits found = filter (λ (block : ℕ). is_gained word bits found blo
 abbrev pub taken_block : Shape → ℕ → OwnedBlock
 taken_block image block = record { block = block; area = area_of image block; filled = false; fenced = false }
 
--- owned blocks, and their contents, without those of which f is true
-abbrev pub owned_but : (ℕ → Bool) → List OwnedBlock → List OwnedBlock
-owned_but f owned = filter (λ (o : OwnedBlock). not (f o.block)) owned
-
-abbrev pub contents_but : ℕ → (ℕ → Bool) → List OwnedBlock → List ℕ → List ℕ
-contents_but q f [] contents = []
-contents_but q f (o ∷ owned) contents =
-    if f o.block then contents_but q f owned (drop q contents) else take q contents ++ contents_but q f owned (drop q contents)
-
+-- a seat's owned blocks, and their contents, without those of which f is true
 abbrev pub blocks_but : ℕ → (ℕ → Bool) → Blocks → Blocks
 blocks_but q f b = record b { owned = owned_but f b.owned; contents = contents_but q f b.owned b.contents }
 
@@ -263,7 +252,7 @@ effect marks s (ExchangesHead before next) f = head_exchanged s next f (f == bef
 effect marks s (MarksWord word) f = s
 effect marks s Fences f = record s {
   calling = record (s.calling) { sync_to = sync_fenced s.calling.job s.walk.at_tail s.walk.position s.calling.sync_to };
-  blocks = record (s.blocks) { owned = map (λ (o : OwnedBlock). record o { fenced = o.fenced || o.filled }) s.blocks.owned };
+  blocks = record (s.blocks) { owned = fenced_all s.blocks.owned };
   giving = record (s.giving) { head_fenced = s.giving.head_fenced || is_head_marked s.giving.replaced_generation marks };
 }
 effect marks s NoKind f = s

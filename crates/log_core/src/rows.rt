@@ -1,7 +1,9 @@
 //! Worked states and steps, each the contract of a function that does nothing: what they compute to, and states that are refused.
 
 ghost use Rattle.log_core.specs.Rows.{JustMade, PinsInThreeSteps, ScanSeesPins, ComesToTail, BitsTaken, FenceFollows, SlotWon, SlotLost, WriteEnds, LinkWon, LinkLost, HeadWon, HeadLost, KeptUntilUnpinned, BitsCleared, BitsNotCleared, CollectEnds, SyncEnds, FilesByPosition, EarlyFiles, WalkedTrail, LacksBlocks, EntryTakenIn, ReadLays, BaseWords, SnapshotRead, QuietCalls, RepliesFit, LimitsFit};
+ghost use Rattle.log_core.specs.Offered.{FilledNoMore, BitmapMayBeRead, OfferedKinds, NotOffered, BlockRuns};
 ghost use Rattle.log_core.specs.Refused.{OtherEntryPossible, HeadSkips, LogHasMore, BitWithoutOwner, BlockOnTwoLists, ChainBlockFree, OtherContentPossible, PinOfAnother, ViewOfAnother, StoredNotPresent, ReplacedStillNamed, RecordOfNoWrite, SyncedMayBeLost, NamedTwice, SnapshotNamesMore, WriteOfNoSeat};
+ghost use Rattle.log_core.specs.Gaps.{BitPastTheWord, MarkOfOwnedBlock, FloorAhead, SpentViewHolds};
 ghost use Rattle.log_core.specs.Accepted.{PinMayBeStored, WordMayBeLoaded, WordMayBeMarked, EntryMayBePut, OrderStands, PinsStand, ViewsStand, OwnedStands, GivingsStand, RecordsStand, SyncsStand, ContentsStand, OwnersStand, PinRuns, WriteFits, ViewsJoin, ViewsSplit, LateWrite, LateSync, LateWalk, RunsMayBePut, CollectionsInTurn};
 
 /// Worked states and steps of small images: what each comes to.
@@ -12,6 +14,7 @@ pub fn law_rows()
     ensures comes_to_tail { ComesToTail }
     ensures bits_taken { BitsTaken }
     ensures fence_follows { FenceFollows }
+    ensures filled_no_more { FilledNoMore }
     ensures slot_won { SlotWon }
     ensures slot_lost { SlotLost }
     ensures write_ends { WriteEnds }
@@ -55,6 +58,10 @@ pub fn law_refused()
     ensures named_twice { NamedTwice }
     ensures snapshot_names_more { SnapshotNamesMore }
     ensures write_of_no_seat { WriteOfNoSeat }
+    ensures bit_past_the_word { BitPastTheWord }
+    ensures mark_of_owned_block { MarkOfOwnedBlock }
+    ensures floor_ahead { FloorAhead }
+    ensures spent_view_holds { SpentViewHolds }
 {}
 
 /// Conditions of steps, and clauses that hold of states that runs come to.
@@ -63,6 +70,10 @@ pub fn law_accepted()
     ensures word_may_be_loaded { WordMayBeLoaded }
     ensures word_may_be_marked { WordMayBeMarked }
     ensures entry_may_be_put { EntryMayBePut }
+    ensures bitmap_may_be_read { BitmapMayBeRead }
+    ensures offered_kinds { OfferedKinds }
+    ensures not_offered { NotOffered }
+    ensures block_runs { BlockRuns }
     ensures order_stands { OrderStands }
     ensures pins_stand { PinsStand }
     ensures views_stand { ViewsStand }

@@ -14,7 +14,7 @@ use Rattle.log_core.specs.Views.{Ghost}
 use Rattle.log_core.specs.Origin.{Origin, q_of}
 use Rattle.log_core.specs.Cores.{Core}
 use Rattle.log_core.specs.Steps.{Kind, LoadsHead, StoresOwnPin, NoKind, effect, ghost_after, kind_of}
-use Rattle.log_core.specs.May.{May, MayStoreOwnPin, is_offered}
+use Rattle.log_core.specs.May.{May, MayStoreOwnPin, IsOfferedKind}
 use Rattle.log_core.specs.Invariant.{Invariant}
 use Rattle.log_core.specs.Knows.{Knows}
 use Rattle.log_core.specs.Within.{no_record, adds_at, EntersOffered, Lawful, Serves}
@@ -92,13 +92,13 @@ module _ (o : Origin) (seat : ℕ) where
 
   begin_lawful : (s : Seat) (g : Ghost) → MayPin seat s g → Lawful o seat pin_script no_record (PinStands seat) (IsPinned seat) Begin s g
   begin_lawful s g may = record {
-    may = λ c pin began inv knows. tt;
-    offered = refl;
-    admitted = λ c pin began inv knows. tt;
-    enters = λ f admits. entered g (effect g.marks s LoadsHead f) (head_found s f) (loaded s g f);
-    none_added = λ f admits. refl;
-    goes = λ f admits go. record { number = may.number; no_marks = may.no_marks };
-    ends = λ f out admits done. cc;
+    may = λ c pin began inv unspent knows. tt;
+    offered = tt;
+    admitted = λ c pin began inv unspent knows. tt;
+    enters = λ f found admits. entered g (effect g.marks s LoadsHead f) (head_found s f) (loaded s g f);
+    none_added = λ f found admits. refl;
+    goes = λ f found admits go. record { number = may.number; no_marks = may.no_marks };
+    ends = λ f out found admits done. cc;
   }
 
   -- a head that was not found yet has generation 0
@@ -119,14 +119,14 @@ module _ (o : Origin) (seat : ℕ) where
 
   publish_lawful : (s : Seat) (g : Ghost) → MayPin seat s g → Lawful o seat pin_script no_record (PinStands seat) (IsPinned seat) Publish s g
   publish_lawful s g may = record {
-    may = λ c pin began inv knows. subst (λ (k : Kind). May o c g s k) (sym is) (store_may s g may);
-    offered = ap is_offered is;
-    admitted = λ c pin began inv knows. tt;
-    enters = λ f admits. stored_lawful s g (generation_in s.hold.head) (kind_of (q_of o) seat (pin_script.asks Publish s)) is f;
-    none_added = λ f admits. refl;
-    goes = λ f admits go. subst (λ (h : Ghost). PinStands seat Confirm (pin_stored s (generation_in s.hold.head)) h) (sym (ghost_stored s g (generation_in s.hold.head) (kind_of (q_of o) seat (pin_script.asks Publish s)) is f))
+    may = λ c pin began inv unspent knows. subst (λ (k : Kind). May o c g s k) (sym is) (store_may s g may);
+    offered = subst (λ (k : Kind). IsOfferedKind s k) (sym is) tt;
+    admitted = λ c pin began inv unspent knows. tt;
+    enters = λ f found admits. stored_lawful s g (generation_in s.hold.head) (kind_of (q_of o) seat (pin_script.asks Publish s)) is f;
+    none_added = λ f found admits. refl;
+    goes = λ f found admits go. subst (λ (h : Ghost). PinStands seat Confirm (pin_stored s (generation_in s.hold.head)) h) (sym (ghost_stored s g (generation_in s.hold.head) (kind_of (q_of o) seat (pin_script.asks Publish s)) is f))
         (record { number = may.number; no_marks = may.no_marks }, refl);
-    ends = λ f out admits done. cc;
+    ends = λ f out found admits done. cc;
   }
     where
       is : kind_of (q_of o) seat (pin_script.asks Publish s) ≡ StoresOwnPin (generation_in s.hold.head)
@@ -144,14 +144,14 @@ module _ (o : Origin) (seat : ℕ) where
 
   confirm_lawful : (s : Seat) (g : Ghost) → MayPin seat s g → s.hold.pin ≡ generation_in s.hold.head → Lawful o seat pin_script no_record (PinStands seat) (IsPinned seat) Confirm s g
   confirm_lawful s g may is = record {
-    may = λ c pin began inv knows. tt;
-    offered = refl;
-    admitted = λ c pin began inv knows. not_before (s.hold.head == 0) c pin began s g refl is inv knows;
-    enters = λ f admits. subst (λ (adds : List Call). EntersOffered g (effect g.marks s LoadsHead f) (head_found s f) adds) (sym (confirm_none (s.hold.pin == generation_in f) s f))
+    may = λ c pin began inv unspent knows. tt;
+    offered = tt;
+    admitted = λ c pin began inv unspent knows. not_before (s.hold.head == 0) c pin began s g refl is inv knows;
+    enters = λ f found admits. subst (λ (adds : List Call). EntersOffered g (effect g.marks s LoadsHead f) (head_found s f) adds) (sym (confirm_none (s.hold.pin == generation_in f) s f))
         (entered g (effect g.marks s LoadsHead f) (head_found s f) (loaded s g f));
-    none_added = λ f admits. confirm_none (s.hold.pin == generation_in f) s f;
-    goes = λ f admits go. goes_by (s.hold.pin == generation_in f) s g f may go;
-    ends = λ f out admits done. ends_by (s.hold.pin == generation_in f) s g f out refl may done;
+    none_added = λ f found admits. confirm_none (s.hold.pin == generation_in f) s f;
+    goes = λ f found admits go. goes_by (s.hold.pin == generation_in f) s g f may go;
+    ends = λ f out found admits done. ends_by (s.hold.pin == generation_in f) s g f out refl may done;
   }
 
   pub pin_serves : Serves o seat pin_script no_record (PinStands seat) (IsPinned seat)
@@ -164,13 +164,13 @@ module _ (o : Origin) (seat : ℕ) where
 
   pub unpin_serves : Serves o seat unpin_script no_record (λ m s g. MayPin seat s g) (IsUnpinned seat)
   unpin_serves m s g may = record {
-    may = λ c pin began inv knows. subst (λ (k : Kind). May o c g s k) (sym is) (record { value_is = inl refl; no_marks = may.no_marks });
-    offered = ap is_offered is;
-    admitted = λ c pin began inv knows. tt;
-    enters = λ f admits. stored_lawful s g 0 (kind_of (q_of o) seat (unpin_script.asks m s)) is f;
-    none_added = λ f admits. refl;
-    goes = λ f admits go. cc;
-    ends = λ f out admits done. record { number = may.number; pin = refl; valid = refl; none_kept = refl };
+    may = λ c pin began inv unspent knows. subst (λ (k : Kind). May o c g s k) (sym is) (record { value_is = inl refl; no_marks = may.no_marks });
+    offered = subst (λ (k : Kind). IsOfferedKind s k) (sym is) tt;
+    admitted = λ c pin began inv unspent knows. tt;
+    enters = λ f found admits. stored_lawful s g 0 (kind_of (q_of o) seat (unpin_script.asks m s)) is f;
+    none_added = λ f found admits. refl;
+    goes = λ f found admits go. cc;
+    ends = λ f out found admits done. record { number = may.number; pin = refl; valid = refl; none_kept = refl };
   }
     where
       is : kind_of (q_of o) seat (unpin_script.asks m s) ≡ StoresOwnPin 0

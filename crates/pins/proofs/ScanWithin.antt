@@ -89,18 +89,18 @@ module _ (o : Origin) (seat generation : ℕ) where
 
   pub scan_serves : Serves o seat scan_script no_record Stands (HasScanned o generation)
   scan_serves m s g both = (let stands = both.0 in record {
-    may = λ c pin began inv knows. record {
+    may = λ c pin began inv unspent knows. record {
       head_fenced = stands.head_fenced;
       unpinned = stands.unpinned;
       in_order = in_order (m.next == 0) refl stands;
       inside = (let l = stands.left in let e = stands.seats in omega (arith, l, e));
     };
-    offered = refl;
-    admitted = λ c pin began inv knows. record { left = stands.left; few = stands.few; seen = stands.seen };
-    enters = λ f admits. subst (λ (adds : List Call). EntersOffered g (pin_found s m.next f) (pin_found s m.next f) adds) (sym (none m s g stands f)) (entered g (pin_found s m.next f) (pin_found s m.next f) refl);
-    none_added = λ f admits. none m s g stands f;
-    goes = λ f admits go. (goes_by m s g stands f (needs m.generation f) (nat_lt (m.next + 1) s.seats) refl refl go, both.1);
-    ends = λ f out admits done. subst (λ (i : ℕ). HasScanned o i out (pin_found s m.next f) g) both.1 (ends_by m s g stands f (needs m.generation f) (nat_lt (m.next + 1) s.seats) out refl refl done);
+    offered = tt;
+    admitted = λ c pin began inv unspent knows. record { left = stands.left; few = stands.few; seen = stands.seen };
+    enters = λ f found admits. subst (λ (adds : List Call). EntersOffered g (pin_found s m.next f) (pin_found s m.next f) adds) (sym (none m s g stands f)) (entered g (pin_found s m.next f) (pin_found s m.next f) refl);
+    none_added = λ f found admits. none m s g stands f;
+    goes = λ f found admits go. (goes_by m s g stands f (needs m.generation f) (nat_lt (m.next + 1) s.seats) refl refl go, both.1);
+    ends = λ f out found admits done. subst (λ (i : ℕ). HasScanned o i out (pin_found s m.next f) g) both.1 (ends_by m s g stands f (needs m.generation f) (nat_lt (m.next + 1) s.seats) out refl refl done);
   })
     where
       in_order : (b : Bool) → (m.next == 0) ≡ b → ScanStands o seat m s g → (m.next ≡ 0) ⊎ (m.next ≡ length s.giving.pins_seen)

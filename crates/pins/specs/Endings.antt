@@ -3,17 +3,10 @@ use Rattle.std.specs.Prelude.{ℕ, ◌≡◌, ◌+◌, ◌<◌, ◌≤◌, ◌==
 use Rattle.log_entry.specs.declared.calls.Held.{Held}
 use Rattle.log_entry.specs.declared.words.Head.{Head}
 use Rattle.seat_state.specs.Seats.{Seat}
-use Rattle.pmem_words.specs.Scripts.{Script}
-use Rattle.pmem_words.specs.Courses.{Course}
-use Rattle.pmem_words.specs.Drives.{Ends}
 use Rattle.pins.specs.declared.scan.Scanned.{Scanned}
 use Rattle.pins.specs.declared.scan.Scanned.TheVariants.{Clear}
 use Rattle.pins.specs.declared.scan.Scanned.TheVariants.{Held as HeldBy}
 use Rattle.pins.specs.Steps.{generation_in, head_of, with_seen}
-
--- the machine ended so, after this many steps
-abbrev pub EndsIn : {M W Out : Type 0} → ℕ → Script M Out → Course M W → M → Seat → W → Out → Seat → W → Type 0
-EndsIn steps script course m s w out t v = (e : Ends script course m s w out t v) × (length e.answers + 1 ≡ steps)
 
 -- the seat with a valid pin of the generation of this head word; a map of another generation is not ready, and no word is kept
 abbrev pub pinned : Seat → ℕ → Seat

@@ -3,13 +3,14 @@
 ghost use Rattle.std.specs.Prelude.{◌≡◌, ◌<◌, ◌≤◌, length, slice_index};
 ghost use Rattle.seat_state.specs.declared.TheConstants.{SEATS};
 ghost use Rattle.pmem_words.specs.Courses.{over};
+ghost use Rattle.pmem_words.specs.Drives.{EndsIn};
 ghost use Rattle.pmem_words.specs.PlainWords.{plain, with_word};
 ghost use Rattle.pmem_words.specs.declared.asks.Place.TheVariants.{Pin as PinWord};
 ghost use Rattle.pins.specs.declared.TheConstants.{HEAD_WORD};
 ghost use Rattle.pins.specs.declared.pin.Pin.TheVariants.{Begin};
 ghost use Rattle.pins.specs.Steps.{head_of, pin_stored, with_seen};
 ghost use Rattle.pins.specs.Pinning.{pin_script};
-ghost use Rattle.pins.specs.Endings.{EndsIn, pinned, IsScan, IsFirst, loads};
+ghost use Rattle.pins.specs.Endings.{pinned, IsScan, IsFirst, loads};
 
 use crate::pin::Pin;
 use crate::scan::{Scan, Scanned};

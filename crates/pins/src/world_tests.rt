@@ -3,12 +3,12 @@
 ghost use Rattle.std.specs.Prelude.{◌≡◌, ◌≢◌, ◌<◌, ◌≤◌, ◌+◌, ℕ, length, IfOk, Some, IsTrue, true};
 ghost use Rattle.log_core.specs.Within.{no_record};
 ghost use Rattle.crash_model.specs.Worlds.{seat_of};
-ghost use Rattle.crash_model.specs.Led.{IsResting, IsLed};
+ghost use Rattle.crash_model.specs.Led.{IsResting, IsLed, HasLeft, IsTurnOf};
 ghost use Rattle.pmem_words.specs.declared.asks.Turn.TheVariants.{Go, Done};
 ghost use Rattle.pins.specs.Pinning.{pin_script};
 ghost use Rattle.pins.specs.Scanning.{scan_script};
 ghost use Rattle.pins.specs.Unpinning.{unpin_script};
-ghost use Rattle.pins.specs.Seated.{MayTurn, MayLook, IsTurn, HasLeft};
+ghost use Rattle.pins.specs.Seated.{MayTurn, MayLook};
 
 use super::*;
 use crash_model::{Choice, World};
@@ -36,7 +36,7 @@ fn two_seats(alloc: Global, geometry: Geometry) -> Result<World, AllocError>
 fn turn_pin(world: &mut World, seat: u8, pin: &mut Pin) -> Turn<Head>
     requires room { 0 < world.old.cells.room }
     requires led { IsLed seat pin_script no_record (λ out t v. HasLeft out t v) pin.old world.old }
-    ensures keeps { IsTurn world.old world.new seat }
+    ensures keeps { IsTurnOf MayTurn world.old world.new seat }
     ensures go { result ≡ Go → IsLed seat pin_script no_record (λ out t v. HasLeft out t v) pin.new world.new }
     ensures done { (head : Head) → result ≡ Done head → IsResting world.new }
 {
@@ -94,7 +94,7 @@ fn unpin_in(world: &mut World, seat: u8) -> Result<(), Unfinished>
 fn turn_scan(world: &mut World, seat: u8, scan: &mut Scan) -> Turn<Scanned>
     requires room { 0 < world.old.cells.room }
     requires led { IsLed seat scan_script no_record (λ out t v. HasLeft out t v) scan.old world.old }
-    ensures keeps { IsTurn world.old world.new seat }
+    ensures keeps { IsTurnOf MayTurn world.old world.new seat }
     ensures look { (seats : ℕ) → MayLook seat seats (seat_of world.old seat) → MayLook seat seats (seat_of world.new seat) }
     ensures go { result ≡ Go → IsLed seat scan_script no_record (λ out t v. HasLeft out t v) scan.new world.new }
     ensures done { (out : Scanned) → result ≡ Done out → IsResting world.new }

@@ -1,9 +1,9 @@
 use Rattle.std.proofs.Common.{sym, subst}
-use Rattle.crash_model.specs.Led.{IsLed}
+use Rattle.crash_model.specs.Led.{IsLed, HasLeft}
 use Rattle.log_core.specs.Within.{no_record}
 use Rattle.pins.specs.declared.pin.Pin.{Pin}
 use Rattle.pins.specs.Pinning.{pin_script}
-use Rattle.pins.specs.Seated.{HasLeft}
+use Rattle.crash_model.specs.Led.{HasLeft}
 use Rattle.pins.proofs.WorldLemmas.{pin_led}
 use Rattle.drive_bench.proofs.world.pin_in.Goals as goal
 

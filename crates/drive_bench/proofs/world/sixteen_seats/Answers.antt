@@ -4,7 +4,7 @@ use Rattle.seat_state.specs.Seats.{Seat, new_seat}
 use Rattle.log_core.specs.Views.{no_geometry}
 use Rattle.crash_model.specs.Worlds.{WorldNow}
 use Rattle.crash_model.specs.Led.{IsResting}
-use Rattle.crash_model.proofs.Leading.{rests_room}
+use Rattle.crash_model.proofs.Resting.{rests_room}
 use Rattle.pins.specs.Seated.{MayTurn}
 use Rattle.drive_bench.proofs.world.sixteen_seats.Goals as goal
 

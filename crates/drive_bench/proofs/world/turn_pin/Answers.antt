@@ -1,10 +1,11 @@
 use Rattle.std.proofs.Common.{sym, ◌∙◌}
-use Rattle.crash_model.specs.Worlds.{seat_of, answer_in, turned}
-use Rattle.crash_model.proofs.Leading.{fits_led, admits_led, goes_led, ends_led, rests_ended, inside_led}
+use Rattle.crash_model.specs.Worlds.{seat_of, answer_in}
+use Rattle.crash_model.proofs.Leading.{fits_led, admits_led, goes_led, turn_led, rests_led}
 use Rattle.log_core.specs.Within.{no_record}
 use Rattle.pins.specs.Pinning.{pin_script}
-use Rattle.pins.specs.Seated.{HasLeft}
-use Rattle.pins.proofs.WorldLemmas.{pin_one, is_turn, pin_keeps, left_all}
+use Rattle.crash_model.specs.Led.{HasLeft}
+use Rattle.pins.specs.Seated.{MayTurn}
+use Rattle.pins.proofs.WorldLemmas.{pin_one, pin_keeps}
 use Rattle.drive_bench.proofs.world.turn_pin.Goals as goal
 
 pub turn-requires-clause-fits : goal.turn-requires-clause-fits
@@ -15,8 +16,7 @@ turn-requires-clause-admits c = admits_led c.args.seat pin_script no_record (λ 
     (pin_one c.args.pin.now (seat_of c.args.world.now c.args.seat) (answer_in pin_script c.args.world.now c.args.seat c.args.pin.now)) c.requires.led
 
 pub returns-clause-keeps : goal.returns-clause-keeps
-returns-clause-keeps c = rw c.turn.ensures.world (is_turn pin_script c.args.world.now c.args.seat c.args.pin.now
-    (inside_led c.args.seat pin_script no_record (λ out t v. HasLeft out t v) c.args.pin.now c.args.world.now c.requires.led) c.requires.room
+returns-clause-keeps c = rw c.turn.ensures.world (turn_led pin_script c.args.world.now c.args.seat c.args.pin.now c.requires.led MayTurn c.requires.room
     (pin_keeps c.args.pin.now (seat_of c.args.world.now c.args.seat) (answer_in pin_script c.args.world.now c.args.seat c.args.pin.now) c.args.seat))
 
 pub returns-clause-go : goal.returns-clause-go
@@ -24,6 +24,4 @@ returns-clause-go c = λ go. rw (c.turn.ensures.machine, c.turn.ensures.world)
     (goes_led c.args.seat pin_script no_record (λ out t v. HasLeft out t v) c.args.pin.now c.args.world.now c.requires.led (sym c.turn.ensures.turn ∙ go))
 
 pub returns-clause-done : goal.returns-clause-done
-returns-clause-done c = λ head done. rw c.turn.ensures.world
-    (rests_ended c.args.seat (λ out t v. HasLeft out t v) head (turned pin_script c.args.world.now c.args.seat c.args.pin.now) (λ t v left. left_all head t v left)
-    (ends_led c.args.seat pin_script no_record (λ out t v. HasLeft out t v) c.args.pin.now c.args.world.now head c.requires.led (sym c.turn.ensures.turn ∙ done)))
+returns-clause-done c = λ head done. rw c.turn.ensures.world (rests_led pin_script c.args.world.now c.args.seat c.args.pin.now c.requires.led head (sym c.turn.ensures.turn ∙ done))

@@ -7,6 +7,8 @@ use Rattle.log_core.proofs.RowsOwners.{owners_stand}
 use Rattle.log_core.proofs.RowsRun.{pin_runs, write_fits, views_join, views_split}
 use Rattle.log_core.proofs.RowsLate.{late_write, late_sync, late_walk}
 use Rattle.log_core.proofs.RowsTurns.{runs_may_be_put, collections_in_turn}
+use Rattle.log_core.proofs.RowsOffered.{bitmap_may_be_read, offered_kinds, not_offered}
+use Rattle.log_core.proofs.RowsReached.{block_runs}
 use Rattle.log_core.proofs.rows.law_accepted.Goals as goal
 
 pub returns : goal.returns
@@ -15,6 +17,10 @@ returns c = record {
   word_may_be_loaded = word_may_be_loaded;
   word_may_be_marked = word_may_be_marked;
   entry_may_be_put = entry_may_be_put;
+  bitmap_may_be_read = bitmap_may_be_read;
+  offered_kinds = offered_kinds;
+  not_offered = not_offered;
+  block_runs = block_runs;
   order_stands = order_stands;
   pins_stand = pins_stand;
   views_stand = views_stand;

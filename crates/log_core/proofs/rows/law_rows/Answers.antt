@@ -1,5 +1,6 @@
 use Rattle.log_core.proofs.RowsBegun.{just_made, pins_in_three_steps, scan_sees_pins, comes_to_tail}
 use Rattle.log_core.proofs.RowsTaken.{bits_taken, fence_follows}
+use Rattle.log_core.proofs.RowsOffered.{filled_no_more}
 use Rattle.log_core.proofs.RowsExchanged.{slot_won, slot_lost, write_ends, link_won, link_lost, head_won, head_lost}
 use Rattle.log_core.proofs.RowsGiven.{kept_until_unpinned, bits_cleared, bits_not_cleared, collect_ends, sync_ends}
 use Rattle.log_core.proofs.RowsFiles.{files_by_position, early_files, trail_walked, lacks_blocks, quiet_calls, replies_fit, limits_fit}
@@ -14,6 +15,7 @@ returns c = record {
   comes_to_tail = comes_to_tail;
   bits_taken = bits_taken;
   fence_follows = fence_follows;
+  filled_no_more = filled_no_more;
   slot_won = slot_won;
   slot_lost = slot_lost;
   write_ends = write_ends;

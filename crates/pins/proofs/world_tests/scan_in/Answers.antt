@@ -1,10 +1,10 @@
 use Rattle.std.proofs.Common.{rules, ◌≡◌, sym, subst, ℕ, length, ◌∙◌}
 use Rattle.crash_model.specs.Worlds.{seat_of}
-use Rattle.crash_model.specs.Led.{IsLed}
+use Rattle.crash_model.specs.Led.{IsLed, HasLeft}
 use Rattle.log_core.specs.Within.{no_record}
 use Rattle.pins.specs.declared.scan.Scan.{Scan}
 use Rattle.pins.specs.Scanning.{scan_script}
-use Rattle.pins.specs.Seated.{HasLeft, MayLook}
+use Rattle.pins.specs.Seated.{MayLook}
 use Rattle.pins.proofs.WorldLemmas.{scan_led}
 use Rattle.pins.proofs.world_tests.scan_in.Goals as goal
 

@@ -1,7 +1,7 @@
 use Rattle.std.proofs.Common.{rules, max, ◌≡◌, sym, subst}
 use Rattle.crash_model.specs.Worlds.{WorldNow}
 use Rattle.crash_model.specs.Led.{IsResting}
-use Rattle.crash_model.proofs.Leading.{rests_room}
+use Rattle.crash_model.proofs.Resting.{rests_room}
 use Rattle.pins.proofs.world_tests.two_seats.Goals as goal
 
 pub returns-clause-resting : goal.returns-clause-resting

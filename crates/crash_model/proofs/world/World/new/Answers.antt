@@ -1,6 +1,6 @@
 use Rattle.std.proofs.Common.{ℕ, ◌<◌, ◌^◌, List, slice_index, subst}
 use Rattle.crash_model.proofs.Standing.{made_stands}
-use Rattle.crash_model.proofs.Leading.{made_rests}
+use Rattle.crash_model.proofs.Resting.{made_rests}
 use Rattle.crash_model.proofs.world.World.new.Goals as goal
 
 pub invariant_of-result : goal.invariant_of-result

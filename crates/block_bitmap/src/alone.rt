@@ -1,0 +1,42 @@
+//! The machines driven over a plain memory, where no other seat makes a step.
+
+ghost use Rattle.std.specs.Prelude.{◌≡◌, ◌+◌, ◌*◌, ◌<◌, ◌≤◌, ◌^◌, length};
+ghost use Rattle.seat_state.specs.Seats.{q_of};
+ghost use Rattle.pmem_words.specs.Courses.{over};
+ghost use Rattle.pmem_words.specs.Drives.{EndsIn};
+ghost use Rattle.pmem_words.specs.PlainWords.{plain};
+ghost use Rattle.block_bitmap.specs.Filling.{fill_of, fill_script};
+ghost use Rattle.block_bitmap.specs.Given.{AreInside, cleared, emptied};
+ghost use Rattle.block_bitmap.specs.Filled.{HasWordsOf, filled_seat, with_blocks};
+
+use crate::fill::Fill;
+use crate::give::{Give, GiveFrom};
+use pmem_words::{Plain, SeatState, drive};
+
+/// Fills `count` owned blocks, at least one, from place `first` of their list on, in 2q steps each and a fence. The image has
+/// their words. Where the list has a block twice, the later one's content stays.
+pub fn fill_alone(seat: &mut SeatState, memory: &mut Plain, first: u16, count: u16)
+    requires some { 0 < count }
+    requires owned { first + count ≤ length seat.old.blocks.owned }
+    requires few { first + count ≤ 65536 }
+    requires inside { HasWordsOf seat.old first count memory.old.words }
+    ensures seat { seat.new ≡ filled_seat seat.old first count }
+    ensures memory { memory.new ≡ record memory.old { words = with_blocks seat.old first count memory.old.words } }
+    ensures steps { EndsIn (2 * q_of seat.old.geometry * count + 1) fill_script (over fill_script plain) (fill_of first count) seat.old memory.old result seat.new memory.new }
+{
+    drive(Fill::new(first, count), seat, memory)
+}
+
+/// Gives all blocks that the seat owns back, at least one: the bits of all are cleared. Answers how many they are. The seat's
+/// bits and the bitmap have the bit of each.
+pub fn give_alone(seat: &mut SeatState, memory: &mut Plain, from: GiveFrom) -> u32
+    requires some { 0 < length seat.old.blocks.owned }
+    requires few { length seat.old.blocks.owned < 2 ^ 32 }
+    requires found { AreInside (length seat.old.blocks.found) seat.old.blocks.owned }
+    requires taken { AreInside (length memory.old.taken) seat.old.blocks.owned }
+    ensures count { result ≡ length seat.old.blocks.owned }
+    ensures seat { seat.new ≡ emptied seat.old }
+    ensures memory { memory.new ≡ record memory.old { taken = cleared seat.old.blocks.owned memory.old.taken } }
+{
+    drive(Give::new(from), seat, memory)
+}
