@@ -14,6 +14,7 @@ pub mod TakeEffects
 pub mod TakeSettles
 pub mod TakeServes
 pub mod TakeWithinCore
+pub mod TakeSafe
 pub mod BlockWords
 pub mod OwnedFlags
 pub mod FillOverPlain
