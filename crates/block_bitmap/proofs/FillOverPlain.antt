@@ -2,7 +2,7 @@
 use Rattle.std.proofs.Common.{ℕ, zero, suc, ◌≡◌, ◌+◌, ◌-◌, ◌*◌, ◌<◌, ◌≤◌, nat_lt, true, false, List, length, slice_set, refl, sym, ap, subst, ◌∙◌, arith}
 use Rattle.std.proofs.lemmas.Bool.{lt-ltb, le-ltb}
 use Rattle.std.proofs.lemmas.List.{length-set}
-use Rattle.seat_parts.specs.Owned.{owned_at, with_filled, with_fenced}
+use Rattle.seat_parts.specs.Owned.{owned_at}
 use Rattle.seat_parts.specs.declared.owned.OwnedBlock.{OwnedBlock}
 use Rattle.seat_state.specs.Seats.{Seat, q_of}
 use Rattle.pmem_words.specs.Courses.{over}
@@ -14,7 +14,7 @@ use Rattle.block_bitmap.specs.OwnedWords.{block_at, image_word, content_at, unfi
 use Rattle.block_bitmap.specs.Filling.{fill_of, fill_script, block_next}
 use Rattle.block_bitmap.specs.Filled.{with_words, with_blocks, filled_anew, filled_seat, HasWordsOf}
 use Rattle.block_bitmap.proofs.BlockWords.{q_range}
-use Rattle.block_bitmap.proofs.OwnedFlags.{same_blocks, both_marks, unmarked_twice}
+use Rattle.block_bitmap.proofs.OwnedFlags.{owning, stored_in, unfilled_each, unfilled_many, anew_each, anew_many, still_unfilled}
 
 -- the first of more words than one is not the last
 more_words : (word n q : ℕ) → word + suc (suc n) ≡ q → nat_lt (word + 1) q ≡ true
@@ -39,10 +39,6 @@ module _ (Q : Unit {0} → Seat → PlainWords → Type 0) (p left : ℕ) where
       (λ small. record { some = more; owned = owned; few = few; inside = omega (arith, all) })
       (rw (more_words word n (q_of s.geometry) all) (marks_lead (suc n) (word + 1) s w (omega (arith, all)) (omega arith) more owned few inside then))
 
--- the seat with these owned blocks
-abbrev owning : Seat → List OwnedBlock → Seat
-owning s owned = record s { blocks = record s.blocks { owned = owned } }
-
 pub length_words : (s : Seat) (p word n : ℕ) (words : List ℕ) → length (with_words s p word n words) ≡ length words
 length_words s p word zero words = refl
 length_words s p word (suc n) words = length_words s p (word + 1) n (slice_set words (image_word s p word) (content_at s p word)) ∙ length-set words (image_word s p word) (content_at s p word)
@@ -60,31 +56,6 @@ module _ (s : Seat) (owned : List OwnedBlock) (each : (k : ℕ) → (owned_at ow
   same_stored p (suc n) words =
       ap (λ (stored : List ℕ). with_blocks (owning s owned) (p + 1) n stored) (same_words p 0 (q_of s.geometry) words)
       ∙ same_stored (p + 1) n (with_words s p 0 (q_of s.geometry) words)
-
--- the owned blocks after a store, and after the last mark
-abbrev stored_in : Seat → ℕ → List OwnedBlock
-stored_in s p = with_fenced (with_filled s.blocks.owned p false) p false
-
-unfilled_each : (s : Seat) (p : ℕ) → p < length s.blocks.owned → (k : ℕ) → block_at (unfilled s p) k ≡ block_at s k
-unfilled_each s p inside k =
-    ap (λ (owned : List OwnedBlock). (owned_at owned k).block) (both_marks s.blocks.owned p false false inside)
-    ∙ same_blocks s.blocks.owned p k (record (owned_at s.blocks.owned p) { filled = false; fenced = false }) refl
-
-unfilled_many : (s : Seat) (p : ℕ) → length (unfilled s p).blocks.owned ≡ length s.blocks.owned
-unfilled_many s p = length-set (with_filled s.blocks.owned p false) p (record (owned_at (with_filled s.blocks.owned p false) p) { fenced = false })
-    ∙ length-set s.blocks.owned p (record (owned_at s.blocks.owned p) { filled = false })
-
-counted_each : (s : Seat) (p k : ℕ) → block_at (counted s p) k ≡ block_at s k
-counted_each s p k = same_blocks s.blocks.owned p k (record (owned_at s.blocks.owned p) { filled = true }) refl
-
-anew_each : (s : Seat) (p : ℕ) → p < length s.blocks.owned → (k : ℕ) → block_at (filled_anew s p) k ≡ block_at s k
-anew_each s p inside k = counted_each (unfilled s p) p k ∙ unfilled_each s p inside k
-
-anew_many : (s : Seat) (p : ℕ) → length (filled_anew s p).blocks.owned ≡ length s.blocks.owned
-anew_many s p = length-set (unfilled s p).blocks.owned p (record (owned_at (unfilled s p).blocks.owned p) { filled = true }) ∙ unfilled_many s p
-
-still_unfilled : (s : Seat) (p : ℕ) → p < length s.blocks.owned → unfilled (unfilled s p) p ≡ unfilled s p
-still_unfilled s p inside = ap (owning s) (unmarked_twice s.blocks.owned p inside)
 
 module _ (Q : Unit {0} → Seat → PlainWords → Type 0) where
   module _ (p left : ℕ) where
@@ -123,7 +94,7 @@ module _ (Q : Unit {0} → Seat → PlainWords → Type 0) where
         many = unfilled_many s p
 
         fits : (v : PlainWords) → length v.words ≡ length w.words → block_at t p * q_of s.geometry + q_of s.geometry ≤ length v.words
-        fits v long = (let same : block_at t p * q_of s.geometry ≡ block_at s p * q_of s.geometry = ap (λ (b : ℕ). b * q_of s.geometry) (unfilled_each s p here p) in omega (arith, inside, long, same))
+        fits v long = (let same : block_at t p * q_of s.geometry ≡ block_at s p * q_of s.geometry = ap (λ (b : ℕ). b * q_of s.geometry) (unfilled_each s p p) in omega (arith, inside, long, same))
 
         v : PlainWords
         v = record w { words = with_words s p 0 (q_of s.geometry) w.words }
@@ -143,7 +114,7 @@ module _ (Q : Unit {0} → Seat → PlainWords → Type 0) where
             (rw (more_words 0 n (q_of s.geometry) (omega (arith, is)))
             (stores_lead (suc n) 1 t w1 (still_unfilled s p here) (omega (arith, is)) (omega arith) more (omega (arith, owned, many)) few (fits w1 (length-set w.words (image_word s p 0) (content_at s p 0)))
             (subst (λ (words : List ℕ). Leads fill_script (over fill_script plain) Q (Mark p left 0) t (record w { words = words }))
-            (ap (λ (q : ℕ). with_words s p 0 q w.words) is ∙ sym (same_words s (stored_in s p) (unfilled_each s p here) p 1 (suc n) w1.words)) marked)))
+            (ap (λ (q : ℕ). with_words s p 0 q w.words) is ∙ sym (same_words s (stored_in s p) (unfilled_each s p) p 1 (suc n) w1.words)) marked)))
 
   fence_leads : (s : Seat) (w : PlainWords) → Q tt (all_fenced s) w → Leads fill_script (over fill_script plain) Q Fence s w
   fence_leads s w then = leads_plain fill_script Q Fence s w tt (λ small. tt) then
@@ -160,9 +131,9 @@ module _ (Q : Unit {0} → Seat → PlainWords → Type 0) where
       (rw (lt-ltb 1 (suc (suc n)) (omega arith))
       (subst (λ (k : ℕ). Leads fill_script (over fill_script plain) Q (Store (p + 1) k 0) (filled_anew s p) v) (let less : suc n ≡ suc (suc n) - 1 = omega arith in less)
       (blocks_lead (suc n) (p + 1) (filled_anew s p) v (omega arith) (let many = anew_many s p in omega (arith, many, owned)) (omega (arith, few))
-      (λ k low high. (let same : block_at (filled_anew s p) k * q_of s.geometry ≡ block_at s k * q_of s.geometry = ap (λ (b : ℕ). b * q_of s.geometry) (anew_each s p here k) in
+      (λ k low high. (let same : block_at (filled_anew s p) k * q_of s.geometry ≡ block_at s k * q_of s.geometry = ap (λ (b : ℕ). b * q_of s.geometry) (anew_each s p k) in
       let long = length_words s p 0 (q_of s.geometry) w.words in let inside = has k (omega (arith, low)) (omega (arith, high)) in omega (arith, same, long, inside)))
-      (subst (λ (words : List ℕ). Q tt (filled_seat s p (suc (suc n))) (record w { words = words })) (sym (same_stored s (filled_anew s p).blocks.owned (anew_each s p here) (p + 1) (suc n) v.words)) then))))
+      (subst (λ (words : List ℕ). Q tt (filled_seat s p (suc (suc n))) (record w { words = words })) (sym (same_stored s (filled_anew s p).blocks.owned (anew_each s p) (p + 1) (suc n) v.words)) then))))
     where
       here : p < length s.blocks.owned
       here = omega (arith, owned)

@@ -30,11 +30,11 @@ module _ (s : Seat) (some : 0 < length s.blocks.owned) where
   step_last : (given_seat s).blocks.owned ≡ [] → (words : List ℕ) → step_words s words ≡ cleared s.blocks.owned words
   step_last none words = sym (cleared_none 0 (step_words s words)) ∙ ap (λ (owned : List OwnedBlock). cleared owned (step_words s words)) (sym none) ∙ step_cleared words
 
-  step_emptied : emptied (given_seat s) ≡ emptied s
+  pub step_emptied : emptied (given_seat s) ≡ emptied s
   step_emptied = ap (λ (found : List ℕ). record s { blocks = record s.blocks { owned = []; contents = []; found = found } }) (step_cleared s.blocks.found)
 
   -- where no block is left the seat is empty
-  step_ended : (given_seat s).blocks.owned ≡ [] → given_seat s ≡ emptied s
+  pub step_ended : (given_seat s).blocks.owned ≡ [] → given_seat s ≡ emptied s
   step_ended none = (λ i. record s {
     blocks = record s.blocks {
       owned = none i;

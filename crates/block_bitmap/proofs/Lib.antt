@@ -21,3 +21,11 @@ pub mod FillOverPlain
 pub mod FillSteps
 pub mod GivenLemmas
 pub mod GiveOverPlain
+pub mod FillOwned
+pub mod FilledSeats
+pub mod FillServes
+pub mod FillWithinCore
+pub mod FewBlocks
+pub mod GiveServes
+pub mod OwnedInCore
+pub mod GiveWithinCore

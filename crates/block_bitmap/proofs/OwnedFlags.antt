@@ -1,12 +1,15 @@
 -- The marks of owned blocks, filled and fenced, change nothing else of them.
-use Rattle.std.proofs.Common.{ℕ, ◌≡◌, ◌≢◌, ◌<◌, ◌≤◌, ◌⊎◌, inl, inr, Bool, false, List, length, slice_set, sym, ap, subst, ◌∙◌, arith}
+use Rattle.std.proofs.Common.{ℕ, ◌≡◌, ◌≢◌, ◌<◌, ◌≤◌, ◌⊎◌, inl, inr, Bool, true, false, List, length, slice_set, refl, sym, ap, subst, ◌∙◌, arith}
 use Rattle.std.proofs.lemmas.Bool.{cases_eq, cases_lt}
 use Rattle.std.proofs.lemmas.List.{get_or-set_same, get_or-set_other, set-set, set_past, length-set}
 use Rattle.log_entry.specs.declared.shapes.Area.TheVariants.{Data}
 use Rattle.seat_parts.specs.Owned.{owned_at, with_filled, with_fenced}
 use Rattle.seat_parts.specs.declared.owned.OwnedBlock.{OwnedBlock}
+use Rattle.seat_state.specs.Seats.{Seat}
+use Rattle.block_bitmap.specs.OwnedWords.{block_at, unfilled, counted}
+use Rattle.block_bitmap.specs.Filled.{filled_anew}
 
-abbrev none : OwnedBlock
+abbrev pub none : OwnedBlock
 none = record { block = 0; area = Data; filled = false; fenced = false }
 
 -- a block in place of another of the same number
@@ -37,3 +40,32 @@ unmarked_twice owned p inside =
     ∙ ap (λ (x : OwnedBlock). slice_set (slice_set owned p o) p (record x { filled = false; fenced = false })) (get_or-set_same owned p o none inside)
     ∙ set-set owned p o o
     ∙ sym first)
+
+-- the seat with these owned blocks
+abbrev pub owning : Seat → List OwnedBlock → Seat
+owning s owned = record s { blocks = record s.blocks { owned = owned } }
+
+-- the owned blocks after a store, and after the last mark
+abbrev pub stored_in : Seat → ℕ → List OwnedBlock
+stored_in s p = with_fenced (with_filled s.blocks.owned p false) p false
+
+pub unfilled_each : (s : Seat) (p k : ℕ) → block_at (unfilled s p) k ≡ block_at s k
+unfilled_each s p k =
+    same_blocks (with_filled s.blocks.owned p false) p k (record (owned_at (with_filled s.blocks.owned p false) p) { fenced = false }) refl
+    ∙ same_blocks s.blocks.owned p k (record (owned_at s.blocks.owned p) { filled = false }) refl
+
+pub unfilled_many : (s : Seat) (p : ℕ) → length (unfilled s p).blocks.owned ≡ length s.blocks.owned
+unfilled_many s p = length-set (with_filled s.blocks.owned p false) p (record (owned_at (with_filled s.blocks.owned p false) p) { fenced = false })
+    ∙ length-set s.blocks.owned p (record (owned_at s.blocks.owned p) { filled = false })
+
+pub counted_each : (s : Seat) (p k : ℕ) → block_at (counted s p) k ≡ block_at s k
+counted_each s p k = same_blocks s.blocks.owned p k (record (owned_at s.blocks.owned p) { filled = true }) refl
+
+pub anew_each : (s : Seat) (p k : ℕ) → block_at (filled_anew s p) k ≡ block_at s k
+anew_each s p k = counted_each (unfilled s p) p k ∙ unfilled_each s p k
+
+pub anew_many : (s : Seat) (p : ℕ) → length (filled_anew s p).blocks.owned ≡ length s.blocks.owned
+anew_many s p = length-set (unfilled s p).blocks.owned p (record (owned_at (unfilled s p).blocks.owned p) { filled = true }) ∙ unfilled_many s p
+
+pub still_unfilled : (s : Seat) (p : ℕ) → p < length s.blocks.owned → unfilled (unfilled s p) p ≡ unfilled s p
+still_unfilled s p inside = ap (owning s) (unmarked_twice s.blocks.owned p inside)

@@ -12,3 +12,5 @@ pub mod Giving
 pub mod GiveLowering
 pub mod Filled
 pub mod Given
+pub mod FillWithin
+pub mod GiveWithin

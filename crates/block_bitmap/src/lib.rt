@@ -10,6 +10,7 @@ pub mod give;
 #[cfg(test)]
 mod give_tests;
 pub mod given;
+pub mod laws;
 pub mod take;
 pub mod take_bits;
 pub mod take_laws;

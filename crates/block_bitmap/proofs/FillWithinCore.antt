@@ -1,0 +1,67 @@
+-- Filling owned blocks within a core, from every start; and what a fill leaves has one possible value in each word.
+use Rattle.std.proofs.Common.{◌≡◌, ◌<◌, ℕ, true, List, length, refl, ap, ◌∙◌, subst, arith}
+use Rattle.seat_parts.specs.Owned.{owned_at}
+use Rattle.seat_state.specs.Seats.{Seat, q_of}
+use Rattle.persistence.specs.Memory.{Cell, Replaced, Noted, cell}
+use Rattle.log_core.specs.Views.{View, Ghost}
+use Rattle.log_core.specs.Owned.{OwnedHold}
+use Rattle.log_core.specs.Certain.{IsCertain}
+use Rattle.log_core.specs.Within.{no_record, IsLeft}
+use Rattle.log_core.proofs.Serving.{leads_within, reached_keeps}
+use Rattle.log_core.proofs.OverPlain.{over_plain}
+use Rattle.log_core.proofs.StartMeets.{start_meets}
+use Rattle.block_bitmap.specs.OwnedWords.{image_word, content_at}
+use Rattle.block_bitmap.specs.Filling.{fill_of, fill_script, fill_lowers}
+use Rattle.block_bitmap.specs.Filled.{filled_seat}
+use Rattle.block_bitmap.specs.FillWithin.{MayFill, StoreStands, FillStands, IsFilled, FillsWithin, FillsAlone, FilledAreCertain}
+use Rattle.block_bitmap.proofs.BlockWords.{q_range}
+use Rattle.block_bitmap.proofs.FilledSeats.{fenced_many, filled_geometry, same_word, same_content}
+use Rattle.block_bitmap.proofs.FillServes.{fill_serves}
+
+-- a fill that has not begun has stored nothing
+begins : (first count : ℕ) (s : Seat) (g : Ghost) → MayFill first count s g → StoreStands first count s first count 0 s g
+begins first count s g may = record {
+  here = record {
+    some = may.some;
+    owned = may.owned;
+    inside = (let low = (q_range s.geometry).0 in omega (arith, low));
+    calm = may.calm;
+    done = 0;
+    at = omega arith;
+    many = omega arith;
+  };
+  seat = refl;
+  stored = λ k none. absurd (omega (arith, none));
+}
+
+pub fills_within : FillsWithin
+fills_within o start seat number first count rest s v linked =
+    leads_within o (start_meets o start) seat number fill_script no_record (FillStands first count s) (IsFilled first count s) (fill_serves o seat first count s) fill_lowers rest (fill_of first count) s v
+    (record { unspent = linked.unspent; begins = linked.begins; offered = linked.offered; number_is = linked.number_is; done = linked.done; fits = begins first count s _ linked.fits })
+
+pub fills_alone : FillsAlone
+fills_alone o start seat number first count rest s v linked c p reached here at agrees =
+    over_plain o (start_meets o start) seat number fill_script no_record (IsLeft rest no_record (IsFilled first count s)) (fill_of first count) s v c p
+    (fills_within o start seat number first count rest s v linked) reached here at agrees
+
+-- in a fenced block no other value than its content is possible
+filled_certain : (cells : ℕ → Cell) (past : List Replaced) (notes : List Noted) (seat first count : ℕ) (start : Seat) (g : Ghost) → OwnedHold cells past notes seat g (filled_seat start first count) → (place word : ℕ)
+    → (place < length (filled_seat start first count).blocks.owned) × ((owned_at (filled_seat start first count).blocks.owned place).filled ≡ true) × ((owned_at (filled_seat start first count).blocks.owned place).fenced ≡ true)
+    → word < q_of start.geometry → IsCertain (cells (image_word start place word)) (content_at start place word)
+filled_certain cells past notes seat first count start g held place word each inside =
+    (let t : Seat = filled_seat start first count in
+    let wide : q_of t.geometry ≡ q_of start.geometry = ap q_of (filled_geometry start first count) in
+    let certain : IsCertain (cells (image_word t place word)) (content_at t place word) = held.fenced place word each.0 each.2 (omega (arith, inside, wide)) in
+    let many = fenced_many start first count in
+    subst (λ (k : ℕ). IsCertain (cells k) (content_at start place word)) (same_word start first count place word (let here = each.0 in omega (arith, many, here)))
+    (subst (λ (value : ℕ). IsCertain (cells (image_word t place word)) value) (same_content start first count place word) certain))
+
+pub filled_are_certain : FilledAreCertain
+filled_are_certain o start seat first count rest begun s v left c reached at place word low high inside =
+    (let inv = reached_keeps o (start_meets o start) c reached in
+    let cells : ℕ → Cell = (λ (k : ℕ). cell c.memory k) in
+    let here : OwnedHold cells c.memory.past c.memory.notes seat v.ghost v.seat = subst (λ (u : View). OwnedHold cells c.memory.past c.memory.notes seat u.ghost u.seat) at (inv.owned seat) in
+    let is : v.seat ≡ filled_seat begun first count = left.seat ∙ left.fits.seat in
+    let each = left.fits.each place low high in
+    filled_certain cells c.memory.past c.memory.notes seat first count begun v.ghost (subst (λ (t : Seat). OwnedHold cells c.memory.past c.memory.notes seat v.ghost t) is here) place word
+    (subst (λ (t : Seat). (place < length t.blocks.owned) × ((owned_at t.blocks.owned place).filled ≡ true) × ((owned_at t.blocks.owned place).fenced ≡ true)) left.fits.seat each) inside)
