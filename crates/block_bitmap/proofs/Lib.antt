@@ -22,6 +22,9 @@ pub mod GivenLemmas
 pub mod GiveOverPlain
 pub mod FillOwned
 pub mod FilledSeats
+pub mod FillPlaces
+pub mod FillStores
+pub mod FillMarks
 pub mod FillServes
 pub mod FillWithinCore
 pub mod FewBlocks
