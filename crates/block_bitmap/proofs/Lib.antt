@@ -14,12 +14,14 @@ pub mod TakeEffects
 pub mod TakeSettles
 pub mod TakeServes
 pub mod TakeWithinCore
+pub mod TakeSafe
 pub mod BlockWords
 pub mod OwnedFlags
 pub mod FillOverPlain
 pub mod FillSteps
 pub mod GivenLemmas
 pub mod GiveOverPlain
+pub mod WorldLemmas
 pub mod FillOwned
 pub mod FilledSeats
 pub mod FillPlaces
@@ -27,7 +29,10 @@ pub mod FillStores
 pub mod FillMarks
 pub mod FillServes
 pub mod FillWithinCore
+pub mod WorldTakes
+pub mod WorldFills
 pub mod FewBlocks
 pub mod GiveServes
 pub mod OwnedInCore
 pub mod GiveWithinCore
+pub mod WorldGives

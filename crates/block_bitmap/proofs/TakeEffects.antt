@@ -9,6 +9,7 @@ use Rattle.log_entry.specs.declared.shapes.Area.TheVariants.{Data, Log, Spare}
 use Rattle.log_image.specs.Image.{Shape, total, is_in_data}
 use Rattle.seat_parts.specs.Owned.{is_among}
 use Rattle.seat_parts.specs.declared.owned.OwnedBlock.{OwnedBlock}
+use Rattle.seat_parts.specs.Owned.{is_among}
 use Rattle.seat_state.specs.Seats.{Seat}
 use Rattle.log_core.specs.Entries.{has}
 use Rattle.log_core.specs.Views.{Marked}

@@ -57,7 +57,7 @@ entered g e t turn same = subst (λ (adds : List Call). EntersOffered g e t adds
 stays : (found : List ℕ) (word bits block : ℕ) → block / 64 < word → bit_of (slice_set found word bits) block ≡ bit_of found block
 stays found word bits block less = ap (λ (w : ℕ). bit_at w (block % 64)) (get_or-set_other found word (block / 64) bits 0 (λ same. omega (arith, less, same)))
 
-ended_seat : (b : Bool) (m : Take) (s : Seat) (known : ℕ) → (ended_or b m s known).seat ≡ s
+pub ended_seat : (b : Bool) (m : Take) (s : Seat) (known : ℕ) → (ended_or b m s known).seat ≡ s
 ended_seat true m s known = refl
 ended_seat false m s known = settled_seat m s known
 

@@ -18,6 +18,8 @@ pub mod take_plain;
 #[cfg(test)]
 mod take_tests;
 pub mod words;
+#[cfg(test)]
+mod world_tests;
 
 pub use alone::{fill_alone, give_alone};
 pub use begin::begin_alone;

@@ -1,13 +1,15 @@
-//! Drives a machine of many loads and stores, makes seats, and performs steps on cells and turns of a world, so that all can be timed or
-//! weighed.
+//! Drives a machine of many loads and stores, makes seats, fills blocks and passes over a bitmap, and performs steps on cells and turns of a
+//! world, so that all can be timed or weighed.
 #![tactic(auto)]
 
 ghost use Rattle.std.specs.Prelude.{◌≡◌, IfOk, length};
 
+mod blocks;
 mod cells;
 mod closed;
 mod world;
 
+use blocks::{fills, passes};
 use cells::drawn_steps;
 use closed::{Closed, carry_closed};
 use log_entry::Geometry;
@@ -96,8 +98,8 @@ fn seats(alloc: Global, count: u8) -> Result<u64, AllocError> {
     Ok(made.len() as u64)
 }
 
-/// Does what a line asks: `carry` or `closed` and a number of rounds, `cells` or `world` and a number of steps, or `seats` and a number of
-/// seats. Another line comes to 0.
+/// Does what a line asks: `carry`, `closed`, `fill` or `pass` and a number of rounds, `cells` or `world` and a number of steps, or `seats` and
+/// a number of seats. Another line comes to 0.
 fn answer(alloc: Global, line: &str) -> Result<u64, AllocError> {
     match line.split_once(' ') {
         Some(("carry", rounds)) => match rounds.parse::<u32>() {
@@ -114,6 +116,14 @@ fn answer(alloc: Global, line: &str) -> Result<u64, AllocError> {
         },
         Some(("world", steps)) => match steps.parse::<u32>() {
             Ok(steps) => world_steps(alloc, steps),
+            Err(_) => Ok(0),
+        },
+        Some(("fill", rounds)) => match rounds.parse::<u32>() {
+            Ok(rounds) => fills(alloc, rounds),
+            Err(_) => Ok(0),
+        },
+        Some(("pass", rounds)) => match rounds.parse::<u32>() {
+            Ok(rounds) => passes(alloc, rounds),
             Err(_) => Ok(0),
         },
         Some(("seats", count)) => match count.parse::<u8>() {

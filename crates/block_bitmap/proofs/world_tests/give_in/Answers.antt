@@ -1,0 +1,20 @@
+use Rattle.std.proofs.Common.{rules, ◌≡◌, ◌<◌, ℕ, length, sym, ◌∙◌, ap, subst, arith}
+use Rattle.seat_parts.specs.declared.keeps.GiveFrom.TheVariants.{Owned as Listed}
+use Rattle.seat_parts.specs.declared.keeps.Task.TheVariants.{Give as GiveTask}
+use Rattle.seat_state.specs.Seats.{Seat}
+use Rattle.log_core.specs.Within.{no_record}
+use Rattle.crash_model.specs.Worlds.{seat_of}
+use Rattle.crash_model.specs.Led.{IsLed, HasLeft}
+use Rattle.block_bitmap.specs.declared.give.Give.{Give}
+use Rattle.block_bitmap.specs.declared.give.GiveFrom.TheVariants.{Owned}
+use Rattle.block_bitmap.specs.Giving.{give_script}
+use Rattle.block_bitmap.proofs.WorldLemmas.{begun_seat, begun_inside}
+use Rattle.block_bitmap.proofs.WorldGives.{give_led}
+use Rattle.block_bitmap.proofs.world_tests.give_in.Goals as goal
+
+pub turn_give-requires-clause-led : goal.turn_give-requires-clause-led
+turn_give-requires-clause-led c =
+    (let begun = begun_seat c.args.world.now c.begin_in.new.world c.args.seat (GiveTask Listed) c.requires.inside c.begin_in.ensures.same in
+    let owned : length (seat_of c.begin_in.new.world c.args.seat).blocks.owned ≡ 1 = ap (λ (s : Seat). length s.blocks.owned) begun ∙ c.requires.owned in
+    subst (λ (m : Give). IsLed c.args.seat give_script no_record (λ out t v. HasLeft out t v) m c.begin_in.new.world) (sym c.new-give.ensures)
+    (give_led c.begin_in.new.world c.args.seat Owned (begun_inside c.args.world.now c.begin_in.new.world c.args.seat (GiveTask Listed) c.requires.inside c.begin_in.ensures.same) c.begin_in.ensures.resting (omega (arith, owned))))

@@ -1,0 +1,278 @@
+//! Two seats on one image of two data blocks and a log block take, fill and give blocks.
+
+ghost use Rattle.std.specs.Prelude.{◌≡◌, ◌≢◌, ◌<◌, ◌≤◌, ◌+◌, ◌^◌, ℕ, length, slice_index, [], IfOk, None, true};
+ghost use Rattle.log_core.specs.Views.{op_of};
+ghost use Rattle.log_core.specs.Within.{no_record};
+ghost use Rattle.log_core.specs.Works.{Begins, worked};
+ghost use Rattle.crash_model.specs.Worlds.{seat_of, set_seat};
+ghost use Rattle.crash_model.specs.Led.{IsResting, IsLed, HasLeft, IsTurnOf};
+ghost use Rattle.pmem_words.specs.declared.asks.Turn.TheVariants.{Go, Done};
+ghost use Rattle.block_bitmap.specs.Filling.{fill_script};
+ghost use Rattle.block_bitmap.specs.Giving.{give_script};
+ghost use Rattle.block_bitmap.specs.TakeScript.{take_script};
+ghost use Rattle.block_bitmap.specs.Seated.{RunsAlone, AreAlone, AreAloneBut};
+
+use super::*;
+use crash_model::{Choice, World};
+use image_tools::mkfs;
+use log_entry::{Area, Geometry};
+use pmem_words::{Task, Turn};
+use seat_parts::GiveFrom as Listed;
+use std::alloc::{AllocError, Global};
+use std::test::Fail;
+
+/// A world of two seats on a just-made image, with room for 40 steps.
+fn two_seats(alloc: Global, geometry: Geometry) -> Result<World, AllocError>
+    ensures resting { IfOk result (λ world. IsResting world) }
+    ensures room { IfOk result (λ world. 40 ≤ world.cells.room) }
+    ensures many { IfOk result (λ world. length world.seats ≡ 2) }
+    ensures alone { IfOk result (λ world. AreAlone world) }
+    ensures owned { IfOk result (λ world. (seat : ℕ) → seat < 2 → (seat_of world seat).blocks.owned ≡ []) }
+{
+    let start = mkfs(alloc, geometry)?;
+    let mut world = World::new(alloc, start, 2)?;
+    world.reserve(40)?;
+    Ok(world)
+}
+
+/// A seat begins a task of a machine that runs alone.
+fn begin_in(world: &mut World, seat: u8, task: Task)
+    requires inside { seat < length world.old.seats }
+    requires resting { IsResting world.old }
+    requires alone { AreAlone world.old }
+    requires task { op_of task [] ≡ None }
+    ensures resting { IsResting world.new }
+    ensures alone { AreAlone world.new }
+    ensures same { world.new ≡ set_seat world.old seat (worked (seat_of world.old seat) (Begins task [])) }
+{
+    begin_alone(world.seat(seat), task);
+}
+
+/// Whether a seat owns this block and no other.
+fn owns_only(world: &mut World, seat: u8, block: u16) -> bool
+    requires inside { seat < length world.old.seats }
+    ensures owned { result ≡ true → length (seat_of world.old seat).blocks.owned ≡ 1 }
+    ensures same { world.new ≡ world.old }
+{
+    match world.seat(seat).owned() {
+        [owned] => owned.block == block,
+        _ => false,
+    }
+}
+
+/// One turn of a seat that takes blocks.
+fn turn_take(world: &mut World, seat: u8, take: &mut Take) -> Turn<Taken>
+    requires room { 0 < world.old.cells.room }
+    requires led { IsLed seat take_script no_record (λ out t v. HasLeft out t v) take.old world.old }
+    ensures keeps { IsTurnOf RunsAlone world.old world.new seat }
+    ensures alone { AreAlone world.old → AreAlone world.new }
+    ensures go { result ≡ Go → IsLed seat take_script no_record (λ out t v. HasLeft out t v) take.new world.new }
+    ensures done { (out : Taken) → result ≡ Done out → IsResting world.new }
+{
+    world.turn(seat, take)
+}
+
+/// A machine has not ended in the turns that it was given.
+#[derive(Clone, Copy, Debug)]
+struct Unfinished;
+
+/// A seat that owns no block takes up to 4 blocks of an area, in two turns.
+fn take_in(world: &mut World, seat: u8, area: Area, count: u16) -> Result<Taken, Unfinished>
+    requires room { 2 ≤ world.old.cells.room }
+    requires inside { seat < length world.old.seats }
+    requires resting { IsResting world.old }
+    requires alone { AreAlone world.old }
+    requires owned { (seat_of world.old seat).blocks.owned ≡ [] }
+    requires some { 0 < count }
+    requires few { count ≤ 4 }
+    ensures resting { IfOk result (λ _. IsResting world.new) }
+    ensures alone { IfOk result (λ _. AreAlone world.new) }
+    ensures others { IfOk result (λ _. (other : ℕ) → other ≢ seat → seat_of world.new other ≡ seat_of world.old other) }
+    ensures many { IfOk result (λ _. length world.new.seats ≡ length world.old.seats) }
+    ensures room { IfOk result (λ _. world.new.cells.room + 2 ≡ world.old.cells.room) }
+{
+    begin_in(world, seat, Task::Take { area, count });
+    let mut take = Take::new(area, count);
+    let Turn::Go = turn_take(world, seat, &mut take) else {
+        return Err(Unfinished);
+    };
+    match turn_take(world, seat, &mut take) {
+        Turn::Go => Err(Unfinished),
+        Turn::Done(taken) => Ok(taken),
+    }
+}
+
+/// Sets each word of the one block that a seat owns.
+fn set_all(world: &mut World, seat: u8, value: u64)
+    requires inside { seat < length world.old.seats }
+    requires resting { IsResting world.old }
+    requires alone { AreAlone world.old }
+    requires owned { length (seat_of world.old seat).blocks.owned ≡ 1 }
+    ensures resting { IsResting world.new }
+    ensures alone { AreAlone world.new }
+    ensures owned { length (seat_of world.new seat).blocks.owned ≡ 1 }
+    ensures others { (other : ℕ) → other ≢ seat → seat_of world.new other ≡ seat_of world.old other }
+    ensures many { length world.new.seats ≡ length world.old.seats }
+    ensures room { world.new.cells.room ≡ world.old.cells.room }
+{
+    for word in 0..8 {
+        set_in(world, seat, word, value);
+    }
+}
+
+/// Sets a word of the one block that a seat owns.
+fn set_in(world: &mut World, seat: u8, word: u16, value: u64)
+    requires inside { seat < length world.old.seats }
+    requires resting { IsResting world.old }
+    requires alone { AreAlone world.old }
+    requires owned { length (seat_of world.old seat).blocks.owned ≡ 1 }
+    requires word { word < 8 }
+    ensures resting { IsResting world.new }
+    ensures alone { AreAlone world.new }
+    ensures owned { length (seat_of world.new seat).blocks.owned ≡ 1 }
+    ensures others { (other : ℕ) → other ≢ seat → seat_of world.new other ≡ seat_of world.old other }
+    ensures many { length world.new.seats ≡ length world.old.seats }
+    ensures room { world.new.cells.room ≡ world.old.cells.room }
+{
+    world.seat(seat).set_word(0, word, value);
+}
+
+/// Does nothing: its contract says of words that they have 64 bits, which a contract over a list of numbers has to be told.
+fn bound(words: &[u64])
+    ensures { (place : ℕ) → slice_index words.now place < 2 ^ 64 }
+{}
+
+/// A seat begins to fill the one block that it owns.
+fn begin_fill(world: &mut World, seat: u8) -> Fill
+    requires inside { seat < length world.old.seats }
+    requires resting { IsResting world.old }
+    requires alone { AreAlone world.old }
+    requires owned { length (seat_of world.old seat).blocks.owned ≡ 1 }
+    ensures led { IsLed seat fill_script no_record (λ out t v. HasLeft out t v) result world.new }
+    ensures alone { AreAloneBut world.new seat }
+    ensures others { (other : ℕ) → other ≢ seat → seat_of world.new other ≡ seat_of world.old other }
+    ensures many { length world.new.seats ≡ length world.old.seats }
+    ensures room { world.new.cells.room ≡ world.old.cells.room }
+{
+    begin_in(world, seat, Task::Fill { first: 0, count: 1 });
+    bound(world.seat(seat).contents());
+    Fill::new(0, 1)
+}
+
+/// One turn of a seat that fills blocks.
+fn turn_fill(world: &mut World, seat: u8, fill: &mut Fill) -> Turn<()>
+    requires room { 0 < world.old.cells.room }
+    requires led { IsLed seat fill_script no_record (λ out t v. HasLeft out t v) fill.old world.old }
+    ensures keeps { IsTurnOf RunsAlone world.old world.new seat }
+    ensures alone { AreAloneBut world.old seat → AreAloneBut world.new seat }
+    ensures go { result ≡ Go → IsLed seat fill_script no_record (λ out t v. HasLeft out t v) fill.new world.new }
+    ensures done { (out : Unit {0}) → result ≡ Done out → IsResting world.new }
+    ensures fenced { (out : Unit {0}) → result ≡ Done out → AreAloneBut world.old seat → AreAlone world.new }
+{
+    world.turn(seat, fill)
+}
+
+/// So many turns of a seat that fills blocks, none of them the last.
+fn go_on(world: &mut World, seat: u8, fill: &mut Fill, turns: u16) -> Result<(), Unfinished>
+    requires room { turns ≤ world.old.cells.room }
+    requires led { IsLed seat fill_script no_record (λ out t v. HasLeft out t v) fill.old world.old }
+    requires alone { AreAloneBut world.old seat }
+    ensures led { IfOk result (λ _. IsLed seat fill_script no_record (λ out t v. HasLeft out t v) fill.new world.new) }
+    ensures alone { IfOk result (λ _. AreAloneBut world.new seat) }
+    ensures others { IfOk result (λ _. (other : ℕ) → other ≢ seat → seat_of world.new other ≡ seat_of world.old other) }
+    ensures many { IfOk result (λ _. length world.new.seats ≡ length world.old.seats) }
+    ensures room { IfOk result (λ _. world.new.cells.room + turns ≡ world.old.cells.room) }
+{
+    for _ in 0..turns {
+        let Turn::Go = turn_fill(world, seat, fill) else {
+            return Err(Unfinished);
+        };
+    }
+    Ok(())
+}
+
+/// The last turn of a seat that fills blocks.
+fn end_fill(world: &mut World, seat: u8, mut fill: Fill) -> Result<(), Unfinished>
+    requires room { 1 ≤ world.old.cells.room }
+    requires led { IsLed seat fill_script no_record (λ out t v. HasLeft out t v) fill world.old }
+    requires alone { AreAloneBut world.old seat }
+    ensures resting { IfOk result (λ _. IsResting world.new) }
+    ensures alone { IfOk result (λ _. AreAlone world.new) }
+    ensures others { IfOk result (λ _. (other : ℕ) → other ≢ seat → seat_of world.new other ≡ seat_of world.old other) }
+    ensures many { IfOk result (λ _. length world.new.seats ≡ length world.old.seats) }
+    ensures room { IfOk result (λ _. world.new.cells.room + 1 ≡ world.old.cells.room) }
+{
+    match turn_fill(world, seat, &mut fill) {
+        Turn::Go => Err(Unfinished),
+        Turn::Done(()) => Ok(()),
+    }
+}
+
+/// One turn of a seat that gives the blocks that it owns back.
+fn turn_give(world: &mut World, seat: u8, give: &mut Give) -> Turn<u32>
+    requires room { 0 < world.old.cells.room }
+    requires led { IsLed seat give_script no_record (λ out t v. HasLeft out t v) give.old world.old }
+    ensures keeps { IsTurnOf RunsAlone world.old world.new seat }
+    ensures alone { AreAlone world.old → AreAlone world.new }
+    ensures go { result ≡ Go → IsLed seat give_script no_record (λ out t v. HasLeft out t v) give.new world.new }
+    ensures done { (out : ℕ) → result ≡ Done out → IsResting world.new }
+    ensures given { (out : ℕ) → result ≡ Done out → (seat_of world.new seat).blocks.owned ≡ [] }
+{
+    world.turn(seat, give)
+}
+
+/// A seat gives the one block that it owns back, in one turn.
+fn give_in(world: &mut World, seat: u8) -> Result<u32, Unfinished>
+    requires room { 1 ≤ world.old.cells.room }
+    requires inside { seat < length world.old.seats }
+    requires resting { IsResting world.old }
+    requires alone { AreAlone world.old }
+    requires owned { length (seat_of world.old seat).blocks.owned ≡ 1 }
+    ensures resting { IfOk result (λ _. IsResting world.new) }
+    ensures alone { IfOk result (λ _. AreAlone world.new) }
+    ensures given { IfOk result (λ _. (seat_of world.new seat).blocks.owned ≡ []) }
+    ensures others { IfOk result (λ _. (other : ℕ) → other ≢ seat → seat_of world.new other ≡ seat_of world.old other) }
+    ensures many { IfOk result (λ _. length world.new.seats ≡ length world.old.seats) }
+    ensures room { IfOk result (λ _. world.new.cells.room + 1 ≡ world.old.cells.room) }
+{
+    begin_in(world, seat, Task::Give { from: Listed::Owned });
+    let mut give = Give::new(GiveFrom::Owned);
+    match turn_give(world, seat, &mut give) {
+        Turn::Go => Err(Unfinished),
+        Turn::Done(count) => Ok(count),
+    }
+}
+
+#[test]
+fn a_filled_block_outlasts_a_crash(rt: HostRuntime) -> Result<(), Fail> {
+    let Ok(geometry) = Geometry::new(2, 1, 64) else {
+        return Ok(());
+    };
+    let mut world = two_seats(rt.alloc(), geometry)?;
+    let taken = take_in(&mut world, 0, Area::Data, 1)?;
+    assert_eq!(rt; taken, Taken::Taken);
+    assert_eq!(rt; owns_only(&mut world, 0, 1), true);
+    set_all(&mut world, 0, 5);
+    let mut fill = begin_fill(&mut world, 0);
+    go_on(&mut world, 0, &mut fill, 16)?;
+    let left = world.survivors(rt.alloc(), Choice::Oldest)?;
+    assert_eq!(rt; left.len(), 192);
+    assert_eq!(rt; left[8], 0);
+    end_fill(&mut world, 0, fill)?;
+    for choice in [Choice::Oldest, Choice::Newest, Choice::Drawn(7)] {
+        let left = world.survivors(rt.alloc(), choice)?;
+        assert_eq!(rt; left.len(), 192);
+        assert_eq!(rt; &left[8..16], [5; 8].as_slice());
+    }
+    let taken = take_in(&mut world, 1, Area::Data, 2)?;
+    assert_eq!(rt; taken, Taken::NoSpace { area: Area::Data });
+    assert_eq!(rt; owns_only(&mut world, 1, 2), true);
+    let given = give_in(&mut world, 1)?;
+    assert_eq!(rt; given, 1);
+    let taken = take_in(&mut world, 1, Area::Data, 1)?;
+    assert_eq!(rt; taken, Taken::Taken);
+    assert_eq!(rt; owns_only(&mut world, 1, 2), true);
+    assert_eq!(rt; world.position(), 0);
+    assert_eq!(rt; world.synced(), 0);
+    Ok(())
+}
