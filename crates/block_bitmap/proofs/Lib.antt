@@ -24,6 +24,9 @@ pub mod GiveOverPlain
 pub mod WorldLemmas
 pub mod FillOwned
 pub mod FilledSeats
+pub mod FillPlaces
+pub mod FillStores
+pub mod FillMarks
 pub mod FillServes
 pub mod FillWithinCore
 pub mod WorldTakes
