@@ -39,7 +39,7 @@ module _ (Q : Unit {0} → Seat → PlainWords → Type 0) (p left : ℕ) where
       (λ small. record { some = more; owned = owned; few = few; inside = omega (arith, all) })
       (rw (more_words word n (q_of s.geometry) all) (marks_lead (suc n) (word + 1) s w (omega (arith, all)) (omega arith) more owned few inside then))
 
-length_words : (s : Seat) (p word n : ℕ) (words : List ℕ) → length (with_words s p word n words) ≡ length words
+pub length_words : (s : Seat) (p word n : ℕ) (words : List ℕ) → length (with_words s p word n words) ≡ length words
 length_words s p word zero words = refl
 length_words s p word (suc n) words = length_words s p (word + 1) n (slice_set words (image_word s p word) (content_at s p word)) ∙ length-set words (image_word s p word) (content_at s p word)
 

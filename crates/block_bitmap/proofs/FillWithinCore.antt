@@ -6,13 +6,14 @@ use Rattle.persistence.specs.Memory.{Cell, Replaced, Noted, cell}
 use Rattle.log_core.specs.Views.{View, Ghost}
 use Rattle.log_core.specs.Owned.{OwnedHold}
 use Rattle.log_core.specs.Certain.{IsCertain}
-use Rattle.log_core.specs.Within.{no_record}
+use Rattle.log_core.specs.Within.{no_record, IsLeft}
 use Rattle.log_core.proofs.Serving.{leads_within, reached_keeps}
+use Rattle.log_core.proofs.OverPlain.{over_plain}
 use Rattle.log_core.proofs.StartMeets.{start_meets}
 use Rattle.block_bitmap.specs.OwnedWords.{image_word, content_at}
 use Rattle.block_bitmap.specs.Filling.{fill_of, fill_script, fill_lowers}
 use Rattle.block_bitmap.specs.Filled.{filled_seat}
-use Rattle.block_bitmap.specs.FillWithin.{MayFill, StoreStands, FillStands, IsFilled, FillsWithin, FilledAreCertain}
+use Rattle.block_bitmap.specs.FillWithin.{MayFill, StoreStands, FillStands, IsFilled, FillsWithin, FillsAlone, FilledAreCertain}
 use Rattle.block_bitmap.proofs.BlockWords.{q_range}
 use Rattle.block_bitmap.proofs.FilledSeats.{fenced_many, filled_geometry, same_word, same_content}
 use Rattle.block_bitmap.proofs.FillServes.{fill_serves}
@@ -37,6 +38,11 @@ pub fills_within : FillsWithin
 fills_within o start seat number first count rest s v linked =
     leads_within o (start_meets o start) seat number fill_script no_record (FillStands first count s) (IsFilled first count s) (fill_serves o seat first count s) fill_lowers rest (fill_of first count) s v
     (record { unspent = linked.unspent; begins = linked.begins; offered = linked.offered; number_is = linked.number_is; done = linked.done; fits = begins first count s _ linked.fits })
+
+pub fills_alone : FillsAlone
+fills_alone o start seat number first count rest s v linked c p reached here at agrees =
+    over_plain o (start_meets o start) seat number fill_script no_record (IsLeft rest no_record (IsFilled first count s)) (fill_of first count) s v c p
+    (fills_within o start seat number first count rest s v linked) reached here at agrees
 
 -- in a fenced block no other value than its content is possible
 filled_certain : (cells : ℕ → Cell) (past : List Replaced) (notes : List Noted) (seat first count : ℕ) (start : Seat) (g : Ghost) → OwnedHold cells past notes seat g (filled_seat start first count) → (place word : ℕ)

@@ -1,11 +1,12 @@
 -- Giving owned blocks back within a core, from every start.
 use Rattle.std.proofs.Common.{refl, arith, inl}
-use Rattle.log_core.specs.Within.{no_record}
+use Rattle.log_core.specs.Within.{no_record, IsLeft}
 use Rattle.log_core.proofs.Serving.{leads_within}
+use Rattle.log_core.proofs.OverPlain.{over_plain}
 use Rattle.log_core.proofs.StartMeets.{start_meets}
 use Rattle.block_bitmap.specs.Giving.{give_of, give_script}
 use Rattle.block_bitmap.specs.GiveLowering.{give_lowers}
-use Rattle.block_bitmap.specs.GiveWithin.{GiveStands, IsGiven, GivesWithin}
+use Rattle.block_bitmap.specs.GiveWithin.{GiveStands, IsGiven, GivesWithin, GivesAlone}
 use Rattle.block_bitmap.proofs.GiveServes.{give_serves}
 
 pub gives_within : GivesWithin
@@ -19,3 +20,8 @@ gives_within o start seat number from rest s v linked =
       done = linked.done;
       fits = record { some = linked.fits.some; count = omega arith; few = inl refl; rest = refl };
     })
+
+pub gives_alone : GivesAlone
+gives_alone o start seat number from rest s v linked c p reached here at agrees =
+    over_plain o (start_meets o start) seat number give_script no_record (IsLeft rest no_record (IsGiven s)) (give_of from) s v c p
+    (gives_within o start seat number from rest s v linked) reached here at agrees

@@ -14,6 +14,7 @@ pub mod TakeEffects
 pub mod TakeSettles
 pub mod TakeServes
 pub mod TakeWithinCore
+pub mod TakeSafe
 pub mod BlockWords
 pub mod OwnedFlags
 pub mod FillOverPlain
@@ -23,6 +24,9 @@ pub mod GiveOverPlain
 pub mod WorldLemmas
 pub mod FillOwned
 pub mod FilledSeats
+pub mod FillPlaces
+pub mod FillStores
+pub mod FillMarks
 pub mod FillServes
 pub mod FillWithinCore
 pub mod WorldTakes

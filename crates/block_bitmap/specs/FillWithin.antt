@@ -5,7 +5,9 @@ use Rattle.seat_parts.specs.Owned.{owned_at}
 use Rattle.seat_parts.specs.declared.keeps.Task.TheVariants.{Sync}
 use Rattle.seat_state.specs.Seats.{Seat, q_of}
 use Rattle.persistence.specs.Memory.{cell}
+use Rattle.pmem_words.specs.Courses.{over}
 use Rattle.pmem_words.specs.Leads.{Leads}
+use Rattle.pmem_words.specs.PlainWords.{PlainWords, plain}
 use Rattle.log_core.specs.Views.{View, Ghost, view_of}
 use Rattle.log_core.specs.Origin.{Origin}
 use Rattle.log_core.specs.Cores.{Core}
@@ -14,7 +16,7 @@ use Rattle.log_core.specs.Runs.{IsReached}
 use Rattle.log_core.specs.Works.{stored_at}
 use Rattle.log_core.specs.Steps.{is_head_marked}
 use Rattle.log_core.specs.Certain.{IsCertain}
-use Rattle.log_core.specs.Within.{no_record, within, IsLinked, IsLeft}
+use Rattle.log_core.specs.Within.{no_record, within, IsLinked, IsLeft, Agrees, EndsAlone}
 use Rattle.block_bitmap.specs.declared.fill.Fill.{Fill}
 use Rattle.block_bitmap.specs.declared.fill.Fill.TheVariants.{Store, Mark, Fence}
 use Rattle.block_bitmap.specs.OwnedWords.{image_word, content_at, unfilled}
@@ -94,3 +96,9 @@ abbrev pub FilledAreCertain : Type 0
 FilledAreCertain = (o : Origin) → IsStart o → (seat first count : ℕ) (rest : List Call) (start s : Seat) (v : View) → IsLeft rest no_record (IsFilled first count start) tt s v →
     (c : Core) → IsReached o c → view_of c.views seat ≡ v → (place word : ℕ) → first ≤ place → place < first + count → word < q_of start.geometry →
     IsCertain (cell c.memory (image_word start place word)) (content_at start place word)
+
+-- over a plain memory that has the words of such a core, the seat alone comes to the same in a core that a run reaches
+abbrev pub FillsAlone : Type 0
+FillsAlone = (o : Origin) → IsStart o → (seat number first count : ℕ) (rest : List Call) (s : Seat) (v : View) → IsLinked number rest (MayFill first count) s v →
+    (c : Core) (p : PlainWords) → IsReached o c → seat < length c.views → view_of c.views seat ≡ v → Agrees p c.memory →
+    Leads fill_script (over fill_script plain) (EndsAlone o seat (IsLeft rest no_record (IsFilled first count s))) (fill_of first count) s p
