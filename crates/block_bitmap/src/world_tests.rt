@@ -235,7 +235,13 @@ fn give_in(world: &mut World, seat: u8) -> Result<u32, Unfinished>
     ensures many { IfOk result (λ _. length world.new.seats ≡ length world.old.seats) }
     ensures room { IfOk result (λ _. world.new.cells.room + 1 ≡ world.old.cells.room) }
 {
-    begin_in(world, seat, Task::Give { from: Listed::Owned });
+    begin_in(
+        world,
+        seat,
+        Task::Give {
+            from: Listed::Owned,
+        },
+    );
     let mut give = Give::new(GiveFrom::Owned);
     match turn_give(world, seat, &mut give) {
         Turn::Go => Err(Unfinished),
