@@ -36,3 +36,4 @@ pub mod GiveServes
 pub mod OwnedInCore
 pub mod GiveWithinCore
 pub mod WorldGives
+pub mod FilledWords

@@ -1,5 +1,5 @@
 -- What a fill that ran alone leaves.
-use Rattle.std.specs.Prelude.{ℕ, zero, suc, ◌+◌, ◌*◌, ◌<◌, ◌≤◌, List, length, slice_set}
+use Rattle.std.specs.Prelude.{ℕ, zero, suc, ◌+◌, ◌*◌, ◌/◌, ◌<◌, ◌≤◌, ◌≡◌, ◌≢◌, List, length, slice_index, slice_set}
 use Rattle.seat_state.specs.Seats.{Seat, q_of}
 use Rattle.block_bitmap.specs.OwnedWords.{block_at, image_word, content_at, unfilled, counted, all_fenced}
 
@@ -29,3 +29,15 @@ filled_seat s place n = all_fenced (filled_from s place n)
 -- the image has all words of n blocks from a place of the list on
 abbrev pub HasWordsOf : Seat → ℕ → ℕ → List ℕ → Type 0
 HasWordsOf s place n words = (k : ℕ) → place ≤ k → k < place + n → block_at s k * q_of s.geometry + q_of s.geometry ≤ length words
+
+-- no two of n places from one on have one block
+abbrev pub AreApart : Seat → ℕ → ℕ → Type 0
+AreApart s place n = (a b : ℕ) → place ≤ a → a < b → b < place + n → block_at s a ≢ block_at s b
+
+-- each word of n blocks from a place of the list on is its content
+abbrev pub HoldsBlocks : Seat → ℕ → ℕ → List ℕ → Type 0
+HoldsBlocks s place n words = (k word : ℕ) → place ≤ k → k < place + n → word < q_of s.geometry → slice_index words (image_word s k word) ≡ content_at s k word
+
+-- the words of all other blocks are as before
+abbrev pub KeepsOthers : Seat → ℕ → ℕ → List ℕ → List ℕ → Type 0
+KeepsOthers s place n before after = (at : ℕ) → ((k : ℕ) → place ≤ k → k < place + n → at / q_of s.geometry ≢ block_at s k) → slice_index after at ≡ slice_index before at

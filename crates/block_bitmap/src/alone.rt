@@ -10,7 +10,7 @@ ghost use Rattle.block_bitmap.specs.TakeScript.{with_taken};
 ghost use Rattle.block_bitmap.specs.TakeAlone.{free_blocks, outcome, found_as, AreSet, HasPassed};
 ghost use Rattle.block_bitmap.specs.Filling.{fill_of, fill_script};
 ghost use Rattle.block_bitmap.specs.Given.{AreInside, cleared, emptied};
-ghost use Rattle.block_bitmap.specs.Filled.{HasWordsOf, filled_seat, with_blocks};
+ghost use Rattle.block_bitmap.specs.Filled.{AreApart, HasWordsOf, HoldsBlocks, KeepsOthers, filled_seat, with_blocks};
 
 use crate::fill::Fill;
 use crate::give::{Give, GiveFrom};
@@ -43,6 +43,8 @@ pub fn fill_alone(seat: &mut SeatState, memory: &mut Plain, first: u16, count: u
     requires inside { HasWordsOf seat.old first count memory.old.words }
     ensures seat { seat.new ≡ filled_seat seat.old first count }
     ensures memory { memory.new ≡ record memory.old { words = with_blocks seat.old first count memory.old.words } }
+    ensures words { AreApart seat.old first count → HoldsBlocks seat.old first count memory.new.words }
+    ensures others { KeepsOthers seat.old first count memory.old.words memory.new.words }
     ensures steps { EndsIn (2 * q_of seat.old.geometry * count + 1) fill_script (over fill_script plain) (fill_of first count) seat.old memory.old result seat.new memory.new }
 {
     drive(Fill::new(first, count), seat, memory)
