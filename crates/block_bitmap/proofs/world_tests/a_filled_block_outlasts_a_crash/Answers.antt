@@ -5,7 +5,7 @@ use Rattle.crash_model.specs.Led.{IsResting}
 use Rattle.block_bitmap.proofs.world_tests.a_filled_block_outlasts_a_crash.Goals as goal
 
 -- the second seat is not the first
-other : 1 ≡ 0 → ⊥
+other : ◌≡◌ {A = ℕ} 1 0 → ⊥
 other same = omega (arith, same)
 
 pub set_all-requires-clause-resting : goal.set_all-requires-clause-resting
