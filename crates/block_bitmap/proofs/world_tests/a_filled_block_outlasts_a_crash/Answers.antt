@@ -1,4 +1,4 @@
-use Rattle.std.proofs.Common.{rules, ◌≡◌, ◌≢◌, ℕ, sym, ◌∙◌, ap, subst, arith}
+use Rattle.std.proofs.Common.{◌≡◌, ℕ, sym, ◌∙◌, ap, subst, arith}
 use Rattle.seat_state.specs.Seats.{Seat}
 use Rattle.crash_model.specs.Worlds.{WorldNow, seat_of}
 use Rattle.crash_model.specs.Led.{IsResting}

@@ -1,11 +1,11 @@
-use Rattle.std.proofs.Common.{rules, ◌≡◌, ◌^◌, ◌<◌, ◌≤◌, ◌+◌, ℕ, List, length, slice_index, sym, ◌∙◌, ap, subst, arith}
+use Rattle.std.proofs.Common.{◌≡◌, ◌^◌, ◌<◌, ℕ, List, length, slice_index, sym, ◌∙◌, ap, subst, arith}
 use Rattle.seat_parts.specs.declared.keeps.Task.TheVariants.{Fill as FillTask}
 use Rattle.seat_state.specs.Seats.{Seat}
 use Rattle.log_core.specs.Within.{no_record}
 use Rattle.crash_model.specs.Worlds.{WorldNow, seat_of, set_seat}
 use Rattle.crash_model.specs.Led.{IsLed, HasLeft}
 use Rattle.block_bitmap.specs.declared.fill.Fill.{Fill}
-use Rattle.block_bitmap.specs.Filling.{fill_script, fill_of}
+use Rattle.block_bitmap.specs.Filling.{fill_script}
 use Rattle.block_bitmap.proofs.WorldLemmas.{begun_seat, begun_inside, same_seat}
 use Rattle.block_bitmap.proofs.WorldFills.{fill_led}
 use Rattle.block_bitmap.proofs.world_tests.begin_fill.Goals as goal

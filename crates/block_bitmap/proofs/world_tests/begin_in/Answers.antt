@@ -1,7 +1,3 @@
-use Rattle.std.proofs.Common.{rules, ◌≡◌, sym, ◌∙◌, subst}
-use Rattle.seat_state.specs.Seats.{Seat}
-use Rattle.crash_model.specs.Worlds.{set_seat}
-use Rattle.crash_model.specs.Led.{IsResting}
 use Rattle.block_bitmap.proofs.WorldLemmas.{begun_rest}
 use Rattle.block_bitmap.proofs.world_tests.begin_in.Goals as goal
 

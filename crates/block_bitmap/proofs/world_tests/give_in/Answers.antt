@@ -1,4 +1,4 @@
-use Rattle.std.proofs.Common.{rules, ◌≡◌, ◌<◌, ℕ, length, sym, ◌∙◌, ap, subst, arith}
+use Rattle.std.proofs.Common.{◌≡◌, length, sym, ◌∙◌, ap, subst, arith}
 use Rattle.seat_parts.specs.declared.keeps.GiveFrom.TheVariants.{Owned as Listed}
 use Rattle.seat_parts.specs.declared.keeps.Task.TheVariants.{Give as GiveTask}
 use Rattle.seat_state.specs.Seats.{Seat}

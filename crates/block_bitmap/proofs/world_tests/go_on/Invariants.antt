@@ -1,4 +1,4 @@
-use Rattle.std.proofs.Common.{◌≡◌, ◌≢◌, ◌<◌, ◌+◌, ℕ, length}
+use Rattle.std.proofs.Common.{◌≡◌, ◌≢◌, ◌+◌, ℕ, length}
 use Rattle.log_core.specs.Within.{no_record}
 use Rattle.crash_model.specs.Worlds.{seat_of}
 use Rattle.crash_model.specs.Led.{IsLed, HasLeft}

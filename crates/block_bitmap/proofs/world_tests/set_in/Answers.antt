@@ -1,4 +1,4 @@
-use Rattle.std.proofs.Common.{rules, ◌≡◌, ◌<◌, ℕ, subst, arith}
+use Rattle.std.proofs.Common.{arith}
 use Rattle.block_bitmap.proofs.WorldLemmas.{word_rest}
 use Rattle.block_bitmap.proofs.world_tests.set_in.Goals as goal
 

@@ -1,9 +1,7 @@
-use Rattle.std.proofs.Common.{rules, ◌≡◌, ◌<◌, ℕ, length, sym, ◌∙◌, ap, subst, slice_set}
-use Rattle.std.proofs.lemmas.List.{length-set}
+use Rattle.std.proofs.Common.{sym, ◌∙◌, ap, subst}
 use Rattle.seat_parts.specs.declared.keeps.Task.TheVariants.{Take as TakeTask}
 use Rattle.seat_state.specs.Seats.{Seat}
 use Rattle.log_core.specs.Within.{no_record}
-use Rattle.crash_model.specs.Worlds.{seat_of}
 use Rattle.crash_model.specs.Led.{IsLed, HasLeft}
 use Rattle.block_bitmap.specs.declared.take.Take.{Take}
 use Rattle.block_bitmap.specs.TakeScript.{take_script}

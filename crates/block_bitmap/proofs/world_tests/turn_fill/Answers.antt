@@ -1,4 +1,4 @@
-use Rattle.std.proofs.Common.{rules, ◌≡◌, sym, ◌∙◌}
+use Rattle.std.proofs.Common.{sym, ◌∙◌}
 use Rattle.crash_model.specs.Worlds.{seat_of, answer_in, turned}
 use Rattle.crash_model.specs.Led.{HasLeft}
 use Rattle.crash_model.proofs.Leading.{fits_led, admits_led, goes_led, turn_led, rests_led}

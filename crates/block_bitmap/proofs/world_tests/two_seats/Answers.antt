@@ -1,8 +1,7 @@
-use Rattle.std.proofs.Common.{rules, max, ◌≡◌, sym, subst}
+use Rattle.std.proofs.Common.{max, sym, subst}
 use Rattle.crash_model.specs.Worlds.{WorldNow}
 use Rattle.crash_model.specs.Led.{IsResting}
 use Rattle.crash_model.proofs.Resting.{rests_room}
-use Rattle.block_bitmap.proofs.WorldLemmas.{new_runs, new_owned}
 use Rattle.block_bitmap.proofs.world_tests.two_seats.Goals as goal
 
 pub returns-clause-resting : goal.returns-clause-resting
