@@ -1,7 +1,4 @@
-use Rattle.std.proofs.Common.{rules, ◌≡◌, ◌≢◌, sym, ◌∙◌, subst, ℕ, length, arith}
-use Rattle.seat_state.specs.Seats.{Seat}
-use Rattle.crash_model.specs.Worlds.{seat_of}
-use Rattle.pins.specs.Seated.{MayLook}
+use Rattle.std.proofs.Common.{arith}
 use Rattle.pins.proofs.WorldLemmas.{looks_still}
 use Rattle.pins.proofs.world_tests.a_pin_is_found_by_another_seat.Goals as goal
 

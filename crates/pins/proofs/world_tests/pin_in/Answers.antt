@@ -1,4 +1,4 @@
-use Rattle.std.proofs.Common.{rules, ◌≡◌, sym, subst}
+use Rattle.std.proofs.Common.{sym, subst}
 use Rattle.crash_model.specs.Led.{IsLed, HasLeft}
 use Rattle.log_core.specs.Within.{no_record}
 use Rattle.pins.specs.declared.pin.Pin.{Pin}

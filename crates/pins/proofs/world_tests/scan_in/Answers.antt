@@ -1,4 +1,4 @@
-use Rattle.std.proofs.Common.{rules, ◌≡◌, sym, subst, ℕ, length, ◌∙◌}
+use Rattle.std.proofs.Common.{sym, subst, ℕ, length, ◌∙◌}
 use Rattle.crash_model.specs.Worlds.{seat_of}
 use Rattle.crash_model.specs.Led.{IsLed, HasLeft}
 use Rattle.log_core.specs.Within.{no_record}

@@ -1,5 +1,5 @@
-use Rattle.std.proofs.Common.{rules, ◌≡◌, sym, ◌∙◌}
-use Rattle.crash_model.specs.Worlds.{seat_of, answer_in, turned, told_in}
+use Rattle.std.proofs.Common.{sym, ◌∙◌}
+use Rattle.crash_model.specs.Worlds.{seat_of, answer_in}
 use Rattle.crash_model.proofs.Leading.{fits_led, admits_led, goes_led, turn_led, rests_led}
 use Rattle.log_core.specs.Within.{no_record}
 use Rattle.pins.specs.Pinning.{pin_script}

@@ -1,6 +1,6 @@
-use Rattle.std.proofs.Common.{rules, ◌≡◌, sym, ◌∙◌, subst, ℕ}
+use Rattle.std.proofs.Common.{sym, ◌∙◌, subst}
 use Rattle.seat_state.specs.Seats.{Seat}
-use Rattle.crash_model.specs.Worlds.{seat_of, answer_in, turned, told_in}
+use Rattle.crash_model.specs.Worlds.{seat_of, answer_in}
 use Rattle.crash_model.proofs.Leading.{fits_led, admits_led, goes_led, inside_led, told_seat, turn_led, rests_led}
 use Rattle.log_core.specs.Within.{no_record}
 use Rattle.pins.specs.Scanning.{scan_script}

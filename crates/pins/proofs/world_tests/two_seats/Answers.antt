@@ -1,4 +1,4 @@
-use Rattle.std.proofs.Common.{rules, max, ◌≡◌, sym, subst}
+use Rattle.std.proofs.Common.{max, sym, subst}
 use Rattle.crash_model.specs.Worlds.{WorldNow}
 use Rattle.crash_model.specs.Led.{IsResting}
 use Rattle.crash_model.proofs.Resting.{rests_room}

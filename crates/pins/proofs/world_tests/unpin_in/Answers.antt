@@ -1,5 +1,4 @@
-use Rattle.std.proofs.Common.{rules, ◌≡◌, sym, ◌∙◌, refl}
-use Rattle.crash_model.specs.Worlds.{turned}
+use Rattle.std.proofs.Common.{refl}
 use Rattle.crash_model.proofs.Leading.{fits_led, rests_led}
 use Rattle.log_core.specs.Within.{no_record}
 use Rattle.pins.specs.Unpinning.{unpin_script, unpin_of}
