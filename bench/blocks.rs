@@ -14,7 +14,7 @@ const LAST: usize = 65_000;
 /// The image of a header and one block, and the content that the block gets.
 fn atomic_fill(rounds: u32) -> u64 {
     let words: Vec<AtomicU64> = (0..2 * BLOCK).map(|_| AtomicU64::new(0)).collect();
-    let content = vec![5u64; BLOCK];
+    let content = content();
     let mut marked = 0u64;
     for _ in 0..black_box(rounds) {
         for word in 0..BLOCK {
@@ -30,7 +30,7 @@ fn atomic_fill(rounds: u32) -> u64 {
 
 fn free_fill(rounds: u32) -> u64 {
     let mut words = vec![0u64; 2 * BLOCK];
-    let content = vec![5u64; BLOCK];
+    let content = content();
     for _ in 0..black_box(rounds) {
         for word in 0..BLOCK {
             words[BLOCK + word] = content[word];
@@ -38,6 +38,12 @@ fn free_fill(rounds: u32) -> u64 {
         black_box(&mut words);
     }
     sum(words.into_iter())
+}
+
+fn content() -> Vec<u64> {
+    let mut content = vec![0u64; BLOCK];
+    content[0] = 5;
+    content
 }
 
 /// The bits of the data area in a word of the bitmap.

@@ -1,7 +1,15 @@
-//! What filling and giving blocks promise within a core, as contracts of functions that do nothing.
+//! What taking, filling and giving blocks promise within a core, as contracts of functions that do nothing.
 
+ghost use Rattle.block_bitmap.specs.TakeWithin.{TakesWithin};
 ghost use Rattle.block_bitmap.specs.FillWithin.{FillsWithin, FillsAlone, FilledAreCertain};
 ghost use Rattle.block_bitmap.specs.GiveWithin.{GivesWithin, GivesAlone};
+
+/// From every start, at every seat whose call lacks as many blocks of an area, and whatever other seats do between its steps: each
+/// ask is a step that the core allows, each answer that comes there is admitted, and it ends. The seat then owns what it owned and
+/// so many blocks of the area more, none twice; or it owns fewer more, and its call has found each block of the area taken.
+pub fn law_takes_within()
+    ensures { TakesWithin }
+{}
 
 /// From every start, at every seat that has so many owned blocks from a place on, runs no sync and has no mark of a head that is
 /// still to be fenced, and whatever other seats do between its steps: each ask of a fill is a step that the core allows, each

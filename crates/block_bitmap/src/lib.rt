@@ -13,17 +13,14 @@ pub mod given;
 pub mod laws;
 pub mod take;
 pub mod take_bits;
-pub mod take_laws;
-pub mod take_plain;
 #[cfg(test)]
 mod take_tests;
 pub mod words;
 #[cfg(test)]
 mod world_tests;
 
-pub use alone::{fill_alone, give_alone};
+pub use alone::{fill_alone, give_alone, take_alone};
 pub use begin::begin_alone;
 pub use fill::Fill;
 pub use give::{Give, GiveFrom};
 pub use take::{Take, Taken};
-pub use take_plain::take_alone;

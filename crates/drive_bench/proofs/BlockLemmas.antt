@@ -1,5 +1,5 @@
 -- A fill of one block leaves what it needs.
-use Rattle.std.proofs.Common.{◌≡◌, ℕ, suc, ◌+◌, ◌*◌, true, false, List, [], ◌∷◌, length, refl, ◌∙◌, ap, subst, arith}
+use Rattle.std.proofs.Common.{◌≡◌, ℕ, ◌+◌, ◌*◌, ◌||◌, true, false, List, [], ◌∷◌, length, refl, ◌∙◌, arith}
 use Rattle.std.proofs.lemmas.List.{length-map}
 use Rattle.seat_parts.specs.Owned.{owned_at, with_filled, with_fenced, fenced_all}
 use Rattle.seat_parts.specs.declared.owned.OwnedBlock.{OwnedBlock}
@@ -13,7 +13,7 @@ use Rattle.drive_bench.specs.Blocks.{OwnsOne}
 refilled : (owned : List OwnedBlock) → length owned ≡ 1 → (owned_at owned 0).block ≡ 1 →
     (length (fenced_all (with_filled (with_fenced (with_filled owned 0 false) 0 false) 0 true)) ≡ 1) × ((owned_at (fenced_all (with_filled (with_fenced (with_filled owned 0 false) 0 false) 0 true)) 0).block ≡ 1)
 refilled [] one block = absurd (omega (arith, one))
-refilled (first ∷ rest) one block = (ap suc (length-map rest) ∙ one, block)
+refilled (first ∷ rest) one block = ((let many = length-map rest (λ (o : OwnedBlock). record o { fenced = o.fenced || o.filled }) in omega (arith, many, one)), block)
 
 after_fill : (s : Seat) (p : PlainWords) → OwnsOne s p → OwnsOne (filled_seat s 0 1) (record p { words = with_blocks s 0 1 p.words })
 after_fill s p owns = (let r = refilled s.blocks.owned owns.one owns.block in record {

@@ -1,5 +1,5 @@
 use Rattle.block_bitmap.proofs.TakeWithinCore.{takes_within}
-use Rattle.block_bitmap.proofs.take_laws.law_takes_within.Goals as goal
+use Rattle.block_bitmap.proofs.laws.law_takes_within.Goals as goal
 
 pub returns : goal.returns
 returns c = takes_within

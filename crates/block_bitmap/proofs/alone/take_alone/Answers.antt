@@ -3,7 +3,7 @@ use Rattle.pmem_words.specs.PlainWords.{plain}
 use Rattle.pmem_words.proofs.LeadsLemmas.{safe_by, ends_by}
 use Rattle.block_bitmap.specs.TakeScript.{take_script}
 use Rattle.block_bitmap.proofs.TakeOverPlain.{TakenAlone, taken_alone, bits_for}
-use Rattle.block_bitmap.proofs.take_plain.take_alone.Goals as goal
+use Rattle.block_bitmap.proofs.alone.take_alone.Goals as goal
 
 pub drive-requires : goal.drive-requires
 drive-requires c =
