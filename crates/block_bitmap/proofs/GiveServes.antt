@@ -1,9 +1,6 @@
 -- Giving owned blocks back is lawful within a core.
-use Rattle.std.proofs.Common.{◌≡◌, ◌≢◌, ◌<◌, ◌≤◌, ◌+◌, ◌*◌, ◌/◌, ◌%◌, ◌^◌, ◌⊎◌, inl, inr, ◌==◌, ◌||◌, not, ℕ, Bool, true, false, if◌then◌else◌, List, [], ◌∷◌, length, refl, sym, ap, ◌∙◌, subst, arith}
+use Rattle.std.proofs.Common.{◌≡◌, ◌≢◌, ◌<◌, ◌≤◌, ◌+◌, ◌*◌, ◌/◌, ◌⊎◌, inl, inr, ◌==◌, ◌||◌, not, ℕ, Bool, true, false, List, [], ◌∷◌, length, refl, sym, ap, ◌∙◌, subst, arith}
 use Rattle.std.specs.List.{AllByRecursion, list_all, range_with_len}
-use Rattle.std.specs.Prelude.{bit_or}
-use Rattle.std.proofs.Math.Pow.{pow_mono}
-use Rattle.std.proofs.lemmas.Nat.{or_lt}
 use Rattle.std.proofs.lemmas.Bool.{eqb-true, eqb-false, eq-eqb, and_parts, and_from, or_left, or_right}
 use Rattle.std.proofs.lemmas.List.{nil_from_length}
 use Rattle.seat_parts.specs.Owned.{is_among}
@@ -22,30 +19,14 @@ use Rattle.log_core.specs.Invariant.{Invariant}
 use Rattle.log_core.specs.Knows.{Knows}
 use Rattle.log_core.specs.Within.{no_record, adds_at, EntersOffered, Serves}
 use Rattle.block_bitmap.specs.declared.give.Give.{Give}
-use Rattle.block_bitmap.specs.GivenBits.{with_bit, bits_from}
 use Rattle.block_bitmap.specs.BitsIn.{has_block, among_in, least_is}
 use Rattle.block_bitmap.specs.Giving.{next_word, next_bits, given_seat, given_count, give_turn, give_script}
 use Rattle.block_bitmap.specs.GiveLowering.{left_few}
 use Rattle.block_bitmap.specs.Given.{AreInside}
 use Rattle.block_bitmap.specs.GiveWithin.{GiveStands, IsGiven}
 use Rattle.block_bitmap.proofs.OwnedInCore.{low_block, few_owned}
-use Rattle.block_bitmap.proofs.GivenLemmas.{word_inside}
+use Rattle.block_bitmap.proofs.GivenLemmas.{small_from, word_inside}
 use Rattle.block_bitmap.proofs.GiveOverPlain.{step_emptied, step_ended}
-
--- bits of one word are of 64 bits
-small_with : (word block bits : ℕ) → bits < 2 ^ 64 → with_bit word block bits < 2 ^ 64
-small_with word block bits small = by (block / 64 == word)
-  where
-    one : 2 ^ (block % 64) < 2 ^ 64
-    one = (let low : block % 64 ≤ 63 = omega arith in let grows : 2 ^ (block % 64) ≤ 2 ^ 63 = pow_mono low in omega (arith, grows))
-
-    by : (here : Bool) → (if here then bit_or bits (2 ^ (block % 64)) else bits) < 2 ^ 64
-    by true = or_lt 64 bits (2 ^ (block % 64)) small one
-    by false = small
-
-small_from : (word bits : ℕ) (owned : List OwnedBlock) → bits < 2 ^ 64 → bits_from word bits owned < 2 ^ 64
-small_from word bits [] small = small
-small_from word bits (o ∷ owned) small = small_from word (with_bit word o.block bits) owned (small_with word o.block bits small)
 
 -- the bits given are of owned blocks
 has_numbers : (owned : List OwnedBlock) (block : ℕ) → has_block block owned ≡ has (owned_numbers owned) block

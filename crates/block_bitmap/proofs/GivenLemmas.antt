@@ -1,7 +1,10 @@
 -- The words of the bitmap after the bits of one word are cleared.
-use Rattle.std.proofs.Common.{ℕ, zero, suc, ◌≡◌, ◌≢◌, ◌+◌, ◌/◌, ◌<◌, ◌==◌, ◌||◌, ◌⊎◌, inl, inr, not, Bool, true, false, if◌then◌else◌, List, [], ◌∷◌, ◌++◌, length, take, drop, slice_index, slice_set, refl, sym, ap, subst, ◌∙◌, arith}
+use Rattle.std.proofs.Common.{ℕ, zero, suc, ◌≡◌, ◌≢◌, ◌+◌, ◌/◌, ◌%◌, ◌^◌, ◌<◌, ◌≤◌, ◌==◌, ◌||◌, ◌⊎◌, inl, inr, not, Bool, true, false, if◌then◌else◌, List, [], ◌∷◌, ◌++◌, length, take, drop, slice_index, slice_set, refl, sym, ap, subst, ◌∙◌, arith}
 use Rattle.std.proofs.lemmas.Bool.{eqb-true, ne_eqb, cases_eq, cond-true, cond-false}
 use Rattle.std.proofs.lemmas.List.{get_or-set_same, get_or-set_other, length-set, ext_get_or}
+use Rattle.std.specs.Prelude.{bit_or}
+use Rattle.std.proofs.Math.Pow.{pow_mono}
+use Rattle.std.proofs.lemmas.Nat.{or_lt}
 use Rattle.seat_parts.specs.Owned.{owned_but, contents_but}
 use Rattle.seat_parts.specs.declared.owned.OwnedBlock.{OwnedBlock}
 use Rattle.seat_state.specs.Seats.{without_bits}
@@ -40,7 +43,7 @@ same_bits word other bits (o ∷ owned) apart = by (o.block / 64 == word) refl (
     by true is rest = rest bits ∙ ap (λ (n : ℕ). bits_from other n owned) (sym (cond-false (o.block / 64 == other) _ bits (apart_from word other apart (o.block / 64) is)))
     by false is rest = rest (with_bit other o.block bits)
 
-length_cleared : (word : ℕ) (owned : List OwnedBlock) (words : List ℕ) → length (cleared_from word owned words) ≡ length words
+pub length_cleared : (word : ℕ) (owned : List OwnedBlock) (words : List ℕ) → length (cleared_from word owned words) ≡ length words
 length_cleared word owned [] = refl
 length_cleared word owned (found ∷ words) = ap suc (length_cleared (word + 1) owned words)
 
@@ -49,7 +52,7 @@ cleared_at word owned [] k inside = absurd (omega (arith, inside))
 cleared_at word owned (found ∷ words) zero inside = ap (λ (n : ℕ). word_without n owned found) (let same : word ≡ word + 0 = omega arith in same)
 cleared_at word owned (found ∷ words) (suc k) inside = cleared_at (word + 1) owned words k (omega (arith, inside)) ∙ ap (λ (n : ℕ). word_without n owned (slice_index words k)) (let same : word + 1 + k ≡ word + suc k = omega arith in same)
 
-cleared_first : (owned : List OwnedBlock) (words : List ℕ) (k : ℕ) → k < length words → slice_index (cleared owned words) k ≡ word_without k owned (slice_index words k)
+pub cleared_first : (owned : List OwnedBlock) (words : List ℕ) (k : ℕ) → k < length words → slice_index (cleared owned words) k ≡ word_without k owned (slice_index words k)
 cleared_first owned words k inside = cleared_at 0 owned words k inside ∙ ap (λ (n : ℕ). word_without n owned (slice_index words k)) (let same : 0 + k ≡ k = omega arith in same)
 
 -- with no blocks, the words stay
@@ -109,3 +112,18 @@ word_inside words word (o ∷ owned) inside some = by (o.block / 64 == word) ref
     by : (here : Bool) → (o.block / 64 == word) ≡ here → (here || is_in word owned) ≡ true → (is_in word owned ≡ true → word < words) → word < words
     by true is one rest = (let same = eqb-true (o.block / 64) word is in let low = inside.0 in omega (arith, same, low))
     by false is one rest = rest one
+
+-- bits of one word are of 64 bits
+small_with : (word block bits : ℕ) → bits < 2 ^ 64 → with_bit word block bits < 2 ^ 64
+small_with word block bits small = by (block / 64 == word)
+  where
+    one : 2 ^ (block % 64) < 2 ^ 64
+    one = (let low : block % 64 ≤ 63 = omega arith in let grows : 2 ^ (block % 64) ≤ 2 ^ 63 = pow_mono low in omega (arith, grows))
+
+    by : (here : Bool) → (if here then bit_or bits (2 ^ (block % 64)) else bits) < 2 ^ 64
+    by true = or_lt 64 bits (2 ^ (block % 64)) small one
+    by false = small
+
+pub small_from : (word bits : ℕ) (owned : List OwnedBlock) → bits < 2 ^ 64 → bits_from word bits owned < 2 ^ 64
+small_from word bits [] small = small
+small_from word bits (o ∷ owned) small = small_from word (with_bit word o.block bits) owned (small_with word o.block bits small)

@@ -37,3 +37,4 @@ pub mod OwnedInCore
 pub mod GiveWithinCore
 pub mod WorldGives
 pub mod FilledWords
+pub mod GivenBitsClear

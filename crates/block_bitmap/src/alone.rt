@@ -9,7 +9,7 @@ ghost use Rattle.pmem_words.specs.PlainWords.{plain};
 ghost use Rattle.block_bitmap.specs.TakeScript.{with_taken};
 ghost use Rattle.block_bitmap.specs.TakeAlone.{free_blocks, outcome, found_as, AreSet, HasPassed};
 ghost use Rattle.block_bitmap.specs.Filling.{fill_of, fill_script};
-ghost use Rattle.block_bitmap.specs.Given.{AreInside, cleared, emptied};
+ghost use Rattle.block_bitmap.specs.Given.{AreInside, IsCleared, cleared, emptied};
 ghost use Rattle.block_bitmap.specs.Filled.{AreApart, HasWordsOf, HoldsBlocks, KeepsOthers, filled_seat, with_blocks};
 
 use crate::fill::Fill;
@@ -60,6 +60,8 @@ pub fn give_alone(seat: &mut SeatState, memory: &mut Plain, from: GiveFrom) -> u
     ensures count { result ≡ length seat.old.blocks.owned }
     ensures seat { seat.new ≡ emptied seat.old }
     ensures memory { memory.new ≡ record memory.old { taken = cleared seat.old.blocks.owned memory.old.taken } }
+    ensures bits { IsCleared seat.old.blocks.owned memory.old.taken memory.new.taken }
+    ensures found { IsCleared seat.old.blocks.owned seat.old.blocks.found seat.new.blocks.found }
 {
     drive(Give::new(from), seat, memory)
 }

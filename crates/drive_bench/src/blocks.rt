@@ -9,6 +9,7 @@ use std::alloc::{AllocError, Global};
 
 /// The words of a block, and of a bitmap of nearly 65,535 blocks.
 const BLOCK: u16 = 512;
+
 const BITMAP: usize = 1_024;
 
 /// Fills block 1 with its content.
