@@ -102,7 +102,7 @@ fn take_in(world: &mut World, seat: u8, area: Area, count: u16) -> Result<Taken,
     }
 }
 
-/// Sets each word of the one block that a seat owns.
+/// Sets the first 8 words of the one block that a seat owns: all of them where a block has 64 bytes.
 fn set_all(world: &mut World, seat: u8, value: u64)
     requires inside { seat < length world.old.seats }
     requires resting { IsResting world.old }
@@ -120,7 +120,7 @@ fn set_all(world: &mut World, seat: u8, value: u64)
     }
 }
 
-/// Sets a word of the one block that a seat owns.
+/// Sets one of the first 8 words of the one block that a seat owns.
 fn set_in(world: &mut World, seat: u8, word: u16, value: u64)
     requires inside { seat < length world.old.seats }
     requires resting { IsResting world.old }
