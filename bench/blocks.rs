@@ -1,6 +1,6 @@
 //! The steps on blocks of `crates/drive_bench`, as loops written by hand: `blocks <work> <yardstick> <rounds>`.
-//! `fill` stores the 512 words of a block's content and loads each again, as a mark does on running threads; `pass` loads 1,024 words of a
-//! bitmap whose bits are all set, adds each to what was found, and looks whether a block of the area is left in it.
+//! `fill` stores the 512 words of a block's content and loads each again, as a mark does on running threads; `pass` loads the 1,016
+//! words of a full bitmap that have blocks of the data area, adds each to what was found, and looks whether a block of the area is left in it.
 //! `atomics` makes each load and store sequentially consistent, as running threads would; `free` is a vector of words, and the compiler may
 //! do with the loop what it can.
 use std::hint::black_box;
