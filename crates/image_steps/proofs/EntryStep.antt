@@ -22,16 +22,17 @@ use Rattle.log_image.specs.Holes.{Hole, AtSlot, AtLink, last_block, hole_in, hol
 use Rattle.log_image.specs.Taken.{is_taken}
 use Rattle.log_image.proofs.HoldingLemmas.{both_left, both_right}
 use Rattle.log_image.proofs.ImageLemmas.{in_block, length_range}
-use Rattle.image_steps.specs.SameWords.{SameHeader}
+use Rattle.log_image.specs.SameWords.{SameHeader}
 use Rattle.image_steps.specs.Steps.{StandsClear, IsEntryOf, next_hole, TakesEntry, EntriesAreWrites}
-use Rattle.image_steps.proofs.ChainSteps.{log_entry_words}
+use Rattle.log_image.proofs.ChainSteps.{log_entry_words}
 use Rattle.image_steps.proofs.Extension.{Extends, Extended, extended}
-use Rattle.image_steps.proofs.BlockLemmas.{set_here}
+use Rattle.log_image.proofs.BlockLemmas.{set_here}
 use Rattle.image_steps.proofs.SlotLemmas.{IsUsed, IsOpen, words_set, placed_set, closed_set, hole_inside}
-use Rattle.image_steps.proofs.HeaderSteps.{header_shape, header_same, keeps_header, long_words}
-use Rattle.image_steps.proofs.NameLemmas.{is_in, test_in, fits_blocks, different_join, range_different}
+use Rattle.log_image.proofs.HeaderSteps.{header_shape, header_same, long_words}
+use Rattle.image_steps.proofs.KeptHeaders.{keeps_header}
+use Rattle.log_image.proofs.NameLemmas.{is_in, test_in, fits_blocks, different_join, range_different}
 use Rattle.image_steps.proofs.TailLemmas.{split_chain, last_of, AtTail, at_tail, no_lead, name_taken, block_in_blocks, map_in_names, map_new, map_rest}
-use Rattle.image_steps.proofs.SetWordLemmas.{drop_set, set_header, set_front, set_data, set_named, set_names, tail_inside}
+use Rattle.log_image.proofs.SetWordLemmas.{drop_set, set_header, set_front, set_data, set_named, set_names, tail_inside}
 use Rattle.image_steps.proofs.StoreStep.{nothing_after}
 
 -- what a hole that is a slot says

@@ -15,11 +15,11 @@ use Rattle.log_image.specs.Maps.{size_after, end_of}
 use Rattle.log_image.specs.Format.{is_log_entry, is_log_block, is_seal_placed, is_snapshot_block, is_kind_word, HasFormat}
 use Rattle.log_image.proofs.HoldingLemmas.{both_left}
 use Rattle.log_image.proofs.ClearedChains.{both}
-use Rattle.image_steps.specs.SameWords.{SameBlocks}
+use Rattle.log_image.specs.SameWords.{SameBlocks}
 use Rattle.image_steps.specs.Steps.{fits_log}
-use Rattle.image_steps.proofs.ListLemmas.{all_join, all_front, all_back, each_front, each_back}
-use Rattle.image_steps.proofs.ChainSteps.{log_entry_words, snapshots_front, logs_front, snapshots_kept, logs_kept, same_snapshots, same_logs, linked_kept, bases_kept, first_base_kept, first_size_kept, words_kept, logs_go_on}
-use Rattle.image_steps.proofs.EntrySteps.{meanings_kept, entries_kept, names_join, third_of, entries_in, good_block, logs_good, kept_in, kept_same, tests_kept, direct_entries}
+use Rattle.log_image.proofs.ListLemmas.{all_join, all_front, all_back, each_front, each_back}
+use Rattle.log_image.proofs.ChainSteps.{log_entry_words, snapshots_front, logs_front, snapshots_kept, logs_kept, same_snapshots, same_logs, linked_kept, bases_kept, first_base_kept, first_size_kept, words_kept, logs_go_on}
+use Rattle.log_image.proofs.EntrySteps.{meanings_kept, entries_kept, names_join, third_of, entries_in, good_block, logs_good, kept_in, kept_same, tests_kept, direct_entries}
 
 -- the blocks before the tail, and those that the entries name, are the same; the tail has these entries more, and these log
 -- blocks, of no entry yet, follow it

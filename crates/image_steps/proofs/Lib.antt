@@ -1,13 +1,7 @@
-pub mod ListLemmas
-pub mod ChainSteps
-pub mod EntrySteps
 pub mod Extension
-pub mod BlockLemmas
 pub mod SlotLemmas
-pub mod HeaderSteps
-pub mod NameLemmas
+pub mod KeptHeaders
 pub mod TailLemmas
 pub mod StoreStep
-pub mod SetWordLemmas
 pub mod EntryStep
 pub mod LinkStep

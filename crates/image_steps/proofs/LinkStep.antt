@@ -18,17 +18,18 @@ use Rattle.log_image.specs.Holes.{Hole, AtSlot, AtLink, last_block, hole_in, hol
 use Rattle.log_image.specs.Taken.{is_taken}
 use Rattle.log_image.proofs.HoldingLemmas.{both_left}
 use Rattle.log_image.proofs.ImageLemmas.{length_range}
-use Rattle.image_steps.specs.SameWords.{SameHeader}
+use Rattle.log_image.specs.SameWords.{SameHeader}
 use Rattle.image_steps.specs.Steps.{StandsClear, IsFreshLog, TakesBlock, LinksGrowTheLog}
-use Rattle.image_steps.proofs.ChainSteps.{log_entry_words}
-use Rattle.image_steps.proofs.EntrySteps.{placed_in, good_block}
+use Rattle.log_image.proofs.ChainSteps.{log_entry_words}
+use Rattle.log_image.proofs.EntrySteps.{placed_in, good_block}
 use Rattle.image_steps.proofs.Extension.{Extends, Extended, extended}
-use Rattle.image_steps.proofs.BlockLemmas.{set_here, set_elsewhere}
+use Rattle.log_image.proofs.BlockLemmas.{set_here, set_elsewhere}
 use Rattle.image_steps.proofs.SlotLemmas.{no_words, no_seal}
-use Rattle.image_steps.proofs.HeaderSteps.{header_shape, header_same, keeps_header, long_words}
-use Rattle.image_steps.proofs.NameLemmas.{is_in, or_left, different_join}
+use Rattle.log_image.proofs.HeaderSteps.{header_shape, header_same, long_words}
+use Rattle.image_steps.proofs.KeptHeaders.{keeps_header}
+use Rattle.log_image.proofs.NameLemmas.{is_in, or_left, different_join}
 use Rattle.image_steps.proofs.TailLemmas.{split_chain, last_of, AtTail, at_tail, no_lead, chain_taken, in_right, InBlock, after_in_block, by_block}
-use Rattle.image_steps.proofs.SetWordLemmas.{drop_first, set_header, set_front, set_named, set_names, tail_inside}
+use Rattle.log_image.proofs.SetWordLemmas.{drop_first, set_header, set_front, set_named, set_names, tail_inside}
 use Rattle.image_steps.proofs.StoreStep.{nothing_after, holds_kept}
 
 -- what a hole that is a link says

@@ -14,13 +14,14 @@ use Rattle.log_image.specs.Positions.{entries_of}
 use Rattle.log_image.specs.Stands.{HoldsFile, StandsIn}
 use Rattle.log_image.specs.Holes.{Hole, last_block, hole_in, hole_of, IsClear}
 use Rattle.log_image.proofs.ImageLemmas.{in_block}
-use Rattle.image_steps.specs.SameWords.{SameHeader}
+use Rattle.log_image.specs.SameWords.{SameHeader}
 use Rattle.image_steps.specs.Steps.{StandsClear, KeepsTaken, StandsAsBefore, StoresMeanNothing}
-use Rattle.image_steps.proofs.ChainSteps.{log_entry_words}
-use Rattle.image_steps.proofs.EntrySteps.{placed_in}
+use Rattle.log_image.proofs.ChainSteps.{log_entry_words}
+use Rattle.log_image.proofs.EntrySteps.{placed_in}
 use Rattle.image_steps.proofs.Extension.{Extends, Extended, extended}
-use Rattle.image_steps.proofs.HeaderSteps.{header_shape, header_same, keeps_header, long_words}
-use Rattle.image_steps.proofs.NameLemmas.{is_in, each_in, or_left}
+use Rattle.log_image.proofs.HeaderSteps.{header_shape, header_same, long_words}
+use Rattle.image_steps.proofs.KeptHeaders.{keeps_header}
+use Rattle.log_image.proofs.NameLemmas.{is_in, each_in, or_left}
 use Rattle.image_steps.proofs.TailLemmas.{split_chain, last_of, AtTail, at_tail, in_left, in_right, chain_taken, name_taken, map_in_names, clear_kept}
 
 pub nothing_after : {X : Type 0} (xs : List X) → xs ++ [] ≡ xs

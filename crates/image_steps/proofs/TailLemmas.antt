@@ -16,9 +16,9 @@ use Rattle.log_image.specs.Holes.{AtSlot, AtLink, last_block, hole_in, is_after,
 use Rattle.log_image.specs.Taken.{named_blocks, is_taken}
 use Rattle.log_image.proofs.HoldingLemmas.{both_left, both_right}
 use Rattle.log_image.proofs.ImageLemmas.{in_block}
-use Rattle.image_steps.proofs.ListLemmas.{all_back}
-use Rattle.image_steps.proofs.NameLemmas.{is_in, or_left, or_right}
-use Rattle.image_steps.proofs.ChainSteps.{logs_front}
+use Rattle.log_image.proofs.ListLemmas.{all_back}
+use Rattle.log_image.proofs.NameLemmas.{is_in, or_left, or_right}
+use Rattle.log_image.proofs.ChainSteps.{logs_front}
 use Rattle.image_steps.proofs.Extension.{Began}
 
 -- the blocks before the last, and it

@@ -6,7 +6,7 @@ use Rattle.std.proofs.lemmas.Bool.{eqb-true, eqb-false, and_parts, and_from, and
 use Rattle.std.proofs.lemmas.List.{map-append}
 use Rattle.log_image.specs.Image.{Shape}
 use Rattle.log_image.specs.Chains.{all_different}
-use Rattle.image_steps.proofs.NameLemmas.{range_different}
+use Rattle.log_image.proofs.NameLemmas.{range_different}
 use Rattle.seat_parts.specs.Owned.{is_among, owned_but}
 use Rattle.seat_parts.specs.declared.owned.OwnedBlock.{OwnedBlock}
 use Rattle.log_core.specs.Entries.{has}

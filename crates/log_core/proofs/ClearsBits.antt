@@ -2,7 +2,7 @@
 use Rattle.std.proofs.Common.{◌≡◌, ◌≢◌, ℕ, ◌*◌, ◌<◌, ◌||◌, not, Bool, true, false, List, [], length, refl, sym, subst, slice_index}
 use Rattle.std.specs.List.{range_with_len}
 use Rattle.std.proofs.lemmas.List.{length-set}
-use Rattle.image_steps.proofs.NameLemmas.{test_in}
+use Rattle.log_image.proofs.NameLemmas.{test_in}
 use Rattle.seat_parts.specs.Owned.{is_among}
 use Rattle.seat_state.specs.Seats.{Seat, without_bits}
 use Rattle.pmem_words.specs.declared.asks.Place.TheVariants.{Map}

@@ -4,7 +4,7 @@ use Rattle.std.proofs.lemmas.Bool.{false≢true, or_cases, or_left, or_right, an
 use Rattle.std.proofs.lemmas.List.Folds.{list_any-append}
 use Rattle.log_image.specs.Image.{Shape, total}
 use Rattle.log_image.specs.Taken.{bit_of}
-use Rattle.image_steps.proofs.NameLemmas.{different_join}
+use Rattle.log_image.proofs.NameLemmas.{different_join}
 use Rattle.seat_parts.specs.Owned.{is_among}
 use Rattle.seat_parts.specs.declared.owned.OwnedBlock.{OwnedBlock}
 use Rattle.log_core.specs.Entries.{has}

@@ -7,7 +7,7 @@ use Rattle.log_image.specs.Blocks.{link_of, kind_of, is_snapshot, base_of, slots
 use Rattle.log_image.specs.Chains.{snapshots_of, logs_of, Leads, IsLinked, AreLogsFrom}
 use Rattle.log_image.specs.Header.{head_block}
 use Rattle.log_image.specs.Holes.{last_block}
-use Rattle.image_steps.proofs.ChainSteps.{log_entry_words}
+use Rattle.log_image.proofs.ChainSteps.{log_entry_words}
 use Rattle.log_core.specs.Snapshots.{first_or}
 
 -- each of some blocks links to the next, and the last to the block that follows

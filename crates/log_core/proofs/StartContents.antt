@@ -9,7 +9,7 @@ use Rattle.log_image.specs.Entries.{meaning}
 use Rattle.log_image.specs.Chains.{logs_of}
 use Rattle.log_image.specs.Format.{is_log_entry, is_direct, is_indirect, is_indirect_block, fits}
 use Rattle.log_image.specs.Positions.{log_words}
-use Rattle.image_steps.proofs.NameLemmas.{all_good}
+use Rattle.log_image.proofs.NameLemmas.{all_good}
 use Rattle.persistence.specs.Memory.{cell}
 use Rattle.log_core.specs.Entries.{has, place_in, LogEntry, no_entry, entry_by}
 use Rattle.log_core.specs.Views.{View}

@@ -9,8 +9,8 @@ use Rattle.log_image.specs.Stands.{StandsIn}
 use Rattle.log_image.specs.Holes.{hole_of, IsClear}
 use Rattle.log_image.specs.Taken.{HasTaken}
 use Rattle.log_image.proofs.ImageLemmas.{length_range}
-use Rattle.image_steps.proofs.BlockLemmas.{block_inside}
-use Rattle.image_steps.proofs.HeaderSteps.{long_words}
+use Rattle.log_image.proofs.BlockLemmas.{block_inside}
+use Rattle.log_image.proofs.HeaderSteps.{long_words}
 use Rattle.log_core.specs.Origin.{Origin, shape, first_position, first_generation, first_recorded}
 use Rattle.log_core.specs.Starts.{IsStart}
 

@@ -11,14 +11,14 @@ use Rattle.log_image.specs.Chains.{snapshots_of, logs_of}
 use Rattle.log_image.specs.Format.{is_log_block, is_log_entry, is_kind_word, is_seal_placed, is_seal_last}
 use Rattle.log_image.specs.Holes.{Hole, AtSlot, last_block, hole_in, is_after, IsClear}
 use Rattle.log_image.proofs.ImageLemmas.{in_block}
-use Rattle.image_steps.proofs.ListLemmas.{all_back}
+use Rattle.log_image.proofs.ListLemmas.{all_back}
 use Rattle.persistence.specs.Memory.{cell}
-use Rattle.image_steps.proofs.ChainSteps.{log_entry_words}
+use Rattle.log_image.proofs.ChainSteps.{log_entry_words}
 use Rattle.log_core.specs.Entries.{place_in}
 use Rattle.log_core.specs.Origin.{Origin, shape, no_log, log_block, used_slots, first_recorded, first_logs, first_memory, first_base}
 use Rattle.log_core.specs.Cores.{nth_log}
 use Rattle.log_core.specs.Certain.{IsCertain, IsGrowing}
-use Rattle.image_steps.proofs.SetWordLemmas.{log_inside}
+use Rattle.log_image.proofs.SetWordLemmas.{log_inside}
 use Rattle.log_core.proofs.StartFacts.{Facts, block_long}
 use Rattle.log_core.proofs.StartSlots.{open_used}
 use Rattle.log_core.proofs.StartChain.{ChainBlocks, chain_blocks, log_at_place, test_at}

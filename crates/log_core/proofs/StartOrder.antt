@@ -13,7 +13,7 @@ use Rattle.log_image.specs.Blocks.{entry_words, is_closed}
 use Rattle.log_image.specs.Positions.{log_words}
 use Rattle.persistence.specs.Memory.{cell}
 use Rattle.persistence.specs.Survivors.{value_at}
-use Rattle.image_steps.proofs.ChainSteps.{log_entry_words}
+use Rattle.log_image.proofs.ChainSteps.{log_entry_words}
 use Rattle.log_core.specs.Entries.{LogEntry, no_entry, entry_by, head_place}
 use Rattle.log_core.specs.Origin.{Origin, shape, LogBlock, no_log, log_block, used_slots, first_recorded, first_logs, first_memory, first_base, first_position, first_generation, first_entries, start_generation}
 use Rattle.log_core.specs.Files.{entries}

@@ -9,7 +9,7 @@ use Rattle.log_image.specs.Entries.{meaning, names, all_names}
 use Rattle.log_image.specs.Chains.{snapshots_of}
 use Rattle.log_image.specs.Positions.{log_words, log_entries, entries_of}
 use Rattle.log_image.specs.Taken.{named_blocks}
-use Rattle.image_steps.proofs.NameLemmas.{test_in, names_in_data, not_data, different_join}
+use Rattle.log_image.proofs.NameLemmas.{test_in, names_in_data, not_data, different_join}
 use Rattle.log_core.specs.Entries.{has, LogEntry, entry_by, entry_names}
 use Rattle.log_core.specs.Views.{View}
 use Rattle.log_core.specs.Origin.{Origin, shape, Free, Header, InChain, OwnedBy, LeftTo, owner_by, first_owner, first_recorded, first_logs, first_base, first_generation, first_entries, first_snapshot, first_views, start_generation, log_block}
@@ -18,7 +18,7 @@ use Rattle.log_core.specs.Cores.{log_blocks, chain_names, data_names, named, is_
 use Rattle.log_core.specs.Order.{nth_generation}
 use Rattle.log_core.specs.Owners.{bit_for, BitsFit, ChainOwns, IsListOf, SeatOwns, NamesOnce}
 use Rattle.log_core.specs.Invariant.{Owners}
-use Rattle.image_steps.proofs.SetWordLemmas.{log_inside}
+use Rattle.log_image.proofs.SetWordLemmas.{log_inside}
 use Rattle.log_core.proofs.StartFacts.{Facts}
 use Rattle.log_core.proofs.StartViews.{each_view}
 use Rattle.log_core.proofs.StartLogs.{blocks, chained}

@@ -14,7 +14,7 @@ use Rattle.log_image.specs.Format.{is_kind_word, is_snapshot_block}
 use Rattle.log_image.specs.Maps.{map_of, size_after}
 use Rattle.log_image.specs.Entries.{Meaning}
 use Rattle.log_image.proofs.ImageLemmas.{in_block}
-use Rattle.image_steps.proofs.ListLemmas.{all_front}
+use Rattle.log_image.proofs.ListLemmas.{all_front}
 use Rattle.log_core.specs.Entries.{LogEntry, meanings}
 use Rattle.log_core.specs.Origin.{Origin, shape, LogBlock, first_recorded, first_logs, first_snapshot, start_generation}
 use Rattle.log_core.specs.Files.{entries, map_at}

@@ -11,3 +11,10 @@ pub mod Clearing
 pub mod ClearedChains
 pub mod ClearedEntries
 pub mod ClearedImages
+pub mod ListLemmas
+pub mod ChainSteps
+pub mod EntrySteps
+pub mod BlockLemmas
+pub mod HeaderSteps
+pub mod NameLemmas
+pub mod SetWordLemmas

@@ -10,6 +10,7 @@ pub mod Stands
 pub mod Holes
 pub mod Taken
 pub mod Keeps
+pub mod SameWords
 pub mod Recovered
 pub mod JustMade
 pub mod Laws

@@ -16,10 +16,10 @@ use Rattle.log_image.specs.Holes.{AtSlot, AtLink, last_block, hole_in}
 use Rattle.log_image.specs.Taken.{bit_of}
 use Rattle.log_image.proofs.ImageLemmas.{length_range, allowed_shape}
 use Rattle.log_image.proofs.MadeImages.{by_bytes}
-use Rattle.image_steps.proofs.HeaderSteps.{long_words}
-use Rattle.image_steps.proofs.NameLemmas.{is_in, test_in, names_in_data}
+use Rattle.log_image.proofs.HeaderSteps.{long_words}
+use Rattle.log_image.proofs.NameLemmas.{is_in, test_in, names_in_data}
 use Rattle.image_steps.proofs.SlotLemmas.{hole_inside}
-use Rattle.image_steps.proofs.SetWordLemmas.{tail_inside}
+use Rattle.log_image.proofs.SetWordLemmas.{tail_inside}
 use Rattle.image_steps.proofs.TailLemmas.{split_chain, AtTail, at_tail, last_of, name_taken, map_in_names}
 use Rattle.plain_engine.specs.Running.{hole_at, Runs, RunsOnSome}
 

@@ -15,10 +15,10 @@ use Rattle.log_image.specs.Positions.{entries_of}
 use Rattle.log_image.specs.Format.{is_log_entry}
 use Rattle.log_image.specs.Taken.{bit_of, is_taken}
 use Rattle.image_steps.specs.Steps.{IsEntryOf, fits_log}
-use Rattle.image_steps.proofs.NameLemmas.{is_in}
-use Rattle.image_steps.proofs.SetWordLemmas.{past_header}
+use Rattle.log_image.proofs.NameLemmas.{is_in}
+use Rattle.log_image.proofs.SetWordLemmas.{past_header}
 use Rattle.std.proofs.lemmas.List.{get_or-set_other}
-use Rattle.image_steps.proofs.EntrySteps.{direct_entries}
+use Rattle.log_image.proofs.EntrySteps.{direct_entries}
 use Rattle.chain_reader.specs.Tables.{HasMap, HasSize}
 use Rattle.plain_engine.specs.Running.{Runs, AllTakenBefore}
 use Rattle.plain_engine.proofs.RunningSteps.{entry_put}

@@ -4,7 +4,7 @@ use Rattle.std.specs.Prelude.{filter}
 use Rattle.std.specs.List.{range_with_len}
 use Rattle.std.proofs.lemmas.Bool.{cases_lt, eq-eqb, ne_eqb, lt-ltb}
 use Rattle.std.proofs.lemmas.List.{get_or_past, get_or-set_other}
-use Rattle.image_steps.proofs.SetWordLemmas.{past_header}
+use Rattle.log_image.proofs.SetWordLemmas.{past_header}
 use Rattle.block_table.specs.FileMap.{FileMap}
 use Rattle.log_entry.specs.Fields.{field}
 use Rattle.log_entry.specs.Words.{block_word}
@@ -15,8 +15,8 @@ use Rattle.log_image.specs.Holes.{Hole, AtSlot, AtLink, hole_of}
 use Rattle.log_image.specs.Taken.{bit_of, is_taken, HasTaken}
 use Rattle.log_image.proofs.ImageLemmas.{in_block, length_range}
 use Rattle.image_steps.specs.Steps.{KeepsTaken, IsFreshLog}
-use Rattle.image_steps.proofs.BlockLemmas.{block_inside, same_block, set_elsewhere}
-use Rattle.image_steps.proofs.NameLemmas.{not_data}
+use Rattle.log_image.proofs.BlockLemmas.{block_inside, same_block, set_elsewhere}
+use Rattle.log_image.proofs.NameLemmas.{not_data}
 use Rattle.plain_engine.specs.Clear.{AllTaken, IsFirstClear}
 use Rattle.plain_engine.specs.Fresh.{IsFreshWord}
 use Rattle.plain_engine.specs.Running.{Runs}

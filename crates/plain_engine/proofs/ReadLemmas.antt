@@ -20,9 +20,9 @@ use Rattle.log_image.specs.Positions.{snapshot_entries, log_words, log_entries, 
 use Rattle.log_image.specs.Format.{all_zero, fits, is_direct, is_indirect, has_runs, is_log_entry, is_snapshot_entry, is_snapshot_block, HasFormat}
 use Rattle.log_image.specs.Stands.{HoldsFile}
 use Rattle.log_image.proofs.HoldingLemmas.{both_left, both_right, names_none}
-use Rattle.image_steps.proofs.ListLemmas.{all_join}
-use Rattle.image_steps.proofs.EntrySteps.{kept_in}
-use Rattle.image_steps.proofs.NameLemmas.{all_good}
+use Rattle.log_image.proofs.ListLemmas.{all_join}
+use Rattle.log_image.proofs.EntrySteps.{kept_in}
+use Rattle.log_image.proofs.NameLemmas.{all_good}
 use Rattle.log_image.proofs.ClearedChains.{both}
 use Rattle.plain_engine.specs.Bytes.{byte_of, present_byte}
 use Rattle.plain_engine.proofs.WordLemmas.{byte_of_zero}

@@ -15,7 +15,7 @@ use Rattle.image_steps.specs.Steps.{StandsClear, KeepsTaken, StandsAsBefore, IsE
 use Rattle.image_steps.proofs.StoreStep.{stores_mean_nothing, nothing_after}
 use Rattle.image_steps.proofs.EntryStep.{entries_are_writes}
 use Rattle.image_steps.proofs.LinkStep.{links_grow_the_log}
-use Rattle.image_steps.proofs.NameLemmas.{is_in, or_left, or_right}
+use Rattle.log_image.proofs.NameLemmas.{is_in, or_left, or_right}
 use Rattle.chain_reader.specs.Tables.{HasMap}
 use Rattle.plain_engine.specs.Running.{Runs}
 

@@ -13,9 +13,9 @@ use Rattle.log_image.specs.Stands.{StandsBy}
 use Rattle.log_image.specs.Holes.{AtSlot, AtLink, last_block, hole_in, hole_of}
 use Rattle.log_image.specs.Keeps.{Keeps}
 use Rattle.log_image.proofs.ImageLemmas.{length_range}
-use Rattle.image_steps.proofs.HeaderSteps.{long_words}
+use Rattle.log_image.proofs.HeaderSteps.{long_words}
 use Rattle.image_steps.proofs.SlotLemmas.{hole_inside}
-use Rattle.image_steps.proofs.SetWordLemmas.{tail_inside}
+use Rattle.log_image.proofs.SetWordLemmas.{tail_inside}
 use Rattle.image_steps.proofs.TailLemmas.{split_chain, last_of, AtTail, at_tail}
 use Rattle.chain_reader.specs.Tables.{shape_by}
 use Rattle.chain_reader.specs.Ends.{end_slot}

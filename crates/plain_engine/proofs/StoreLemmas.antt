@@ -7,7 +7,7 @@ use Rattle.std.proofs.lemmas.List.{get_or-set_same, get_or-set_other}
 use Rattle.log_entry.specs.Shape.{is_block_bytes}
 use Rattle.log_image.specs.Image.{Shape, words_in, total, block_words, block_content}
 use Rattle.log_image.proofs.ImageLemmas.{in_block, length_range}
-use Rattle.image_steps.proofs.BlockLemmas.{block_inside, same_block}
+use Rattle.log_image.proofs.BlockLemmas.{block_inside, same_block}
 use Rattle.plain_engine.specs.Bytes.{byte_of, laid_byte, present_byte, source_word, IsLaid}
 use Rattle.plain_engine.proofs.WordLemmas.{block_byte, byte_of_zero}
 

@@ -25,7 +25,7 @@ use Rattle.plain_engine.specs.Bytes.{laid_byte, present_byte}
 use Rattle.plain_engine.proofs.CommitLemmas.{HasFields, word_fields}
 use Rattle.plain_engine.proofs.FileLemmas.{write_place, length_write, Touches, touches}
 use Rattle.plain_engine.proofs.WordLemmas.{laid_outside}
-use Rattle.image_steps.proofs.BlockLemmas.{block_inside}
+use Rattle.log_image.proofs.BlockLemmas.{block_inside}
 use Rattle.std.proofs.Math.Nat.{mul-le-mul_right}
 
 -- a run of blocks of the data area, for the virtual blocks that some bytes touch

@@ -1,7 +1,7 @@
 use Rattle.std.proofs.Common.{◌≡◌, ◌∙◌, ◌<◌, ◌≤◌, ◌+◌, ◌*◌, ◌/◌, ◌%◌, ℕ, Some, inl, inr, length, get_or, ap, sym, arith}
 use Rattle.std.proofs.lemmas.Grind.{common_steps}
 use Rattle.log_image.specs.Image.{words_in, total}
-use Rattle.image_steps.proofs.BlockLemmas.{block_inside}
+use Rattle.log_image.proofs.BlockLemmas.{block_inside}
 use Rattle.std.proofs.Math.Nat.{mod-lt}
 use Rattle.block_table.specs.FileMap.{block_at}
 use Rattle.chain_reader.specs.Tables.{shape_by}

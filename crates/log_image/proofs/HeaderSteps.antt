@@ -8,8 +8,7 @@ use Rattle.log_image.specs.Header.{shape_of, HasHeader}
 use Rattle.log_image.specs.declared.header.TheConstants.{HEADER_VERSION, HEADER_BLOCK_POWER, HEADER_UNNAMED, HEADER_DATA, HEADER_LOG}
 use Rattle.log_image.proofs.ImageLemmas.{allowed_shape}
 use Rattle.log_image.proofs.MadeImages.{by_bytes}
-use Rattle.image_steps.specs.SameWords.{SameHeader}
-use Rattle.image_steps.specs.Steps.{KeepsHeader}
+use Rattle.log_image.specs.SameWords.{SameHeader}
 
 shape_by : ℕ → ℕ → Shape
 shape_by one two = record { data_blocks = field HEADER_DATA two; log_blocks = field HEADER_LOG two; block_bytes = 2 ^ field HEADER_BLOCK_POWER one }
@@ -18,12 +17,6 @@ pub header_shape : (old new : List ℕ) → SameHeader old new → shape_of new 
 unfolding shape_by
 header_shape old new same =
     ap (λ (w : ℕ). shape_by w (get_or new 2 0)) (same.each 1 (omega arith)) ∙ ap (λ (w : ℕ). shape_by (get_or old 1 0) w) (same.each 2 (omega arith))
-
-pub keeps_header : (old new : List ℕ) → SameHeader old new → KeepsHeader old new
-keeps_header old new same = record {
-  same_shape = header_shape old new same;
-  same_generation = ap (λ (w : ℕ). field HEAD_GENERATION w) (same.each 3 (omega arith));
-}
 
 pub header_same : (old new : List ℕ) → SameHeader old new → HasHeader old → HasHeader new
 header_same old new same header = record {

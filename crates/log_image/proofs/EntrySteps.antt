@@ -14,9 +14,9 @@ use Rattle.log_image.specs.Blocks.{entry_count, slots_of, entry_words}
 use Rattle.log_image.specs.Format.{fits, is_direct, is_indirect, is_indirect_block, is_log_entry, is_log_block, is_seal_placed}
 use Rattle.log_image.proofs.HoldingLemmas.{both_left, both_right}
 use Rattle.log_image.proofs.ClearedChains.{both}
-use Rattle.image_steps.specs.SameWords.{SameBlocks}
-use Rattle.image_steps.proofs.ListLemmas.{each_front, each_back}
-use Rattle.image_steps.proofs.ChainSteps.{log_entry_words}
+use Rattle.log_image.specs.SameWords.{SameBlocks}
+use Rattle.log_image.proofs.ListLemmas.{each_front, each_back}
+use Rattle.log_image.proofs.ChainSteps.{log_entry_words}
 
 -- an entry means the same where the blocks that it names are the same
 pub meaning_kept : (shape : Shape) (old new : List ℕ) (word : ℕ) → SameBlocks shape old new (names (meaning old shape word)) → meaning new shape word ≡ meaning old shape word

@@ -16,9 +16,9 @@ use Rattle.log_image.specs.Positions.{snapshot_entries, log_words, log_entries, 
 use Rattle.log_image.specs.Format.{all_zero, fits, is_direct, is_indirect, is_indirect_block, has_runs, is_log_entry, is_log_block, is_snapshot_entry, is_snapshot_block, HasFormat}
 use Rattle.log_image.proofs.HoldingLemmas.{both_left, both_right}
 use Rattle.log_image.proofs.ClearedChains.{both}
-use Rattle.image_steps.proofs.ListLemmas.{all_join}
-use Rattle.image_steps.proofs.ChainSteps.{log_entry_words}
-use Rattle.image_steps.proofs.EntrySteps.{entries_in, kept_in}
+use Rattle.log_image.proofs.ListLemmas.{all_join}
+use Rattle.log_image.proofs.ChainSteps.{log_entry_words}
+use Rattle.log_image.proofs.EntrySteps.{entries_in, kept_in}
 
 pub or_left : (a b : Bool) → a ≡ true → (a || b) ≡ true
 or_left a b is = rw is refl

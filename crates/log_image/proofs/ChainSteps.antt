@@ -7,7 +7,7 @@ use Rattle.log_image.specs.Image.{Shape, block_words}
 use Rattle.log_image.specs.Header.{head_block}
 use Rattle.log_image.specs.Blocks.{link_of, is_snapshot, base_of, file_size, slots_of, entry_words, leads_on}
 use Rattle.log_image.specs.Chains.{snapshots_of, logs_of, Leads, IsLinked, first_base, first_size, HaveOneBase, AreLogsFrom}
-use Rattle.image_steps.specs.SameWords.{SameBlocks}
+use Rattle.log_image.specs.SameWords.{SameBlocks}
 
 -- the entries of a log block
 abbrev pub log_entry_words : List ℕ → Shape → ℕ → List ℕ
