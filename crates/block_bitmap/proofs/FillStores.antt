@@ -2,8 +2,8 @@
 use Rattle.std.proofs.Common.{◌≡◌, ◌≢◌, ◌<◌, ◌+◌, ◌*◌, ◌⊎◌, inl, inr, nat_lt, ℕ, zero, suc, Bool, true, false, length, refl, sym, ap, ◌∙◌, subst, arith}
 use Rattle.std.specs.Prelude.{Some}
 use Rattle.std.proofs.lemmas.Bool.{cases_eq, le-ltb, ltb-true, ltb-false}
-use Rattle.seat_state.specs.Seats.{Seat, q_of}
-use Rattle.pmem_words.specs.declared.asks.Turn.TheVariants.{Go}
+use Rattle.pmem_words.specs.Seats.{Seat, q_of}
+use Rattle.pmem_words.specs.declared.machine.Turn.TheVariants.{Go}
 use Rattle.log_core.specs.Views.{Ghost}
 use Rattle.log_core.specs.Origin.{Origin}
 use Rattle.log_core.specs.Works.{stored_at}

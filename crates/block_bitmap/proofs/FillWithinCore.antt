@@ -1,7 +1,7 @@
 -- Filling owned blocks within a core, from every start; and what a fill leaves has one possible value in each word.
 use Rattle.std.proofs.Common.{◌≡◌, ◌<◌, ℕ, true, List, length, refl, ap, ◌∙◌, subst, arith}
-use Rattle.seat_parts.specs.Owned.{owned_at}
-use Rattle.seat_state.specs.Seats.{Seat, q_of}
+use Rattle.pmem_words.specs.Owned.{owned_at}
+use Rattle.pmem_words.specs.Seats.{Seat, q_of}
 use Rattle.persistence.specs.Memory.{Cell, Replaced, Noted, cell}
 use Rattle.log_core.specs.Views.{View, Ghost}
 use Rattle.log_core.specs.Owned.{OwnedHold}

@@ -6,9 +6,9 @@ use Rattle.std.proofs.lemmas.List.{get_or-set_same, get_or-set_other, length-set
 use Rattle.std.proofs.lemmas.List.FromFn.{get_or-map-range_with_len, length-map-range_with_len}
 use Rattle.log_entry.specs.declared.shapes.Geometry.{Geometry}
 use Rattle.log_image.specs.MayStart.{MayStart}
-use Rattle.seat_parts.specs.declared.keeps.Task.{Task}
-use Rattle.seat_state.specs.Seats.{Seat, new_seat}
-use Rattle.seat_state.specs.declared.TheConstants.{SEATS}
+use Rattle.pmem_words.specs.declared.keeps.Task.{Task}
+use Rattle.pmem_words.specs.Seats.{Seat, new_seat}
+use Rattle.pmem_words.specs.declared.TheConstants.{SEATS}
 use Rattle.persistence.specs.Memory.{Memory, Noted, cell, notes_of}
 use Rattle.persistence.specs.Cells.{CellsNow, fresh_memory}
 use Rattle.log_core.specs.Views.{View, Ghost, view_of, spent_view, new_view, no_geometry, op_in}

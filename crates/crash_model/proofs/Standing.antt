@@ -9,16 +9,15 @@ use Rattle.log_image.specs.MayStart.{MayStart}
 use Rattle.log_core.specs.Starts.{origin_of}
 use Rattle.log_core.proofs.StartKept.{kept_start, same_position}
 use Rattle.log_entry.specs.declared.layouts.TheConstants.{SEAL}
-use Rattle.seat_state.specs.Seats.{Seat, q_of, new_seat}
-use Rattle.seat_state.specs.declared.TheConstants.{SEATS}
-use Rattle.pmem_words.specs.Asks.{answer}
-use Rattle.pmem_words.specs.declared.asks.Place.TheVariants.{Image, Pin, Map, FenceOf}
-use Rattle.pmem_words.specs.declared.asks.Ask.{Ask}
-use Rattle.pmem_words.specs.declared.asks.Ask.TheVariants.{Load, Store, Exchange, SetBits, ClearBits, Mark, Fence}
+use Rattle.pmem_words.specs.Seats.{Seat, q_of, new_seat}
+use Rattle.pmem_words.specs.declared.TheConstants.{SEATS}
+use Rattle.asks.specs.Asks.{answer}
+use Rattle.asks.specs.declared.ask.Place.TheVariants.{Image, Pin, Map, FenceOf}
+use Rattle.asks.specs.declared.ask.Ask.{Ask}
+use Rattle.asks.specs.declared.ask.Ask.TheVariants.{Load, Store, Exchange, SetBits, ClearBits, Mark, Fence}
 use Rattle.persistence.specs.Memory.{Memory, found, found_answer, memory_after}
 use Rattle.persistence.specs.Cells.{CellsNow, TakesAsk, cells_after, fresh_memory}
-use Rattle.log_core.specs.Origin.{Origin, first_position}
-use Rattle.log_core.specs.Origin.{q_of as words_in_block}
+use Rattle.log_core.specs.Origin.{Origin, first_position, q_of as words_in_block}
 use Rattle.log_core.specs.Files.{Write}
 use Rattle.log_core.specs.Cores.{Core, first_core}
 use Rattle.log_core.specs.Steps.{Note, Does, Kind, LoadsHead, StoresOwnPin, LoadsPinWord, LoadsImageWord, LoadsBitmapWord, SetsBits, ClearsBits, StoresWord, ExchangesSlot, ExchangesLink, ExchangesHead, MarksWord, Fences, NoKind, kind_of}

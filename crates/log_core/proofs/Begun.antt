@@ -4,9 +4,9 @@ use Rattle.std.specs.List.{AllByRecursion}
 use Rattle.std.proofs.lemmas.List.{length-replicate}
 use Rattle.log_entry.specs.ByteFile.{read}
 use Rattle.log_entry.specs.declared.calls.Call.{Call}
-use Rattle.seat_parts.specs.declared.keeps.Task.{Task}
-use Rattle.seat_parts.specs.declared.keeps.Task.TheVariants.{Pread}
-use Rattle.seat_state.specs.Seats.{Seat}
+use Rattle.pmem_words.specs.declared.keeps.Task.{Task}
+use Rattle.pmem_words.specs.declared.keeps.Task.TheVariants.{Pread}
+use Rattle.pmem_words.specs.Seats.{Seat}
 use Rattle.persistence.specs.Memory.{Noted, cell, notes_of}
 use Rattle.log_core.specs.Views.{Ghost, HeadPut, view_of, op_of}
 use Rattle.log_core.specs.Origin.{Origin, q_of}
@@ -80,7 +80,7 @@ module _ (o : Origin) (c : Core) (n : ℕ) (s : Seat) (g : Ghost) (pin began now
     ready_tail = w.ready_tail;
   }
 
-  scan_begun : (k : ℕ) (h : Rattle.seat_state.specs.Seats.Hold) → ScanHolds s.giving k h → ScanHolds new.giving k h
+  scan_begun : (k : ℕ) (h : Rattle.pmem_words.specs.Seats.Hold) → ScanHolds s.giving k h → ScanHolds new.giving k h
   scan_begun k h r = record { replaced = r.replaced; limbo = r.limbo }
 
   no_running : (position : ℕ) → running_at position s ≡ 0

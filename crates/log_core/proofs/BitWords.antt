@@ -6,8 +6,8 @@ use Rattle.std.proofs.lemmas.Bool.{eqb-true, eqb-false}
 use Rattle.std.proofs.lemmas.List.{get_or-set_same, get_or-set_other}
 use Rattle.std.proofs.Math.Nat.{mod-lt}
 use Rattle.log_image.specs.Taken.{bit_of}
-use Rattle.seat_parts.specs.Owned.{is_among}
-use Rattle.seat_state.specs.Seats.{without_bits}
+use Rattle.pmem_words.specs.Owned.{is_among}
+use Rattle.asks.specs.Asks.{without_bits}
 use Rattle.log_core.specs.Steps.{is_gained}
 
 -- a bit that is set with others, by its value and theirs

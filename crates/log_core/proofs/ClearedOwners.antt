@@ -3,9 +3,9 @@ use Rattle.std.proofs.Common.{◌≡◌, ◌≢◌, ◌⊎◌, ℕ, ◌^◌, ◌
 use Rattle.std.proofs.lemmas.Bool.{and_parts}
 use Rattle.log_image.specs.Image.{Shape, total}
 use Rattle.log_image.specs.Taken.{bit_of}
-use Rattle.seat_parts.specs.Owned.{is_among, owned_but}
-use Rattle.seat_parts.specs.declared.owned.OwnedBlock.{OwnedBlock}
-use Rattle.seat_state.specs.Seats.{without_bits}
+use Rattle.pmem_words.specs.Owned.{is_among, owned_but}
+use Rattle.pmem_words.specs.declared.owned.OwnedBlock.{OwnedBlock}
+use Rattle.asks.specs.Asks.{without_bits}
 use Rattle.log_core.specs.Entries.{has}
 use Rattle.log_core.specs.Origin.{Owner, Free, Header, OwnedBy}
 use Rattle.log_core.specs.Needs.{owned_numbers}

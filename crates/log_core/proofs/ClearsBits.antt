@@ -3,10 +3,11 @@ use Rattle.std.proofs.Common.{◌≡◌, ◌≢◌, ℕ, ◌*◌, ◌<◌, ◌||
 use Rattle.std.specs.List.{range_with_len}
 use Rattle.std.proofs.lemmas.List.{length-set}
 use Rattle.log_image.proofs.NameLemmas.{test_in}
-use Rattle.seat_parts.specs.Owned.{is_among}
-use Rattle.seat_state.specs.Seats.{Seat, without_bits}
-use Rattle.pmem_words.specs.declared.asks.Place.TheVariants.{Map}
-use Rattle.pmem_words.specs.declared.asks.Ask.TheVariants.{ClearBits}
+use Rattle.pmem_words.specs.Owned.{is_among}
+use Rattle.pmem_words.specs.Seats.{Seat}
+use Rattle.asks.specs.Asks.{without_bits}
+use Rattle.asks.specs.declared.ask.Place.TheVariants.{Map}
+use Rattle.asks.specs.declared.ask.Ask.TheVariants.{ClearBits}
 use Rattle.persistence.specs.Memory.{Memory, cell, memory_after}
 use Rattle.log_core.specs.Entries.{has}
 use Rattle.log_core.specs.Views.{Ghost, Stored, view_of}

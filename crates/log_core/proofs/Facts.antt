@@ -1,6 +1,6 @@
 -- What holds of a seat's state by the invariant; and it stays where the seat gives up its kept words.
 use Rattle.std.proofs.Common.{◌<◌, ℕ, List, [], length, refl, arith, inr, slice_index}
-use Rattle.seat_state.specs.Seats.{Seat}
+use Rattle.pmem_words.specs.Seats.{Seat}
 use Rattle.log_core.specs.Views.{View, Ghost, view_of}
 use Rattle.log_core.specs.Origin.{Origin}
 use Rattle.log_core.specs.Cores.{Core}

@@ -1,9 +1,9 @@
 -- A load of a bitmap word changes only what the seat has found taken.
 use Rattle.std.proofs.Common.{ℕ, List, refl, sym, subst, slice_index, bit_or}
 use Rattle.std.proofs.lemmas.List.{length-set, set-get_or}
-use Rattle.seat_state.specs.Seats.{Seat}
-use Rattle.pmem_words.specs.declared.asks.Place.TheVariants.{Map}
-use Rattle.pmem_words.specs.declared.asks.Ask.TheVariants.{Load}
+use Rattle.pmem_words.specs.Seats.{Seat}
+use Rattle.asks.specs.declared.ask.Place.TheVariants.{Map}
+use Rattle.asks.specs.declared.ask.Ask.TheVariants.{Load}
 use Rattle.persistence.specs.Memory.{Memory, memory_after}
 use Rattle.log_core.specs.Views.{Ghost}
 use Rattle.log_core.specs.Origin.{Origin, shape}

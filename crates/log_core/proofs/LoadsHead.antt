@@ -4,8 +4,8 @@ use Rattle.std.specs.List.{AllByRecursion}
 use Rattle.std.proofs.lemmas.Bool.{eqb-true}
 use Rattle.log_entry.specs.Fields.{field}
 use Rattle.log_entry.specs.declared.layouts.TheConstants.{HEAD_GENERATION}
-use Rattle.seat_parts.specs.declared.keeps.KeptWord.{KeptWord}
-use Rattle.seat_state.specs.Seats.{Seat, Hold, Giving}
+use Rattle.pmem_words.specs.declared.keeps.KeptWord.{KeptWord}
+use Rattle.pmem_words.specs.Seats.{Seat, Hold, Giving}
 use Rattle.persistence.specs.Memory.{Noted, cell, notes_of}
 use Rattle.log_core.specs.Entries.{head_place}
 use Rattle.log_core.specs.Views.{Ghost, view_of}

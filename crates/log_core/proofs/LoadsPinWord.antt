@@ -1,7 +1,7 @@
 -- A load of a pin word keeps what holds of the seat's state.
 use Rattle.std.proofs.Common.{◌≡◌, ◌≢◌, ◌<◌, ◌≤◌, ◌+◌, ℕ, true, List, [], ◌∷◌, ◌++◌, take, length, sym, ◌∙◌, ap, subst, arith, ◌⊎◌, ⊎_elim, slice_index}
 use Rattle.std.proofs.lemmas.List.{get_or_push, get_or_append_left, get_or-take, length-take-le, length_push}
-use Rattle.seat_state.specs.Seats.{Seat, Hold}
+use Rattle.pmem_words.specs.Seats.{Seat, Hold}
 use Rattle.persistence.specs.Memory.{cell}
 use Rattle.log_core.specs.Entries.{head_place}
 use Rattle.log_core.specs.Views.{Ghost, view_of}

@@ -1,8 +1,8 @@
 -- A mark of a word of an own block keeps what holds of the seat's state, and leaves the others what they know.
 use Rattle.std.proofs.Common.{◌≡◌, ◌≢◌, ◌++◌, ◌∷◌, ℕ, List, [], length, map, refl, sym, ◌∙◌, ap, arith, slice_index}
 use Rattle.std.proofs.lemmas.List.{map_push}
-use Rattle.seat_state.specs.Seats.{Seat}
-use Rattle.pmem_words.specs.declared.asks.Ask.TheVariants.{Mark}
+use Rattle.pmem_words.specs.Seats.{Seat}
+use Rattle.asks.specs.declared.ask.Ask.TheVariants.{Mark}
 use Rattle.persistence.specs.Memory.{Memory, Noted, Cell, cell, notes_of, memory_after}
 use Rattle.persistence.specs.Survivors.{value_at}
 use Rattle.persistence.proofs.ValueLemmas.{index_at-now}

@@ -5,8 +5,8 @@ use Rattle.std.proofs.lemmas.Bool.{eqb-true}
 use Rattle.std.proofs.lemmas.Bool.Decides.{leb_tells}
 use Rattle.std.proofs.lemmas.List.{length-set, length_push, get_or_past}
 use Rattle.std.proofs.lemmas.List.Elements.{All-from_recursion, recursion_from_All, All-contains_itself}
-use Rattle.pmem_words.specs.declared.asks.Place.TheVariants.{Image}
-use Rattle.pmem_words.specs.declared.asks.Ask.TheVariants.{Store, Mark, Fence}
+use Rattle.asks.specs.declared.ask.Place.TheVariants.{Image}
+use Rattle.asks.specs.declared.ask.Ask.TheVariants.{Store, Mark, Fence}
 use Rattle.persistence.specs.Memory.{Memory, Noted, cell, index_at, notes_of, memory_after}
 use Rattle.persistence.specs.Steps.{IsOrderly, grown}
 use Rattle.persistence.proofs.CellLaws.{stores_grow_cells, others_leave_cells}

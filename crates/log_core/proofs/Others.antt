@@ -3,10 +3,10 @@
 use Rattle.std.proofs.Common.{◌≡◌, ◌≢◌, ◌<◌, ◌≤◌, ◌+◌, ◌-◌, ◌/◌, ◌==◌, ◌||◌, inl, inr, ⊎_elim, ℕ, zero, suc, Bool, true, false, List, [], ◌∷◌, length, map, refl, sym, ◌∙◌, ap, subst, arith}
 use Rattle.std.specs.List.{AllByRecursion}
 use Rattle.std.proofs.lemmas.Bool.{eq-eqb}
-use Rattle.seat_parts.specs.Owned.{owned_at}
-use Rattle.seat_parts.specs.declared.owned.OwnedBlock.{OwnedBlock}
-use Rattle.seat_parts.specs.declared.keeps.KeptWord.{KeptWord}
-use Rattle.seat_state.specs.Seats.{Seat, Hold, Walk, Giving}
+use Rattle.pmem_words.specs.Owned.{owned_at}
+use Rattle.pmem_words.specs.declared.owned.OwnedBlock.{OwnedBlock}
+use Rattle.pmem_words.specs.declared.keeps.KeptWord.{KeptWord}
+use Rattle.pmem_words.specs.Seats.{Seat, Hold, Walk, Giving}
 use Rattle.persistence.specs.Memory.{Memory, Replaced, Noted, Cell, cell, index_at, notes_of}
 use Rattle.persistence.specs.Survivors.{value_at}
 use Rattle.persistence.proofs.ValueLemmas.{index_at-most}
@@ -167,7 +167,7 @@ module _ (o : Origin) (c : Core) (n : ℕ) (m : Memory) (inv : Invariant o c) (l
       not_nil part parts e = cc
 
       fitting : SeatFits o k (view_of c.views k) → OwnedHold (λ word. cell m word) m.past m.notes k (view_of c.views k).ghost (view_of c.views k).seat
-      fitting fits = owned_by k other (ap Rattle.seat_state.specs.Seats.q_of fits.geometry)
+      fitting fits = owned_by k other (ap Rattle.pmem_words.specs.Seats.q_of fits.geometry)
           (ap (λ (geometry : Rattle.log_entry.specs.declared.shapes.Geometry.Geometry). record { data_blocks = geometry.data_blocks; log_blocks = geometry.log_blocks; block_bytes = geometry.block_bytes }) fits.geometry)
           (inv.owned k)
 

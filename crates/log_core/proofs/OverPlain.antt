@@ -2,19 +2,20 @@
 use Rattle.std.proofs.Common.{◌≡◌, ◌<◌, ◌≤◌, ℕ, List, ◌∷◌, length, refl, sym, ◌∙◌, ap, subst, arith, slice_index, slice_set}
 use Rattle.std.proofs.lemmas.List.{length-set, get_or-set_same, get_or-set_other}
 use Rattle.log_entry.specs.declared.calls.Call.{Call}
-use Rattle.seat_state.specs.Seats.{Seat}
-use Rattle.seat_state.specs.declared.TheConstants.{SEATS}
-use Rattle.pmem_words.specs.Asks.{place, becomes, answer}
+use Rattle.pmem_words.specs.Seats.{Seat}
+use Rattle.pmem_words.specs.declared.TheConstants.{SEATS}
+use Rattle.asks.specs.Asks.{place, becomes, answer}
 use Rattle.pmem_words.specs.Scripts.{Script}
 use Rattle.pmem_words.specs.Courses.{over}
 use Rattle.pmem_words.specs.Leads.{Leads, asking, LeadsAt, LeadsAfter}
-use Rattle.pmem_words.specs.PlainWords.{PlainWords, HasWord, word_at, with_word, found_by, plain_takes, plain_answer, plain_after, plain, CanLoad as CanLoadPlain}
-use Rattle.pmem_words.specs.declared.asks.Place.{Place}
-use Rattle.pmem_words.specs.declared.asks.Place.TheVariants.{Image, Pin, Map, FenceOf}
-use Rattle.pmem_words.specs.declared.asks.Ask.{Ask}
-use Rattle.pmem_words.specs.declared.asks.Ask.TheVariants.{Load, Store, Exchange, SetBits, ClearBits, Mark, Fence}
-use Rattle.pmem_words.specs.declared.asks.Turn.{Turn}
-use Rattle.pmem_words.specs.declared.asks.Turn.TheVariants.{Go, Done}
+use Rattle.asks.specs.SharedWords.{SharedWords, word_at, with_word, found_by, answer_of, words_after}
+use Rattle.pmem_words.specs.PlainWords.{HasWord, plain_takes, plain, CanLoad as CanLoadPlain}
+use Rattle.asks.specs.declared.ask.Place.{Place}
+use Rattle.asks.specs.declared.ask.Place.TheVariants.{Image, Pin, Map, FenceOf}
+use Rattle.asks.specs.declared.ask.Ask.{Ask}
+use Rattle.asks.specs.declared.ask.Ask.TheVariants.{Load, Store, Exchange, SetBits, ClearBits, Mark, Fence}
+use Rattle.pmem_words.specs.declared.machine.Turn.{Turn}
+use Rattle.pmem_words.specs.declared.machine.Turn.TheVariants.{Go, Done}
 use Rattle.pmem_words.proofs.PlainLemmas.{leads_plain}
 use Rattle.persistence.specs.Memory.{Memory, Replaced, Noted, found_answer, memory_after}
 use Rattle.persistence.specs.Cells.{HasPlace, CanLoad, TakesAsk}
@@ -30,7 +31,7 @@ use Rattle.log_core.proofs.OneView.{same_or_other}
 use Rattle.log_core.proofs.Serving.{reached_keeps}
 use Rattle.log_core.proofs.Takes.{takes_asked}
 
-module _ (p : PlainWords) (memory : Memory) (agrees : Agrees p memory) where
+module _ (p : SharedWords) (memory : Memory) (agrees : Agrees p memory) where
   -- a word that the core's memory has is found alike in both
   same_word : (at : Place) → CanLoad memory at → word_at p at ≡ word_at memory.now at
   same_word (Image word) has = ap (λ (words : List ℕ). slice_index words word) agrees.words
@@ -111,10 +112,10 @@ module _ (p : PlainWords) (memory : Memory) (agrees : Agrees p memory) where
   same_found ask takes = same_word (place 0 ask) (finds_word ask takes)
 
   -- it answers alike, and they agree after the ask
-  pub same_answer : (ask : Ask) → TakesAsk memory ask → plain_answer p ask ≡ found_answer memory ask
+  pub same_answer : (ask : Ask) → TakesAsk memory ask → answer_of p ask ≡ found_answer memory ask
   same_answer ask takes = ap (λ (found : ℕ). answer ask found) (same_found ask takes)
 
-  pub agrees_after : (seat : ℕ) (ask : Ask) → TakesAsk memory ask → Agrees (plain_after p ask) (memory_after memory seat ask)
+  pub agrees_after : (seat : ℕ) (ask : Ask) → TakesAsk memory ask → Agrees (words_after p ask) (memory_after memory seat ask)
   agrees_after seat ask takes =
       (let new = memory_after memory seat ask in
       subst (λ (found : ℕ). Agrees (with_word p (place 0 ask) (becomes ask found)) new) (sym (same_found ask takes))
@@ -129,13 +130,13 @@ reached_next o c step reached allowed = record {
 }
 
 module _ (o : Origin) (start : Invariant o (first_core o)) (seat number : ℕ) {M Out : Type 0} (script : Script M Out) (rec : Out → Seat → List Call) (Q : Out → Seat → View → Type 0) where
-  leads_at : (m : M) (s : Seat) (turn : Turn Out) (p : PlainWords) → (turn ≡ Go → Leads script (over script plain) (EndsAlone o seat Q) m s p) → ((out : Out) → turn ≡ Done out → EndsAlone o seat Q out s p) →
+  leads_at : (m : M) (s : Seat) (turn : Turn Out) (p : SharedWords) → (turn ≡ Go → Leads script (over script plain) (EndsAlone o seat Q) m s p) → ((out : Out) → turn ≡ Done out → EndsAlone o seat Q out s p) →
       LeadsAt script (over script plain) (EndsAlone o seat Q) m s turn p
   leads_at m s Go p goes ends = goes refl
   leads_at m s (Done out) p goes ends = ends out refl
 
   -- from a core in which the seat has this view, over a memory with its words: each end is one within a core that a run reaches
-  pub over_plain : (m : M) (s : Seat) (v : View) (c : Core) (p : PlainWords) → Leads script (within o seat number script rec) Q m s v → IsReached o c → seat < length c.views → view_of c.views seat ≡ v → Agrees p c.memory →
+  pub over_plain : (m : M) (s : Seat) (v : View) (c : Core) (p : SharedWords) → Leads script (within o seat number script rec) Q m s v → IsReached o c → seat < length c.views → view_of c.views seat ≡ v → Agrees p c.memory →
       Leads script (over script plain) (λ out t q. EndsAlone o seat Q out t q) m s p
   over_plain m s v c p (asking ready goes ends) reached made at agrees =
       (let ask = script.asks m s in
@@ -157,9 +158,9 @@ module _ (o : Origin) (start : Invariant o (first_core o)) (seat number : ℕ) {
       let next_agrees = agrees_after p c.memory agrees seat ask takes in
       leads_plain script (EndsAlone o seat Q) m s p (takes_too p c.memory agrees few ask takes)
       (λ small. subst (λ (x : ℕ). script.admits m s x) (sym same) (ready.admitted f w did))
-      (subst (λ (x : ℕ). LeadsAfter script (over script plain) (EndsAlone o seat Q) (script.after m s x) (plain_after p ask)) (sym same)
-      (leads_at (script.after m s f).machine (script.after m s f).seat (script.after m s f).turn (plain_after p ask)
-      (λ go. over_plain (script.after m s f).machine (script.after m s f).seat w next (plain_after p ask) (goes f w did go) next_reached next_made next_at next_agrees)
+      (subst (λ (x : ℕ). LeadsAfter script (over script plain) (EndsAlone o seat Q) (script.after m s x) (words_after p ask)) (sym same)
+      (leads_at (script.after m s f).machine (script.after m s f).seat (script.after m s f).turn (words_after p ask)
+      (λ go. over_plain (script.after m s f).machine (script.after m s f).seat w next (words_after p ask) (goes f w did go) next_reached next_made next_at next_agrees)
       (λ out stop. record {
         core = next;
         reached = next_reached;

@@ -2,9 +2,9 @@
 use Rattle.std.proofs.Common.{◌≡◌, ◌≢◌, ◌<◌, ◌+◌, ◌*◌, ℕ, true, List, length, sym, ◌∙◌, ap, subst, slice_index, slice_set, Some}
 use Rattle.std.specs.List.{AllByRecursion}
 use Rattle.std.proofs.lemmas.List.{length-set, get_or-set_same, get_or-set_other}
-use Rattle.seat_parts.specs.Owned.{owned_at}
-use Rattle.seat_parts.specs.declared.owned.OwnedBlock.{OwnedBlock}
-use Rattle.seat_state.specs.Seats.{Seat, Blocks}
+use Rattle.pmem_words.specs.Owned.{owned_at}
+use Rattle.pmem_words.specs.declared.owned.OwnedBlock.{OwnedBlock}
+use Rattle.pmem_words.specs.Seats.{Seat, Blocks}
 use Rattle.persistence.specs.Memory.{Noted, Replaced, Cell, cell}
 use Rattle.log_core.specs.Entries.{place_in}
 use Rattle.log_core.specs.Views.{Ghost}

@@ -2,7 +2,7 @@
 use Rattle.std.proofs.Common.{◌≡◌, ◌≢◌, ◌<◌, ◌≤◌, ◌+◌, ◌*◌, ◌/◌, ℕ, true, [], length, map, sym, ◌∙◌, ap, subst, arith}
 use Rattle.std.proofs.Math.Nat.{mul-le-mul_right, lt-div-mul-add}
 use Rattle.log_image.specs.Image.{total}
-use Rattle.seat_state.specs.Seats.{Seat}
+use Rattle.pmem_words.specs.Seats.{Seat}
 use Rattle.persistence.specs.Memory.{Memory, Noted, cell, notes_of}
 use Rattle.log_core.specs.Entries.{has}
 use Rattle.log_core.specs.Views.{Ghost, view_of}
@@ -29,7 +29,7 @@ module _ (o : Origin) (c : Core) (n : ℕ) (s : Seat) (g : Ghost) (pin began : �
   geometry = (f.fits unspent).geometry
 
   pub same_words : words_of s ≡ q_of o
-  same_words = ap Rattle.seat_state.specs.Seats.q_of geometry
+  same_words = ap Rattle.pmem_words.specs.Seats.q_of geometry
 
   module _ (word : ℕ) (owned : has (owned_numbers s.blocks.owned) (word / words_of s) ≡ true) where
     pub word_owner : c.owner (word / q_of o) ≡ OwnedBy n

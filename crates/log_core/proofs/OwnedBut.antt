@@ -4,9 +4,9 @@ use Rattle.std.specs.List.{AllByRecursion}
 use Rattle.std.proofs.lemmas.Bool.{eqb-true, true≢false, and_from}
 use Rattle.std.proofs.lemmas.List.{length-append, length-drop, length-take-le, get_or-take, get_or-drop, get_or_append_left, get_or-append_right}
 use Rattle.std.proofs.lemmas.Nat.{div-mul-add}
-use Rattle.seat_parts.specs.Owned.{owned_at, contents_but, owned_but}
-use Rattle.seat_parts.specs.declared.owned.OwnedBlock.{OwnedBlock}
-use Rattle.seat_state.specs.Seats.{Seat, Blocks}
+use Rattle.pmem_words.specs.Owned.{owned_at, contents_but, owned_but}
+use Rattle.pmem_words.specs.declared.owned.OwnedBlock.{OwnedBlock}
+use Rattle.pmem_words.specs.Seats.{Seat, Blocks}
 use Rattle.persistence.specs.Memory.{Replaced, Noted, Cell}
 use Rattle.log_core.specs.Entries.{has, place_in}
 use Rattle.log_core.specs.Views.{Ghost, Stored}

@@ -6,8 +6,8 @@ use Rattle.std.proofs.lemmas.Bool.Decides.{eqb_tells}
 use Rattle.std.proofs.lemmas.List.{get_or-map}
 use Rattle.std.proofs.lemmas.Nat.{div-mul-add}
 use Rattle.log_image.specs.Image.{Shape, words_in}
-use Rattle.seat_parts.specs.Owned.{owned_at}
-use Rattle.seat_parts.specs.declared.owned.OwnedBlock.{OwnedBlock}
+use Rattle.pmem_words.specs.Owned.{owned_at}
+use Rattle.pmem_words.specs.declared.owned.OwnedBlock.{OwnedBlock}
 use Rattle.log_core.specs.Entries.{place_in}
 use Rattle.log_core.specs.Views.{Stored}
 use Rattle.log_core.specs.Works.{stored_at}

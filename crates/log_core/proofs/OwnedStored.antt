@@ -3,9 +3,9 @@ use Rattle.std.proofs.Common.{◌≡◌, ◌≢◌, ◌<◌, ◌*◌, ◌/◌, �
 use Rattle.std.specs.List.{AllByRecursion}
 use Rattle.std.proofs.lemmas.Bool.{eq-eqb}
 use Rattle.std.proofs.lemmas.List.{length-map}
-use Rattle.seat_parts.specs.Owned.{owned_at}
-use Rattle.seat_parts.specs.declared.owned.OwnedBlock.{OwnedBlock}
-use Rattle.seat_state.specs.Seats.{Seat}
+use Rattle.pmem_words.specs.Owned.{owned_at}
+use Rattle.pmem_words.specs.declared.owned.OwnedBlock.{OwnedBlock}
+use Rattle.pmem_words.specs.Seats.{Seat}
 use Rattle.persistence.specs.Memory.{Noted, Replaced, Cell, index_at, notes_of}
 use Rattle.log_core.specs.Entries.{has, place_in}
 use Rattle.log_core.specs.Views.{Ghost, Stored}

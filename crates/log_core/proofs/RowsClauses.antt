@@ -1,7 +1,7 @@
 -- What one clause alone refuses: bits past a word, marks of owned blocks, floors ahead, and spent views that hold something.
 use Rattle.std.proofs.Common.{◌≡◌, ◌<◌, ◌+◌, ◌*◌, ℕ, zero, suc, true, length, refl, arith, ap}
 use Rattle.std.proofs.lemmas.Bool.{false≢true}
-use Rattle.seat_parts.specs.Owned.{owned_at}
+use Rattle.pmem_words.specs.Owned.{owned_at}
 use Rattle.persistence.specs.Memory.{cell}
 use Rattle.log_core.specs.Entries.{has}
 use Rattle.log_core.specs.Views.{View, view_of}

@@ -1,8 +1,8 @@
 -- Rows of blocks that are given back, and of a sync.
 use Rattle.std.proofs.Common.{◌≡◌, ◌⊎◌, ◌≤◌, ◌<◌, ◌||◌, ◌==◌, ◌∙◌, ℕ, zero, suc, Bool, true, false, List, [], length, refl, sym, inl, inr, arith, ap}
 use Rattle.std.proofs.lemmas.Bool.{false≢true, true≢false}
-use Rattle.seat_parts.specs.Owned.{is_among}
-use Rattle.seat_state.specs.Seats.{Seat}
+use Rattle.pmem_words.specs.Owned.{is_among}
+use Rattle.pmem_words.specs.Seats.{Seat}
 use Rattle.log_core.specs.Entries.{has}
 use Rattle.log_core.specs.Views.{View, view_of}
 use Rattle.log_core.specs.Origin.{Origin, Generation}

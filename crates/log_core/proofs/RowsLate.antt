@@ -10,17 +10,16 @@ use Rattle.log_image.specs.Entries.{direct_meaning}
 use Rattle.log_image.specs.Image.{is_in_data}
 use Rattle.log_image.specs.Maps.{block_in, map_of}
 use Rattle.log_image.proofs.HoldingLemmas.{names_none}
-use Rattle.seat_state.specs.Maps.{map_at as mapped_at}
+use Rattle.pmem_words.specs.Maps.{map_at as mapped_at}
 use Rattle.persistence.specs.Memory.{cell}
 use Rattle.log_core.specs.Views.{view_of}
-use Rattle.log_core.specs.Files.{byte_in}
+use Rattle.log_core.specs.Files.{byte_in, entries}
 use Rattle.log_core.specs.Cores.{IsPinned, generation_at}
 use Rattle.log_core.specs.Steps.{content_of}
 use Rattle.log_core.specs.May.{MayCommit, is_fenced}
 use Rattle.log_core.specs.Walks.{read_meanings}
 use Rattle.log_core.specs.Certain.{IsCertain}
 use Rattle.log_core.specs.Invariant.{names_by}
-use Rattle.log_core.specs.Files.{entries}
 use Rattle.log_core.specs.Synced.{IsSynced, SyncHolds}
 use Rattle.log_core.specs.Samples.{image_a, small_shape}
 use Rattle.log_core.specs.Rows.{to_second}

@@ -11,7 +11,7 @@ use Rattle.log_image.specs.Entries.{direct_meaning}
 use Rattle.log_image.specs.Maps.{block_in, entry_end}
 use Rattle.log_image.specs.Image.{is_in_data}
 use Rattle.log_image.proofs.HoldingLemmas.{names_none}
-use Rattle.seat_state.specs.Seats.{Seat}
+use Rattle.pmem_words.specs.Seats.{Seat}
 use Rattle.log_core.specs.Views.{Marked, op_in, view_of}
 use Rattle.log_core.specs.Files.{byte_in, file_at, accepted_reply}
 use Rattle.log_core.specs.Works.{shape_of}

@@ -3,7 +3,7 @@ use Rattle.std.proofs.Common.{◌≡◌, ◌≢◌, ◌<◌, ℕ, true, List, []
 use Rattle.std.specs.List.{list_all}
 use Rattle.std.proofs.lemmas.Bool.{false≢true, true≢false}
 use Rattle.log_entry.specs.declared.shapes.Area.TheVariants.{Data}
-use Rattle.pmem_words.specs.declared.asks.Ask.{Ask}
+use Rattle.asks.specs.declared.ask.Ask.{Ask}
 use Rattle.log_core.specs.Views.{view_of, op_in}
 use Rattle.log_core.specs.Origin.{Origin, q_of}
 use Rattle.log_core.specs.Cores.{Core}

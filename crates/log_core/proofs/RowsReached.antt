@@ -11,9 +11,9 @@ use Rattle.log_core.specs.Invariant.{Invariant}
 use Rattle.log_core.specs.Samples.{image_a, stepping, number_in}
 use Rattle.log_entry.specs.declared.shapes.Area.TheVariants.{Data}
 use Rattle.log_entry.specs.declared.calls.Op.{Op}
-use Rattle.seat_parts.specs.declared.keeps.Task.TheVariants.{Pwrite, Sync}
-use Rattle.pmem_words.specs.declared.asks.Ask.TheVariants.{Load, Store, SetBits, ClearBits, Mark, Fence}
-use Rattle.pmem_words.specs.declared.asks.Place.TheVariants.{Image, Map}
+use Rattle.pmem_words.specs.declared.keeps.Task.TheVariants.{Pwrite, Sync}
+use Rattle.asks.specs.declared.ask.Ask.TheVariants.{Load, Store, SetBits, ClearBits, Mark, Fence}
+use Rattle.asks.specs.declared.ask.Place.TheVariants.{Image, Map}
 use Rattle.log_core.specs.Entries.{has}
 use Rattle.log_core.specs.Views.{view_of, op_in}
 use Rattle.log_core.specs.Works.{SetsWord, CountsFilled, MaySetWord, worked, shape_of, stored_at, content_word}

@@ -2,7 +2,7 @@
 use Rattle.std.proofs.Common.{◌≡◌, false, [], ◌∷◌, refl, inr, arith, ap, subst, Some}
 use Rattle.std.proofs.lemmas.Bool.{true≢false}
 use Rattle.log_entry.specs.declared.calls.Op.{Op}
-use Rattle.seat_parts.specs.declared.keeps.Task.TheVariants.{Pwrite}
+use Rattle.pmem_words.specs.declared.keeps.Task.TheVariants.{Pwrite}
 use Rattle.log_core.specs.Views.{op_of}
 use Rattle.log_core.specs.Works.{is_quiet, Begins}
 use Rattle.log_core.specs.After.{op_or_size}

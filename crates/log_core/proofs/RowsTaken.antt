@@ -4,8 +4,8 @@ use Rattle.std.proofs.lemmas.Bool.{false≢true, and_parts, eqb-true}
 use Rattle.std.specs.Int.{bit_at}
 use Rattle.log_entry.specs.declared.shapes.Area.{Area}
 use Rattle.log_entry.specs.declared.shapes.Area.TheVariants.{Data, Log, Spare}
-use Rattle.seat_parts.specs.Owned.{is_among}
-use Rattle.seat_parts.specs.declared.keeps.Task.TheVariants.{Pwrite}
+use Rattle.pmem_words.specs.Owned.{is_among}
+use Rattle.pmem_words.specs.declared.keeps.Task.TheVariants.{Pwrite}
 use Rattle.log_core.specs.Views.{Stored, view_of}
 use Rattle.log_core.specs.Works.{shape_of, stored_at, content_word}
 use Rattle.log_core.specs.Needs.{is_in_area, lacking}

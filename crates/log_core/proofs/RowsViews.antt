@@ -4,7 +4,7 @@ use Rattle.std.proofs.lemmas.Bool.{false≢true, true≢false}
 use Rattle.std.specs.Option.{option_or}
 use Rattle.log_image.specs.Entries.{direct_meaning}
 use Rattle.log_image.proofs.HoldingLemmas.{names_none}
-use Rattle.seat_state.specs.Maps.{map_at as mapped_at}
+use Rattle.pmem_words.specs.Maps.{map_at as mapped_at}
 use Rattle.persistence.specs.Memory.{cell}
 use Rattle.log_core.specs.Entries.{has}
 use Rattle.log_core.specs.Views.{view_of}

@@ -2,7 +2,7 @@
 use Rattle.std.proofs.Common.{◌≡◌, ◌≢◌, ◌⊎◌, ◌<◌, ◌+◌, ℕ, zero, suc, List, [], ◌∷◌, refl, sym, ◌∙◌, length, subst, inl, inr, arith, ap, Option, None, Some}
 use Rattle.std.specs.Prelude.{slice_index}
 use Rattle.std.proofs.lemmas.Bool.{false≢true}
-use Rattle.seat_state.specs.Seats.{Seat}
+use Rattle.pmem_words.specs.Seats.{Seat}
 use Rattle.log_core.specs.Works.{kept_at, IsByteAt, MayLay, IsKeptWhole}
 use Rattle.log_core.specs.Rows.{kept, reader, far_reader, with_runs_kept, EntryTakenIn, ReadLays, BaseWords, SnapshotRead}
 use Rattle.log_core.proofs.RowTells.{some_not_none, number_of, offset_of, asked_count}

@@ -2,8 +2,8 @@
 use Rattle.std.proofs.Common.{◌≡◌, ◌<◌, ◌≤◌, ◌+◌, ◌-◌, ℕ, Bool, true, List, length, sym, ◌∙◌, subst, arith, inl, inr, ⊎_elim}
 use Rattle.std.specs.List.{AllByRecursion}
 use Rattle.log_entry.specs.declared.shapes.Area.{Area}
-use Rattle.seat_parts.specs.declared.keeps.Task.TheVariants.{Sync}
-use Rattle.seat_state.specs.Seats.{Seat, Blocks}
+use Rattle.pmem_words.specs.declared.keeps.Task.TheVariants.{Sync}
+use Rattle.pmem_words.specs.Seats.{Seat, Blocks}
 use Rattle.persistence.specs.Memory.{Memory, Noted, cell, notes_of}
 use Rattle.log_core.specs.Views.{View, Ghost, Marked, Stored, view_of}
 use Rattle.log_core.specs.Origin.{Origin, q_of, first_generation, Owner, OwnedBy, LeftTo}

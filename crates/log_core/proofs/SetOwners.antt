@@ -5,8 +5,8 @@ use Rattle.std.proofs.lemmas.List.Folds.{list_any-append}
 use Rattle.log_image.specs.Image.{Shape, total}
 use Rattle.log_image.specs.Taken.{bit_of}
 use Rattle.log_image.proofs.NameLemmas.{different_join}
-use Rattle.seat_parts.specs.Owned.{is_among}
-use Rattle.seat_parts.specs.declared.owned.OwnedBlock.{OwnedBlock}
+use Rattle.pmem_words.specs.Owned.{is_among}
+use Rattle.pmem_words.specs.declared.owned.OwnedBlock.{OwnedBlock}
 use Rattle.log_core.specs.Entries.{has}
 use Rattle.log_core.specs.Origin.{Owner, Free, Header, InChain, OwnedBy, LeftTo}
 use Rattle.log_core.specs.Needs.{owned_numbers}

@@ -2,10 +2,10 @@
 use Rattle.std.proofs.Common.{◌≡◌, ◌≢◌, ℕ, ◌<◌, true, [], length, refl, slice_index, bit_or}
 use Rattle.std.proofs.lemmas.List.{length-set}
 use Rattle.log_image.specs.Image.{total}
-use Rattle.seat_parts.specs.Owned.{is_among}
-use Rattle.seat_state.specs.Seats.{Seat}
-use Rattle.pmem_words.specs.declared.asks.Place.TheVariants.{Map}
-use Rattle.pmem_words.specs.declared.asks.Ask.TheVariants.{SetBits}
+use Rattle.pmem_words.specs.Owned.{is_among}
+use Rattle.pmem_words.specs.Seats.{Seat}
+use Rattle.asks.specs.declared.ask.Place.TheVariants.{Map}
+use Rattle.asks.specs.declared.ask.Ask.TheVariants.{SetBits}
 use Rattle.persistence.specs.Memory.{Memory, cell, memory_after}
 use Rattle.log_core.specs.Views.{Ghost, view_of}
 use Rattle.log_core.specs.Origin.{Origin, shape, Owner}

@@ -8,11 +8,11 @@ use Rattle.std.proofs.lemmas.List.FromFn.{get_or-map-range_with_len}
 use Rattle.std.proofs.lemmas.Bool.Decides.{nat_tests}
 use Rattle.log_entry.specs.declared.shapes.Geometry.{Geometry}
 use Rattle.log_entry.specs.declared.calls.Call.{Call}
-use Rattle.seat_parts.specs.declared.keeps.Task.TheVariants.{Idle, Pread, Sync}
+use Rattle.pmem_words.specs.declared.keeps.Task.TheVariants.{Idle, Pread, Sync}
 use Rattle.log_core.specs.Entries.{has, head_place}
-use Rattle.seat_state.specs.Seats.{Hold, new_seat, no_hold, no_giving, unwalked, bitmap_words}
+use Rattle.pmem_words.specs.Seats.{Hold, new_seat, no_hold, no_giving, unwalked, bitmap_words}
 use Rattle.log_image.proofs.HoldingLemmas.{zeros_after}
-use Rattle.seat_state.proofs.MapLaws.{length_unmapped}
+use Rattle.pmem_words.proofs.MapLaws.{length_unmapped}
 use Rattle.persistence.specs.Memory.{Cell, cell}
 use Rattle.log_core.specs.Views.{View, new_view, spent_view, view_of, no_ghost, no_geometry, HeadPut}
 use Rattle.log_core.specs.Origin.{Origin, q_of, start_generation, first_position, first_generation, first_memory, first_views, first_logs, made_by}

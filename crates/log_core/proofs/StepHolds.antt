@@ -4,10 +4,10 @@ use Rattle.std.specs.List.{list_all}
 use Rattle.std.proofs.lemmas.List.{get_or-set_same, get_or-set_other, length-set, set-get_or}
 use Rattle.log_entry.specs.declared.calls.Op.{Op}
 use Rattle.log_entry.specs.declared.calls.Call.{Call}
-use Rattle.seat_parts.specs.declared.keeps.Task.TheVariants.{Sync}
-use Rattle.seat_state.specs.Seats.{Seat}
-use Rattle.pmem_words.specs.declared.asks.Place.TheVariants.{Image, Pin, Map}
-use Rattle.pmem_words.specs.declared.asks.Ask.TheVariants.{Load, Store, SetBits, ClearBits, Mark, Fence}
+use Rattle.pmem_words.specs.declared.keeps.Task.TheVariants.{Sync}
+use Rattle.pmem_words.specs.Seats.{Seat}
+use Rattle.asks.specs.declared.ask.Place.TheVariants.{Image, Pin, Map}
+use Rattle.asks.specs.declared.ask.Ask.TheVariants.{Load, Store, SetBits, ClearBits, Mark, Fence}
 use Rattle.persistence.specs.Memory.{Memory, memory_after}
 use Rattle.log_core.specs.Entries.{head_place}
 use Rattle.log_core.specs.Views.{View, view_of, op_in}

@@ -1,7 +1,7 @@
 -- A store of the own pin word keeps what holds of the seat's state.
 use Rattle.std.proofs.Common.{◌≡◌, ℕ, false, [], refl, sym, ◌∙◌}
-use Rattle.seat_parts.specs.declared.keeps.Task.TheVariants.{Sync}
-use Rattle.seat_state.specs.Seats.{Seat, Giving}
+use Rattle.pmem_words.specs.declared.keeps.Task.TheVariants.{Sync}
+use Rattle.pmem_words.specs.Seats.{Seat, Giving}
 use Rattle.persistence.specs.Memory.{cell, notes_of}
 use Rattle.log_core.specs.Views.{Ghost, view_of}
 use Rattle.log_core.specs.Origin.{Origin}

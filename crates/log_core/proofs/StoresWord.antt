@@ -1,9 +1,9 @@
 -- A store into a word of an own block keeps what holds of the seat's state, and leaves the others what they know.
 use Rattle.std.proofs.Common.{◌≡◌, ◌≢◌, ◌≤◌, ◌++◌, ◌∷◌, ℕ, List, [], length, refl, sym, ◌∙◌, ap, subst, arith}
 use Rattle.std.proofs.lemmas.List.{get_or_append_left}
-use Rattle.seat_state.specs.Seats.{Seat}
-use Rattle.pmem_words.specs.declared.asks.Place.TheVariants.{Image}
-use Rattle.pmem_words.specs.declared.asks.Ask.TheVariants.{Store}
+use Rattle.pmem_words.specs.Seats.{Seat}
+use Rattle.asks.specs.declared.ask.Place.TheVariants.{Image}
+use Rattle.asks.specs.declared.ask.Ask.TheVariants.{Store}
 use Rattle.persistence.specs.Memory.{Memory, Noted, Cell, cell, index_at, notes_of, memory_after}
 use Rattle.persistence.specs.Steps.{grown}
 use Rattle.persistence.specs.Survivors.{value_at}

@@ -10,10 +10,10 @@ use Rattle.log_entry.specs.declared.calls.CollectRefusal.{CollectRefusal}
 use Rattle.log_entry.specs.declared.calls.CollectRefusal.TheVariants.{Nothing, Overtaken, GenerationLimit}
 use Rattle.log_image.specs.Entries.{names}
 use Rattle.log_image.specs.Rows.{with_words, with_runs}
-use Rattle.pmem_words.specs.declared.asks.Place.TheVariants.{Image, Pin}
-use Rattle.pmem_words.specs.declared.asks.Ask.TheVariants.{Load, Store, Exchange, Mark, Fence}
-use Rattle.seat_parts.specs.declared.keeps.Task.TheVariants.{Pwrite, Size, Sync}
-use Rattle.seat_state.specs.Seats.{Seat, new_seat, no_calling}
+use Rattle.asks.specs.declared.ask.Place.TheVariants.{Image, Pin}
+use Rattle.asks.specs.declared.ask.Ask.TheVariants.{Load, Store, Exchange, Mark, Fence}
+use Rattle.pmem_words.specs.declared.keeps.Task.TheVariants.{Pwrite, Size, Sync}
+use Rattle.pmem_words.specs.Seats.{Seat, new_seat, no_calling}
 use Rattle.persistence.specs.Memory.{cell}
 use Rattle.log_core.specs.Views.{View, view_of, new_view, no_ghost}
 use Rattle.log_core.specs.Origin.{Origin, Free, InChain, LeftTo, first_position}

@@ -4,10 +4,10 @@ use Rattle.std.proofs.Common.{refl, arith}
 use Rattle.log_entry.specs.Shape.{total_of}
 use Rattle.log_entry.specs.declared.shapes.Area.TheVariants.{Data, Spare}
 use Rattle.log_entry.specs.declared.shapes.Geometry.{Geometry}
-use Rattle.pmem_words.specs.declared.asks.Ask.TheVariants.{Store, SetBits, ClearBits, Mark}
-use Rattle.pmem_words.specs.declared.asks.Place.TheVariants.{Image, Map}
-use Rattle.seat_parts.specs.declared.keeps.Task.TheVariants.{Pwrite, Collect}
-use Rattle.seat_state.specs.Seats.{new_seat}
+use Rattle.asks.specs.declared.ask.Ask.TheVariants.{Store, SetBits, ClearBits, Mark}
+use Rattle.asks.specs.declared.ask.Place.TheVariants.{Image, Map}
+use Rattle.pmem_words.specs.declared.keeps.Task.TheVariants.{Pwrite, Collect}
+use Rattle.pmem_words.specs.Seats.{new_seat}
 use Rattle.persistence.specs.Memory.{cell, index_at, notes_of}
 use Rattle.log_core.specs.Views.{View, view_of, spent_view}
 use Rattle.log_core.specs.Origin.{Free, Header, InChain, LeftTo}

@@ -1,9 +1,9 @@
 -- Steps on the bitmap and on own blocks: what they come to, which are offered, which are not yet, and a run of those that are.
 use Rattle.std.specs.Prelude.{ℕ, ◌≡◌, true, false, List, [], ◌∷◌, map, replicate, Some}
 use Rattle.log_entry.specs.declared.shapes.Area.TheVariants.{Data}
-use Rattle.pmem_words.specs.declared.asks.Ask.{Ask}
-use Rattle.pmem_words.specs.declared.asks.Ask.TheVariants.{Load, Store, SetBits, ClearBits, Mark, Fence}
-use Rattle.pmem_words.specs.declared.asks.Place.TheVariants.{Image, Map}
+use Rattle.asks.specs.declared.ask.Ask.{Ask}
+use Rattle.asks.specs.declared.ask.Ask.TheVariants.{Load, Store, SetBits, ClearBits, Mark, Fence}
+use Rattle.asks.specs.declared.ask.Place.TheVariants.{Image, Map}
 use Rattle.persistence.specs.Memory.{cell}
 use Rattle.log_core.specs.Views.{view_of}
 use Rattle.log_core.specs.Origin.{Free, Header, InChain, OwnedBy}

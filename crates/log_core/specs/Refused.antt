@@ -6,9 +6,9 @@ use Rattle.log_entry.specs.declared.calls.Op.TheVariants.{Pread as PreadOp, Sync
 use Rattle.log_entry.specs.declared.calls.Reply.TheVariants.{Bytes, Synced}
 use Rattle.log_image.specs.Entries.{names, all_names}
 use Rattle.log_image.specs.Maps.{map_of, block_in}
-use Rattle.seat_parts.specs.declared.keeps.Task.TheVariants.{Pwrite}
-use Rattle.seat_parts.specs.declared.owned.OwnedBlock.{OwnedBlock}
-use Rattle.seat_state.specs.Seats.{Seat, Walk, Giving}
+use Rattle.pmem_words.specs.declared.keeps.Task.TheVariants.{Pwrite}
+use Rattle.pmem_words.specs.declared.owned.OwnedBlock.{OwnedBlock}
+use Rattle.pmem_words.specs.Seats.{Seat, Walk, Giving}
 use Rattle.persistence.specs.Memory.{Replaced, cell}
 use Rattle.log_core.specs.Views.{view_of}
 use Rattle.log_core.specs.Origin.{Origin, Generation, LogBlock}

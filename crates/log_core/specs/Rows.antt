@@ -10,13 +10,13 @@ use Rattle.log_entry.specs.declared.calls.Reply.TheVariants.{Wrote, Appended, No
 use Rattle.log_entry.specs.declared.calls.WriteRefusal.TheVariants.{TooLong, TooLarge, NoSpace, PositionLimit}
 use Rattle.log_image.specs.Entries.{direct_meaning}
 use Rattle.log_image.specs.Rows.{collected as collected_words}
-use Rattle.pmem_words.specs.declared.asks.Place.TheVariants.{Image, Pin, Map}
-use Rattle.pmem_words.specs.declared.asks.Ask.TheVariants.{Load, Store, Exchange, SetBits, ClearBits, Mark, Fence}
-use Rattle.seat_parts.specs.declared.keeps.KeptWord.{KeptWord}
-use Rattle.seat_parts.specs.declared.keeps.Task.{Task}
-use Rattle.seat_parts.specs.declared.keeps.Task.TheVariants.{Idle, Pwrite, Append, Pread, Size, Sync, Collect}
-use Rattle.seat_parts.specs.declared.owned.OwnedBlock.{OwnedBlock}
-use Rattle.seat_state.specs.Seats.{Seat, Calling, new_seat, no_calling}
+use Rattle.asks.specs.declared.ask.Place.TheVariants.{Image, Pin, Map}
+use Rattle.asks.specs.declared.ask.Ask.TheVariants.{Load, Store, Exchange, SetBits, ClearBits, Mark, Fence}
+use Rattle.pmem_words.specs.declared.keeps.KeptWord.{KeptWord}
+use Rattle.pmem_words.specs.declared.keeps.Task.{Task}
+use Rattle.pmem_words.specs.declared.keeps.Task.TheVariants.{Idle, Pwrite, Append, Pread, Size, Sync, Collect}
+use Rattle.pmem_words.specs.declared.owned.OwnedBlock.{OwnedBlock}
+use Rattle.pmem_words.specs.Seats.{Seat, Calling, new_seat, no_calling}
 use Rattle.persistence.specs.Memory.{cell}
 use Rattle.log_core.specs.Views.{Ghost, view_of, op_in, no_ghost, no_call}
 use Rattle.log_core.specs.Origin.{Origin, Free, Header, InChain, OwnedBy, LeftTo, first_position, first_generation, first_base, first_logs, first_entries, first_owner, start_generation, q_of}

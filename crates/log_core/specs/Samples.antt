@@ -6,12 +6,12 @@ use Rattle.log_entry.specs.declared.shapes.Geometry.{Geometry}
 use Rattle.log_entry.specs.declared.calls.Call.{Call}
 use Rattle.log_image.specs.Image.{Shape}
 use Rattle.log_image.specs.Rows.{two_blocks}
-use Rattle.seat_parts.specs.declared.keeps.Task.{Task}
-use Rattle.seat_parts.specs.declared.keeps.Task.TheVariants.{Pwrite}
-use Rattle.seat_state.specs.Seats.{Seat}
-use Rattle.pmem_words.specs.declared.asks.Ask.{Ask}
-use Rattle.pmem_words.specs.declared.asks.Ask.TheVariants.{Load, Store, SetBits, Mark, Fence}
-use Rattle.pmem_words.specs.declared.asks.Place.TheVariants.{Image, Pin, Map}
+use Rattle.pmem_words.specs.declared.keeps.Task.{Task}
+use Rattle.pmem_words.specs.declared.keeps.Task.TheVariants.{Pwrite}
+use Rattle.pmem_words.specs.Seats.{Seat}
+use Rattle.asks.specs.declared.ask.Ask.{Ask}
+use Rattle.asks.specs.declared.ask.Ask.TheVariants.{Load, Store, SetBits, Mark, Fence}
+use Rattle.asks.specs.declared.ask.Place.TheVariants.{Image, Pin, Map}
 use Rattle.persistence.specs.Memory.{found_answer}
 use Rattle.log_core.specs.Views.{view_of}
 use Rattle.log_core.specs.Origin.{Origin, q_of}

@@ -5,9 +5,9 @@ use Rattle.log_entry.specs.Fields.{field}
 use Rattle.log_entry.specs.declared.layouts.TheConstants.{HEAD_GENERATION}
 use Rattle.log_entry.specs.declared.words.Head.{Head}
 use Rattle.log_entry.specs.declared.calls.Call.{Call}
-use Rattle.seat_state.specs.Seats.{Seat, Hold}
-use Rattle.pmem_words.specs.declared.asks.Turn.{Turn}
-use Rattle.pmem_words.specs.declared.asks.Turn.TheVariants.{Go, Done}
+use Rattle.pmem_words.specs.Seats.{Seat, Hold}
+use Rattle.pmem_words.specs.declared.machine.Turn.{Turn}
+use Rattle.pmem_words.specs.declared.machine.Turn.TheVariants.{Go, Done}
 use Rattle.persistence.specs.Memory.{cell}
 use Rattle.log_core.specs.Entries.{head_place}
 use Rattle.log_core.specs.Views.{Ghost}
