@@ -8,7 +8,7 @@ use Rattle.log_entry.specs.WordBytes.{word_bytes}
 use Rattle.log_entry.specs.declared.calls.Op.{Op}
 use Rattle.log_entry.specs.declared.calls.Op.TheVariants.{Pwrite as PwriteOp}
 use Rattle.log_image.specs.Entries.{direct_meaning}
-use Rattle.log_image.specs.Maps.{block_in, end_of as entry_end}
+use Rattle.log_image.specs.Maps.{block_in, entry_end}
 use Rattle.log_image.specs.Image.{is_in_data}
 use Rattle.log_image.proofs.HoldingLemmas.{names_none}
 use Rattle.pmem_words.specs.Seats.{Seat}

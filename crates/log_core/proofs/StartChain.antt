@@ -4,9 +4,9 @@ use Rattle.std.specs.List.{list_all, flat_map}
 use Rattle.std.proofs.lemmas.Bool.{true≢false, and_parts}
 use Rattle.log_image.specs.Image.{Shape, block_words}
 use Rattle.log_image.specs.Blocks.{link_of, kind_of, is_snapshot, base_of, slots_of, is_closed, leads_on}
-use Rattle.log_image.specs.Chains.{snapshots_of, logs_of, Leads, IsLinked, AreLogsFrom}
+use Rattle.log_image.specs.Chains.{snapshots_of, logs_of, LeadsAlong, IsLinked, AreLogsFrom}
 use Rattle.log_image.specs.Header.{head_block}
-use Rattle.log_image.specs.Holes.{last_block}
+use Rattle.log_image.specs.Tails.{last_block}
 use Rattle.log_image.proofs.ChainSteps.{log_entry_words}
 use Rattle.log_core.specs.Snapshots.{first_or}
 
@@ -23,10 +23,10 @@ pub record Parted (words : List ℕ) (shape : Shape) (block : ℕ) (rest : List 
   pub whole : snapshots_of words shape (block ∷ rest) ++ (first ∷ others) ≡ block ∷ rest
   pub front : first_or (snapshots_of words shape (block ∷ rest)) first ≡ block
   pub last : last_block block rest ≡ last_block first others
-  pub leads : Leads words shape first others
+  pub leads : LeadsAlong words shape first others
   pub links : LinkTo words shape (snapshots_of words shape (block ∷ rest)) first
 
-at_log : (words : List ℕ) (shape : Shape) (block : ℕ) (rest : List ℕ) → is_snapshot (block_words words shape block) ≡ false → Leads words shape block rest → Parted words shape block rest
+at_log : (words : List ℕ) (shape : Shape) (block : ℕ) (rest : List ℕ) → is_snapshot (block_words words shape block) ≡ false → LeadsAlong words shape block rest → Parted words shape block rest
 at_log words shape block rest log leads = record {
   first = block;
   others = rest;
@@ -50,7 +50,7 @@ at_snapshot words shape block next rest snapshot link p = record {
   links = rw snapshot (link ∙ sym p.front, p.links);
 }
 
-pub parted : (words : List ℕ) (shape : Shape) (block : ℕ) (rest : List ℕ) → Leads words shape block rest → Parted words shape block rest
+pub parted : (words : List ℕ) (shape : Shape) (block : ℕ) (rest : List ℕ) → LeadsAlong words shape block rest → Parted words shape block rest
 parted words shape block [] leads = at_log words shape block [] (no_snapshot (is_snapshot (block_words words shape block)) (is_closed (slots_of (block_words words shape block)) && not (link_of (block_words words shape block) == 0)) leads) leads
   where
     no_snapshot : (a b : Bool) → (a || b) ≡ false → a ≡ false
@@ -63,13 +63,13 @@ parted words shape block (next ∷ rest) leads = go (is_snapshot (block_words wo
     go false is p = at_log words shape block (next ∷ rest) is leads
 
 -- each log block but the last leads on to the next, and the last to none
-pub leads_at : (words : List ℕ) (shape : Shape) (first : ℕ) (others : List ℕ) (number : ℕ) → Leads words shape first others → number < length others →
+pub leads_at : (words : List ℕ) (shape : Shape) (first : ℕ) (others : List ℕ) (number : ℕ) → LeadsAlong words shape first others → number < length others →
     (leads_on (block_words words shape (get_or (first ∷ others) number 0)) ≡ true) × (link_of (block_words words shape (get_or (first ∷ others) number 0)) ≡ get_or others number 0)
 leads_at words shape first [] number leads inside = absurd (omega (arith, inside))
 leads_at words shape first (next ∷ others) zero leads inside = (leads.0, leads.1)
 leads_at words shape first (next ∷ others) (suc number) leads inside = leads_at words shape next others number leads.2 (omega (arith, inside))
 
-pub leads_last : (words : List ℕ) (shape : Shape) (first : ℕ) (others : List ℕ) → Leads words shape first others →
+pub leads_last : (words : List ℕ) (shape : Shape) (first : ℕ) (others : List ℕ) → LeadsAlong words shape first others →
     (get_or (first ∷ others) (length others) 0 ≡ last_block first others) × (leads_on (block_words words shape (last_block first others)) ≡ false)
 leads_last words shape first [] leads = (refl, leads)
 leads_last words shape first (next ∷ others) leads = leads_last words shape next others leads.2

@@ -6,7 +6,7 @@ use Rattle.log_entry.specs.declared.shapes.Geometry.{Geometry}
 use Rattle.log_image.specs.Image.{Shape, words_in, total}
 use Rattle.log_image.specs.Header.{shape_of, HasHeader}
 use Rattle.log_image.specs.Stands.{StandsIn}
-use Rattle.log_image.specs.Holes.{hole_of, IsClear}
+use Rattle.log_image.specs.Tails.{tail_of, IsClear}
 use Rattle.log_image.specs.Taken.{HasTaken}
 use Rattle.log_image.proofs.ImageLemmas.{length_range}
 use Rattle.log_image.proofs.BlockLemmas.{block_inside}
@@ -14,12 +14,12 @@ use Rattle.log_image.proofs.HeaderSteps.{long_words}
 use Rattle.log_core.specs.Origin.{Origin, shape, first_position, first_generation, first_recorded}
 use Rattle.log_core.specs.Starts.{IsStart}
 
--- the words are of 64 bits, as many as the shape has, and stand for the file; nothing is behind the hole; and the bitmap is the chain's
+-- the words are of 64 bits, as many as the shape has, and stand for the file; nothing is behind the tail; and the bitmap is the chain's
 pub record Facts (o : Origin) : Type 0 where
   pub small : (place : ℕ) → get_or o.words place 0 < 2 ^ 64
   pub header : HasHeader o.words
   pub stands : StandsIn o.words (shape o) o.chain o.file (first_position o)
-  pub clear : IsClear o.words (shape o) (hole_of o.words (shape o) o.chain)
+  pub clear : IsClear o.words (shape o) (tail_of o.words (shape o) o.chain)
   pub bitmap : HasTaken o.words (shape o) o.chain o.taken
   pub whole : length o.words ≡ total (shape o) * words_in (shape o)
   pub wide : 8 ≤ words_in (shape o)
@@ -39,7 +39,7 @@ facts o start = record {
   small = each_small o.words start.small;
   header = start.stands.header;
   stands = subst (λ (s : Shape). StandsIn o.words s o.chain o.file (first_position o)) same start.stands.stands;
-  clear = subst (λ (s : Shape). IsClear o.words s (hole_of o.words s o.chain)) same start.clear;
+  clear = subst (λ (s : Shape). IsClear o.words s (tail_of o.words s o.chain)) same start.clear;
   bitmap = subst (λ (s : Shape). HasTaken o.words s o.chain o.taken) same start.bitmap;
   whole = subst (λ (s : Shape). length o.words ≡ total s * words_in s) same start.stands.header.whole;
   wide = subst (λ (s : Shape). 8 ≤ words_in s) same (long_words o.words start.stands.header);

@@ -9,7 +9,7 @@ use Rattle.log_image.specs.Image.{Shape, words_in, is_in_log}
 use Rattle.log_image.specs.Blocks.{link_of, kind_of, is_snapshot, base_of, slots_of, entry_words, is_closed, leads_on}
 use Rattle.log_image.specs.Chains.{snapshots_of, logs_of}
 use Rattle.log_image.specs.Format.{is_log_block, is_log_entry, is_kind_word, is_seal_placed, is_seal_last}
-use Rattle.log_image.specs.Holes.{Hole, AtSlot, last_block, hole_in, is_after, IsClear}
+use Rattle.log_image.specs.Tails.{Tail, AtSlot, last_block, tail_in, is_after, IsClear}
 use Rattle.log_image.proofs.ImageLemmas.{in_block}
 use Rattle.log_image.proofs.ListLemmas.{all_back}
 use Rattle.persistence.specs.Memory.{cell}
@@ -30,7 +30,7 @@ certain_at o place value is = record { present = is; before = λ k from to. absu
 pub growing_at : (o : Origin) (place value : ℕ) → get_or o.words place 0 ≡ value → IsGrowing (cell (first_memory o) place) value
 growing_at o place value is = record { present = is; before = λ k from to. absurd (omega (arith, to)) }
 
--- a place behind an open block's hole
+-- a place behind an open block's tail
 behind_slot : (sh : Shape) (block slot index : ℕ) → slot < index → index < words_in sh → is_after sh (AtSlot block slot) (block * words_in sh + index) ≡ true
 behind_slot sh block slot index past inside = tests (block * words_in sh) slot index (words_in sh) past inside
   where
@@ -136,22 +136,22 @@ module _ (o : Origin) (s : Facts o) where
   abbrev pub final : ℕ
   final = length blocks - 1
 
-  -- where the last is open, its link and the slots behind its hole are 0
-  pub hole_is : is_closed (slots_at final) ≡ false → (place : ℕ) → is_after (shape o) (AtSlot (block_at final) (3 + length (entry_words (slots_at final)))) place ≡ true → get_or o.words place 0 ≡ 0
-  hole_is opens = subst (λ (h : Hole). IsClear o.words (shape o) h) same s.clear
+  -- where the last is open, its link and the slots behind its tail are 0
+  pub tail_is : is_closed (slots_at final) ≡ false → (place : ℕ) → is_after (shape o) (AtSlot (block_at final) (3 + length (entry_words (slots_at final)))) place ≡ true → get_or o.words place 0 ≡ 0
+  tail_is opens = subst (λ (h : Tail). IsClear o.words (shape o) h) same s.clear
     where
-      open_hole : (block : ℕ) → is_closed (slots_of (first_recorded o block)) ≡ false → hole_in block (first_recorded o block) ≡ AtSlot block (3 + length (entry_words (slots_of (first_recorded o block))))
-      open_hole block opens = rw opens refl
+      open_tail : (block : ℕ) → is_closed (slots_of (first_recorded o block)) ≡ false → tail_in block (first_recorded o block) ≡ AtSlot block (3 + length (entry_words (slots_of (first_recorded o block))))
+      open_tail block opens = rw opens refl
 
-      same : hole_in (last_block 0 o.chain) (first_recorded o (last_block 0 o.chain)) ≡ AtSlot (block_at final) (3 + length (entry_words (slots_at final)))
-      same = ap (λ (b : ℕ). hole_in b (first_recorded o b)) chained.last ∙ open_hole (block_at final) opens
+      same : tail_in (last_block 0 o.chain) (first_recorded o (last_block 0 o.chain)) ≡ AtSlot (block_at final) (3 + length (entry_words (slots_at final)))
+      same = ap (λ (b : ℕ). tail_in b (first_recorded o b)) chained.last ∙ open_tail (block_at final) opens
 
   pub open_link : is_closed (slots_at final) ≡ false → get_or o.words (place_in (shape o) (block_at final) 0) 0 ≡ 0
-  open_link opens = hole_is opens (place_in (shape o) (block_at final) 0) (link_behind (shape o) (block_at final) (3 + length (entry_words (slots_at final))))
+  open_link opens = tail_is opens (place_in (shape o) (block_at final) 0) (link_behind (shape o) (block_at final) (3 + length (entry_words (slots_at final))))
 
   pub open_slot : is_closed (slots_at final) ≡ false → (k : ℕ) → length (used_slots (slots_at final)) < k → k + 3 < words_in (shape o) → get_or o.words (place_in (shape o) (block_at final) (k + 3)) 0 ≡ 0
   open_slot opens k past inside =
-      hole_is opens (place_in (shape o) (block_at final) (k + 3))
+      tail_is opens (place_in (shape o) (block_at final) (k + 3))
       (behind_slot (shape o) (block_at final) (3 + length (entry_words (slots_at final))) (k + 3) (omega (arith, past, (open_used (slots_at final) opens).1)) inside)
 
   -- as many slots as a block has

@@ -13,7 +13,7 @@ use Rattle.log_entry.specs.declared.calls.Op.TheVariants.{Pwrite, Append}
 use Rattle.log_entry.specs.declared.calls.WriteRefusal.{WriteRefusal}
 use Rattle.log_image.specs.Image.{Shape, is_in_data, is_in_log}
 use Rattle.log_image.specs.Entries.{Meaning, names}
-use Rattle.log_image.specs.Maps.{block_in, end_of as entry_end}
+use Rattle.log_image.specs.Maps.{block_in, entry_end}
 use Rattle.log_image.specs.Chains.{all_different}
 use Rattle.log_image.specs.Format.{fits, is_direct, is_indirect, is_indirect_block}
 use Rattle.pmem_words.specs.Owned.{is_among}

@@ -1,7 +1,7 @@
 -- What a seat's map holds after each of its changes.
 use Rattle.std.proofs.Common.{ℕ, zero, suc, ◌≡◌, ◌+◌, ◌-◌, ◌<◌, if◌then◌else◌, List, [], ◌∷◌, length, refl, ap, ◌∙◌, arith}
 use Rattle.std.specs.Prelude.{Option, None, Some}
-use Rattle.block_table.specs.FileMap.{FileMap, block_at, is_named}
+use Rattle.block_table.specs.FileMap.{FileMap, block_at, is_in_range}
 use Rattle.block_table.specs.declared.TheConstants.{VIRTUAL_BLOCKS}
 use Rattle.pmem_words.specs.Maps.{listed, map_of, unmapped, with_run_at, with_run, map_at}
 
@@ -23,7 +23,7 @@ length_run_at k virt block count (held ∷ map) = ap suc (length_run_at (k + 1) 
 
 -- what stands at a place of a map from virtual block k on, with a run
 abbrev held_with : ℕ → ℕ → ℕ → Option ℕ → ℕ → Option ℕ
-held_with virt block count held v = if is_named virt count v then Some (block + (v - virt)) else held
+held_with virt block count held v = if is_in_range virt count v then Some (block + (v - virt)) else held
 
 at_run : (k virt block count : ℕ) (map : List (Option ℕ)) (v : ℕ) → v < length map → map_at (with_run_at k virt block count map) v ≡ held_with virt block count (map_at map v) (k + v)
 unfolding with_run_at
@@ -51,5 +51,5 @@ unfolding unmapped
 map_at_unmapped v = none_listed VIRTUAL_BLOCKS 0 v
 
 -- a run maps the virtual blocks that it names, and no other
-pub map_at_run : (virt block count : ℕ) (map : List (Option ℕ)) (v : ℕ) → v < length map → map_at (with_run virt block count map) v ≡ (if is_named virt count v then Some (block + (v - virt)) else map_at map v)
+pub map_at_run : (virt block count : ℕ) (map : List (Option ℕ)) (v : ℕ) → v < length map → map_at (with_run virt block count map) v ≡ (if is_in_range virt count v then Some (block + (v - virt)) else map_at map v)
 map_at_run virt block count map v h = at_run 0 virt block count map v h ∙ ap (held_with virt block count (map_at map v)) (let same : 0 + v ≡ v = omega arith in same)

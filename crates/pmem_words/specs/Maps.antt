@@ -1,7 +1,7 @@
 -- A map from virtual to physical blocks as a list: one place for each virtual block of the file.
 use Rattle.std.specs.Prelude.{ℕ, ◌+◌, ◌-◌, if◌then◌else◌, List, [], ◌∷◌, Option, None, Some, slice_index_or}
 use Rattle.std.proofs.Common.{zero, suc}
-use Rattle.block_table.specs.FileMap.{FileMap, block_at, is_named}
+use Rattle.block_table.specs.FileMap.{FileMap, block_at, is_in_range}
 use Rattle.block_table.specs.declared.TheConstants.{VIRTUAL_BLOCKS}
 
 -- what f gives at k and each number after it, n in all
@@ -20,7 +20,7 @@ unmapped = listed 0 VIRTUAL_BLOCKS (λ v. None)
 -- the map, whose first place is virtual block k, with count virtual blocks from virt on mapped to those from block on
 unfoldable pub with_run_at : ℕ → ℕ → ℕ → ℕ → List (Option ℕ) → List (Option ℕ)
 with_run_at k virt block count [] = []
-with_run_at k virt block count (held ∷ map) = (if is_named virt count k then Some (block + (k - virt)) else held) ∷ with_run_at (k + 1) virt block count map
+with_run_at k virt block count (held ∷ map) = (if is_in_range virt count k then Some (block + (k - virt)) else held) ∷ with_run_at (k + 1) virt block count map
 
 -- the map with this run
 abbrev pub with_run : ℕ → ℕ → ℕ → List (Option ℕ) → List (Option ℕ)

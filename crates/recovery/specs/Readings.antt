@@ -1,22 +1,16 @@
 -- What a reading says of the place where the walk stands.
-use Rattle.std.specs.Prelude.{ℕ, ◌*◌, ◌≡◌, ◌≤◌, ◌<◌, ◌^◌, ◌==◌, true, ◌||◌, if◌then◌else◌, List, ◌++◌, length}
+use Rattle.std.specs.Prelude.{ℕ, ◌≡◌, ◌<◌, ◌^◌, true, List, ◌++◌}
 use Rattle.std.specs.List.{list_all}
-use Rattle.log_image.specs.Image.{Shape, total, is_in_data, is_in_log}
+use Rattle.log_image.specs.Image.{Shape, is_in_data, is_in_log}
 use Rattle.log_image.specs.Entries.{all_names}
-use Rattle.log_image.specs.Taken.{bit_of}
+use Rattle.log_image.specs.Taken.{HasBits}
 use Rattle.chain_reader.specs.Tables.{HasMap}
-use Rattle.opening_rules.specs.SlotChecks.{is_among}
 use Rattle.opening_rules.specs.BlockChecks.{Place, is_first}
 use Rattle.recovery.specs.declared.reading.Reading.{Reading}
 
--- the bitmap has a bit for each block of the image, and of these the set ones are those of block 0 and of these blocks
-pub record HasBits (shape : Shape) (taken blocks : List ℕ) : Type 0 where
-  pub room : total shape ≤ 64 * length taken
-  pub bits : (block : ℕ) → block < total shape → bit_of taken block ≡ (if block == 0 || is_among block blocks then 1 else 0)
-
 -- the reading is what the blocks passed come to; those are of the log or spare area, and the ones that their entries name of the data area.
 -- Before the first block the size is 0
-pub record Agrees (shape : Shape) (reading : Reading) (place : Place) : Type 0 where
+pub record HasRead (shape : Shape) (reading : Reading) (place : Place) : Type 0 where
   pub chain : reading.chain.items ≡ place.before
   pub in_logs : reading.in_logs ≡ place.in_logs
   pub position : reading.position ≡ place.position

@@ -1,6 +1,6 @@
 use Rattle.std.proofs.Common.{◌≡◌, ◌+◌, length, drop}
 use Rattle.log_image.specs.Blocks.{slots_of, entry_words, is_closed}
-use Rattle.recovery.proofs.holes.hole_in.Given as goal
+use Rattle.recovery.proofs.tails.tail_in.Given as goal
 
 abbrev pub invariant-loop-slot : goal.invariant-loop-slot
 invariant-loop-slot l = record {
