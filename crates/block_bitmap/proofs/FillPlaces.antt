@@ -15,7 +15,7 @@ use Rattle.log_core.specs.Steps.{StoresWord, effect, owned_with}
 use Rattle.log_core.specs.Invariant.{Invariant}
 use Rattle.log_core.specs.Knows.{Knows}
 use Rattle.log_core.specs.Within.{no_record, adds_at, EntersOffered}
-use Rattle.log_core.proofs.OwnedLists.{block_of}
+use Rattle.log_core.proofs.clauses.OwnedLists.{block_of}
 use Rattle.block_bitmap.specs.OwnedWords.{block_at, image_word, content_at, unfilled}
 use Rattle.block_bitmap.specs.Filling.{HasBlocks}
 use Rattle.block_bitmap.specs.FillWithin.{IsAtBlock}

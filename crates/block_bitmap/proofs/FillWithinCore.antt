@@ -7,9 +7,9 @@ use Rattle.log_core.specs.Views.{View, Ghost}
 use Rattle.log_core.specs.Owned.{OwnedHold}
 use Rattle.log_core.specs.Certain.{IsCertain}
 use Rattle.log_core.specs.Within.{no_record, IsLeft}
-use Rattle.log_core.proofs.Serving.{leads_within, reached_keeps}
-use Rattle.log_core.proofs.OverPlain.{over_plain}
-use Rattle.log_core.proofs.StartMeets.{start_meets}
+use Rattle.log_core.proofs.machines.Serving.{leads_within, reached_keeps}
+use Rattle.log_core.proofs.machines.OverPlain.{over_plain}
+use Rattle.log_core.proofs.starts.StartMeets.{start_meets}
 use Rattle.block_bitmap.specs.OwnedWords.{image_word, content_at}
 use Rattle.block_bitmap.specs.Filling.{fill_of, fill_script, fill_lowers}
 use Rattle.block_bitmap.specs.Filled.{filled_seat}

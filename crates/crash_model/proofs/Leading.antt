@@ -21,7 +21,7 @@ use Rattle.log_core.specs.After.{after}
 use Rattle.log_core.specs.Runs.{Allowed}
 use Rattle.log_core.specs.Within.{no_record, note_of, Did, IsReadyIn, within, IsLinked, IsLeft}
 use Rattle.log_core.specs.Starts.{IsStart}
-use Rattle.log_core.proofs.OneView.{same_or_other}
+use Rattle.log_core.proofs.clauses.OneView.{same_or_other}
 use Rattle.crash_model.specs.Worlds.{WorldNow, Stands, FitsCore, HasFitting, seat_of, world_after, answer_in, told_in, turned}
 use Rattle.crash_model.specs.Led.{IsComputed, IsAtRest, LeadsIn, IsLed, EndsIn, HasEnded, RestsIn, IsResting, HasLeft, IsTurnOf}
 use Rattle.crash_model.proofs.Standing.{stands_after, stands_with}

@@ -23,11 +23,11 @@ use Rattle.log_core.specs.Runs.{MayNumber, is_offered_work}
 use Rattle.log_core.specs.Invariant.{Invariant}
 use Rattle.log_core.specs.Knows.{Knows}
 use Rattle.log_core.specs.Starts.{origin_of}
-use Rattle.log_core.proofs.OneView.{same_or_other}
-use Rattle.log_core.proofs.Parts.{worked_more, may_more, all_more}
-use Rattle.log_core.proofs.Serving.{knows_here, reached_keeps}
-use Rattle.log_core.proofs.StartKept.{same_position}
-use Rattle.log_core.proofs.StartMeets.{start_meets}
+use Rattle.log_core.proofs.clauses.OneView.{same_or_other}
+use Rattle.log_core.proofs.machines.Parts.{worked_more, may_more, all_more}
+use Rattle.log_core.proofs.machines.Serving.{knows_here, reached_keeps}
+use Rattle.log_core.proofs.starts.StartKept.{same_position}
+use Rattle.log_core.proofs.starts.StartMeets.{start_meets}
 use Rattle.crash_model.specs.Worlds.{WorldNow, Stands, seat_of, set_seat, new_world}
 use Rattle.crash_model.specs.Led.{IsComputed, IsAtRest, RestsIn, IsResting, HasNoMarks, MayBeginAt}
 use Rattle.crash_model.proofs.Standing.{stands_with, new_stands_by}

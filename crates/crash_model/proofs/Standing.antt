@@ -7,7 +7,7 @@ use Rattle.std.specs.List.{AllByRecursion, range_with_len}
 use Rattle.std.proofs.lemmas.List.FromFn.{map-range_with_len_more, length-map-range_with_len}
 use Rattle.log_image.specs.MayStart.{MayStart}
 use Rattle.log_core.specs.Starts.{origin_of}
-use Rattle.log_core.proofs.StartKept.{kept_start, same_position}
+use Rattle.log_core.proofs.starts.StartKept.{kept_start, same_position}
 use Rattle.log_entry.specs.declared.layouts.TheConstants.{SEAL}
 use Rattle.pmem_words.specs.Seats.{Seat, q_of, new_seat}
 use Rattle.pmem_words.specs.declared.TheConstants.{SEATS}
@@ -24,10 +24,10 @@ use Rattle.log_core.specs.Steps.{Note, Does, Kind, LoadsHead, StoresOwnPin, Load
 use Rattle.log_core.specs.After.{after, history_after, history_if, write_of, synced_after}
 use Rattle.log_core.specs.Runs.{IsReached}
 use Rattle.log_core.specs.Invariant.{Invariant}
-use Rattle.log_core.proofs.Serving.{reached_keeps}
-use Rattle.log_core.proofs.StartMeets.{start_meets}
-use Rattle.log_core.proofs.Takes.{takes_asked}
-use Rattle.log_core.proofs.OverPlain.{reached_next}
+use Rattle.log_core.proofs.machines.Serving.{reached_keeps}
+use Rattle.log_core.proofs.starts.StartMeets.{start_meets}
+use Rattle.log_core.proofs.machines.Takes.{takes_asked}
+use Rattle.log_core.proofs.machines.OverPlain.{reached_next}
 use Rattle.crash_model.specs.Worlds.{WorldNow, Stands, StandsForSome, FitsCore, HasFitting, StandsAfter, seat_of, rises, rise_if, synced_by, kind_in, world_after, new_world}
 
 -- room is no part of what a world stands for

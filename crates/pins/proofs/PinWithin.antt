@@ -19,8 +19,8 @@ use Rattle.log_core.specs.Invariant.{Invariant}
 use Rattle.log_core.specs.Knows.{Knows}
 use Rattle.log_core.specs.Within.{no_record, adds_at, EntersOffered, Lawful, Serves}
 use Rattle.log_core.proofs.Heads.{head_generation, was_low}
-use Rattle.log_core.proofs.Serving.{leads_within}
-use Rattle.log_core.proofs.StartMeets.{start_meets}
+use Rattle.log_core.proofs.machines.Serving.{leads_within}
+use Rattle.log_core.proofs.starts.StartMeets.{start_meets}
 use Rattle.pins.specs.declared.pin.Pin.TheVariants.{Begin, Publish, Confirm}
 use Rattle.pins.specs.Steps.{generation_in, head_of, head_found, head_found_if, pin_stored}
 use Rattle.pins.specs.Pinning.{pin_script, pin_lowers, confirm_after, confirm_turn}

@@ -9,7 +9,7 @@ use Rattle.pmem_words.specs.Seats.{Seat, new_seat}
 use Rattle.persistence.specs.Memory.{notes_of}
 use Rattle.log_core.specs.Views.{op_of, no_geometry}
 use Rattle.log_core.specs.Works.{Begins, SetsWord, laid_bytes, worked}
-use Rattle.log_core.proofs.OneView.{same_or_other}
+use Rattle.log_core.proofs.clauses.OneView.{same_or_other}
 use Rattle.crash_model.specs.Worlds.{WorldNow, seat_of, set_seat, new_world}
 use Rattle.crash_model.specs.Led.{IsResting, IsTurnOf, HasNoMarks}
 use Rattle.crash_model.proofs.Resting.{begun_rests, word_rests}
