@@ -5,7 +5,7 @@ use Rattle.std.proofs.lemmas.Nat.{div-mul-add}
 use Rattle.std.proofs.lemmas.List.Folds.{list_any-append}
 use Rattle.persistence.specs.Memory.{Memory, cell}
 use Rattle.log_core.specs.Entries.{has, place_in, LogEntry}
-use Rattle.log_core.specs.Origin.{Origin, shape, q_of, OwnedBy, LogBlock, Generation}
+use Rattle.log_core.specs.Origin.{Origin, shape, q_of_origin, OwnedBy, LogBlock, Generation}
 use Rattle.log_core.specs.Files.{entries}
 use Rattle.log_core.specs.Cores.{Core, nth_log, log_blocks, chain_names, data_names, is_named}
 use Rattle.log_core.specs.Order.{nth_generation}
@@ -58,23 +58,23 @@ module _ (o : Origin) (c : Core) (n : ℕ) (m : Memory) (inv : Invariant o c) (l
   pub header_cells : (word : ℕ) → word < 8 → Narrows (cell c.memory word) (cell m word)
   header_cells word low = leaves.cells word (λ mine. (header_apart n).other (sym inv.owners.bits.header ∙ (ap c.owner (sym first) ∙ mine)))
     where
-      first : word / q_of o ≡ 0
-      first = (let wide = inv.sizes.image.wide in ap (λ (w : ℕ). w / q_of o) (omega arith) ∙ div-mul-add 0 (q_of o) word (omega (arith, wide, low)))
+      first : word / q_of_origin o ≡ 0
+      first = (let wide = inv.sizes.image.wide in ap (λ (w : ℕ). w / q_of_origin o) (omega arith) ∙ div-mul-add 0 (q_of_origin o) word (omega (arith, wide, low)))
 
   -- a word of a block that is not the seat's own
-  pub block_cells : (block k : ℕ) → c.owner block ≢ OwnedBy n → k < q_of o → Narrows (cell c.memory (place_in (shape o) block k)) (cell m (place_in (shape o) block k))
-  block_cells block k apart inside = leaves.cells (place_in (shape o) block k) (λ mine. apart (ap c.owner (sym (div-mul-add block (q_of o) k inside)) ∙ mine))
+  pub block_cells : (block k : ℕ) → c.owner block ≢ OwnedBy n → k < q_of_origin o → Narrows (cell c.memory (place_in (shape o) block k)) (cell m (place_in (shape o) block k))
+  block_cells block k apart inside = leaves.cells (place_in (shape o) block k) (λ mine. apart (ap c.owner (sym (div-mul-add block (q_of_origin o) k inside)) ∙ mine))
 
   -- a block that a kept generation names is no seat's own
   pub named_apart : (place block : ℕ) → KeptIn o c place → is_named o c.logs (entries o c.history) (nth_generation c.generations place) block ≡ true → c.owner block ≢ OwnedBy n
   named_apart place block kept named = taken_apart n (c.owner block) ((inv.contents place kept).taken block named)
 
-  pub named_cells : (place block k : ℕ) → KeptIn o c place → is_named o c.logs (entries o c.history) (nth_generation c.generations place) block ≡ true → k < q_of o →
+  pub named_cells : (place block k : ℕ) → KeptIn o c place → is_named o c.logs (entries o c.history) (nth_generation c.generations place) block ≡ true → k < q_of_origin o →
       Narrows (cell c.memory (place_in (shape o) block k)) (cell m (place_in (shape o) block k))
   named_cells place block k kept named inside = block_cells block k (named_apart place block kept named) inside
 
   -- a word of a log block of a kept generation's chain
-  pub log_cells : (place number k : ℕ) → KeptIn o c place → (nth_generation c.generations place).cut ≤ number → number < length c.logs → k < q_of o →
+  pub log_cells : (place number k : ℕ) → KeptIn o c place → (nth_generation c.generations place).cut ≤ number → number < length c.logs → k < q_of_origin o →
       Narrows (cell c.memory (place_in (shape o) (nth_log c.logs number).block k)) (cell m (place_in (shape o) (nth_log c.logs number).block k))
   log_cells place number k kept low inside =
       named_cells place (nth_log c.logs number).block k kept (log_is_named o c.logs (nth_generation c.generations place) number (entries o c.history) low inside)

@@ -20,11 +20,11 @@ bitmap_leaves o c n word value inv = record {
     pins = inv.sizes.words.pins;
     floors = inv.sizes.words.floors;
     reached = inv.sizes.words.reached;
-    notes = inv.sizes.words.notes;
+    pending = inv.sizes.words.pending;
   };
   pins = λ k other. refl;
   cells = λ at other. same_narrows c.memory (with_map_word c.memory word value) at refl;
   values = λ at k inside. refl;
-  notes = λ k other. refl;
+  pending = λ k other. refl;
   times = λ time at past. refl;
 }

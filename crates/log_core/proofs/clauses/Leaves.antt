@@ -1,9 +1,9 @@
 -- What a step of a seat leaves to the others: a memory in which every word but those of the seat's own blocks keeps its values, and the
 -- owner of every block but those that the seat takes or gives back.
 use Rattle.std.proofs.Common.{◌≡◌, ◌≢◌, ◌≤◌, ◌/◌, ℕ, List, length, refl, sym, ◌∙◌, ap, arith, ◌⊎◌, inl, inr, ⊎_elim, slice_index}
-use Rattle.persistence.specs.Memory.{Memory, cell, index_at, notes_of}
+use Rattle.persistence.specs.Memory.{Memory, cell, index_at, pending_of}
 use Rattle.persistence.specs.Survivors.{value_at}
-use Rattle.log_core.specs.Origin.{Origin, q_of, Owner, Free, Header, InChain, OwnedBy, LeftTo}
+use Rattle.log_core.specs.Origin.{Origin, q_of_origin, Owner, Free, Header, InChain, OwnedBy, LeftTo}
 use Rattle.log_core.specs.Cores.{Core}
 use Rattle.log_core.specs.Sizes.{MemoryFits}
 use Rattle.log_core.specs.Contents.{IsStillTaken}
@@ -15,9 +15,9 @@ use Rattle.log_core.proofs.clauses.Narrows.{Narrows, floor_inside}
 pub record Leaves (o : Origin) (c : Core) (n : ℕ) (m : Memory) : Type 0 where
   pub fits : MemoryFits o m (length c.views)
   pub pins : (k : ℕ) → k ≢ n → slice_index m.now.pins k ≡ slice_index c.memory.now.pins k
-  pub cells : (word : ℕ) → c.owner (word / q_of o) ≢ OwnedBy n → Narrows (cell c.memory word) (cell m word)
+  pub cells : (word : ℕ) → c.owner (word / q_of_origin o) ≢ OwnedBy n → Narrows (cell c.memory word) (cell m word)
   pub values : (word k : ℕ) → k ≤ length (cell c.memory word).past → value_at (cell m word) k ≡ value_at (cell c.memory word) k
-  pub notes : (k : ℕ) → k ≢ n → notes_of k m.notes ≡ notes_of k c.memory.notes
+  pub pending : (k : ℕ) → k ≢ n → pending_of k m.pending ≡ pending_of k c.memory.pending
   pub times : (time word : ℕ) → time ≤ length c.memory.past → index_at m.past time word ≡ index_at c.memory.past time word
 
 -- nobody's block, or the seat's own
@@ -89,10 +89,10 @@ taken_apart n whose (inr left) mine = (left_apart n left.0).other (sym left.1 �
 pub pins_leave : (o : Origin) (c : Core) (n : ℕ) → Invariant o c → (pins : List ℕ) → length pins ≡ length c.memory.now.pins → ((k : ℕ) → k ≢ n → slice_index pins k ≡ slice_index c.memory.now.pins k) →
     Leaves o c n (record (c.memory) { now = record (c.memory.now) { pins = pins } })
 pins_leave o c n inv pins same others = record {
-  fits = (let r = inv.sizes.words in record { words = r.words; taken = r.taken; pins = same ∙ r.pins; floors = r.floors; reached = r.reached; notes = r.notes });
+  fits = (let r = inv.sizes.words in record { words = r.words; taken = r.taken; pins = same ∙ r.pins; floors = r.floors; reached = r.reached; pending = r.pending });
   pins = others;
   cells = λ word apart. record { present = refl; past = refl; floor = omega arith; inside = floor_inside c.memory word };
   values = λ word k low. refl;
-  notes = λ k other. refl;
+  pending = λ k other. refl;
   times = λ time word early. refl;
 }

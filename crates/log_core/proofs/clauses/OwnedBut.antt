@@ -7,10 +7,10 @@ use Rattle.std.proofs.lemmas.Nat.{div-mul-add}
 use Rattle.pmem_words.specs.Owned.{owned_at, contents_but, owned_but}
 use Rattle.pmem_words.specs.declared.owned.OwnedBlock.{OwnedBlock}
 use Rattle.pmem_words.specs.Seats.{Seat, Blocks}
-use Rattle.persistence.specs.Memory.{Replaced, Noted, Cell}
+use Rattle.persistence.specs.Memory.{Replaced, PendingMark, Cell}
 use Rattle.log_core.specs.Entries.{has, place_in}
 use Rattle.log_core.specs.Views.{Ghost, Stored}
-use Rattle.log_core.specs.Works.{shape_of, words_of, owned_block, stored_at}
+use Rattle.log_core.specs.Works.{seat_shape, words_of, owned_block, stored_at}
 use Rattle.log_core.specs.Needs.{owned_numbers}
 use Rattle.log_core.specs.Steps.{area_of, stored_but}
 use Rattle.log_core.specs.Owned.{StoredHolds, OwnedHold}
@@ -113,10 +113,10 @@ each_left P Q f gives (x ∷ xs) all = go (f x) refl (each_left P Q f gives xs a
 abbrev pub blocks_left : Seat → (ℕ → Bool) → List ℕ → Blocks
 blocks_left s f found = record (s.blocks) { owned = owned_but f s.blocks.owned; contents = contents_but (words_of s) f s.blocks.owned s.blocks.contents; found = found }
 
-module _ (cells : ℕ → Cell) (past : List Replaced) (notes : List Noted) (n : ℕ) (s : Seat) (g h : Ghost) (old : OwnedHold cells past notes n g s) (f : ℕ → Bool)
+module _ (cells : ℕ → Cell) (past : List Replaced) (pending : List PendingMark) (n : ℕ) (s : Seat) (g h : Ghost) (old : OwnedHold cells past pending n g s) (f : ℕ → Bool)
     (stores : h.stored ≡ stored_but (words_of s) f g.stored) (found : List ℕ) where
-  stored_of_left : AllByRecursion (StoredHolds cells past notes n (words_of s) (owned_numbers (blocks_left s f found).owned)) h.stored
-  stored_of_left = rw stores (each_left (StoredHolds cells past notes n (words_of s) (owned_numbers s.blocks.owned)) (StoredHolds cells past notes n (words_of s) (owned_numbers (blocks_left s f found).owned))
+  stored_of_left : AllByRecursion (StoredHolds cells past pending n (words_of s) (owned_numbers (blocks_left s f found).owned)) h.stored
+  stored_of_left = rw stores (each_left (StoredHolds cells past pending n (words_of s) (owned_numbers s.blocks.owned)) (StoredHolds cells past pending n (words_of s) (owned_numbers (blocks_left s f found).owned))
       (λ (r : Stored). not (f (r.word / words_of s)))
       (λ stored stays holds. record {
         mine = ap (λ (l : List ℕ). has l (stored.word / words_of s)) (numbers_but f s.blocks.owned)
@@ -134,12 +134,12 @@ module _ (cells : ℕ → Cell) (past : List Replaced) (notes : List Noted) (n :
         inside = p.inside;
         same = p.same;
         words = p.words;
-        stored = λ word low. ap (λ (l : List Stored). stored_at l (place_in (shape_of s) (owned_block s p.from) word)) stores
-            ∙ stored_left (words_of s) f g.stored (place_in (shape_of s) (owned_block s p.from) word)
+        stored = λ word low. ap (λ (l : List Stored). stored_at l (place_in (seat_shape s) (owned_block s p.from) word)) stores
+            ∙ stored_left (words_of s) f g.stored (place_in (seat_shape s) (owned_block s p.from) word)
             (ap f (div-mul-add (owned_block s p.from) (words_of s) word low) ∙ p.stays);
       }))
 
-  pub left_hold : OwnedHold cells past notes n h (owning s (blocks_left s f found))
-  left_hold = owned_stays cells past notes n s (blocks_left s f found) g h old (contents_left (words_of s) f s.blocks.owned s.blocks.contents old.contents)
-      (each_left (λ (o : OwnedBlock). o.area ≡ area_of (shape_of s) o.block) (λ (o : OwnedBlock). o.area ≡ area_of (shape_of s) o.block) (λ (o : OwnedBlock). not (f o.block)) (λ o stays is. is) s.blocks.owned old.areas)
+  pub left_hold : OwnedHold cells past pending n h (owning s (blocks_left s f found))
+  left_hold = owned_stays cells past pending n s (blocks_left s f found) g h old (contents_left (words_of s) f s.blocks.owned s.blocks.contents old.contents)
+      (each_left (λ (o : OwnedBlock). o.area ≡ area_of (seat_shape s) o.block) (λ (o : OwnedBlock). o.area ≡ area_of (seat_shape s) o.block) (λ (o : OwnedBlock). not (f o.block)) (λ o stays is. is) s.blocks.owned old.areas)
       stored_of_left places_of_left

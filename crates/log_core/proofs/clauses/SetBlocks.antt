@@ -4,9 +4,9 @@ use Rattle.std.specs.List.{AllByRecursion}
 use Rattle.log_entry.specs.declared.shapes.Area.{Area}
 use Rattle.pmem_words.specs.declared.keeps.Task.TheVariants.{Sync}
 use Rattle.pmem_words.specs.Seats.{Seat, Blocks}
-use Rattle.persistence.specs.Memory.{Memory, Noted, cell, notes_of}
-use Rattle.log_core.specs.Views.{View, Ghost, Marked, Stored, view_of}
-use Rattle.log_core.specs.Origin.{Origin, q_of, first_generation, Owner, OwnedBy, LeftTo}
+use Rattle.persistence.specs.Memory.{Memory, PendingMark, cell, pending_of}
+use Rattle.log_core.specs.Views.{View, Ghost, MarkedWord, Stored, view_of}
+use Rattle.log_core.specs.Origin.{Origin, q_of_origin, first_generation, Owner, OwnedBy, LeftTo}
 use Rattle.log_core.specs.Files.{entries}
 use Rattle.log_core.specs.Cores.{Core, head_floor}
 use Rattle.log_core.specs.Needs.{owned_numbers}
@@ -26,21 +26,21 @@ abbrev pub with_blocks : Seat → Blocks → Bool → Seat
 with_blocks s b fenced = record s { blocks = b; giving = record (s.giving) { head_fenced = fenced } }
 
 -- what contracts alone see of it, with other marks and stored words, and areas in which it found too few blocks
-abbrev pub with_marks : Ghost → List Marked → List Stored → List Area → Ghost
+abbrev pub with_marks : Ghost → List MarkedWord → List Stored → List Area → Ghost
 with_marks g marks stored lacked = record { marks = marks; stored = stored; call = record (g.call) { lacked = lacked } }
 
 -- what has to hold of the new blocks and marks
-pub record FitsBlocks (o : Origin) (n : ℕ) (v : View) (m : Memory) (owner : ℕ → Owner) (s : Seat) (g : Ghost) (b : Blocks) (fenced : Bool) (marks : List Marked) (stored : List Stored) (lacked : List Area) (notes : List Noted) : Type 0 where
+pub record FitsBlocks (o : Origin) (n : ℕ) (v : View) (m : Memory) (owner : ℕ → Owner) (s : Seat) (g : Ghost) (b : Blocks) (fenced : Bool) (marks : List MarkedWord) (stored : List Stored) (lacked : List Area) (pending : List PendingMark) : Type 0 where
   pub found : length b.found ≡ length s.blocks.found
   pub named : length b.named ≡ length s.blocks.named
   pub owns : IsListOf owner (owned_numbers b.owned) (OwnedBy n)
-  pub owned : OwnedHold (λ word. cell m word) m.past m.notes n (with_marks g marks stored lacked) (with_blocks s b fenced)
+  pub owned : OwnedHold (λ word. cell m word) m.past m.pending n (with_marks g marks stored lacked) (with_blocks s b fenced)
   pub sure : fenced ≡ true → s.giving.replaced_generation < first_generation o + head_floor m
-  pub marks_fit : MarksFit (λ word. cell m word) m.past m.notes n (with_seat v (with_blocks s b fenced) (with_marks g marks stored lacked))
-  pub same_notes : s.calling.job ≡ Sync → notes_of n m.notes ≡ notes
+  pub marks_fit : MarksFit (λ word. cell m word) m.past m.pending n (with_seat v (with_blocks s b fenced) (with_marks g marks stored lacked))
+  pub same_notes : s.calling.job ≡ Sync → pending_of n m.pending ≡ pending
 
 module _ (o : Origin) (c : Core) (n : ℕ) (s : Seat) (g : Ghost) (pin began : ℕ) (m : Memory) (owner : ℕ → Owner) (inv : Invariant o c) (leaves : Leaves o c n m) (changes : Changes c n owner) (f : Knows o c n s g pin began)
-    (b : Blocks) (fenced : Bool) (marks : List Marked) (stored : List Stored) (lacked : List Area) (fits : FitsBlocks o n (view_of c.views n) m owner s g b fenced marks stored lacked (notes_of n c.memory.notes)) where
+    (b : Blocks) (fenced : Bool) (marks : List MarkedWord) (stored : List Stored) (lacked : List Area) (fits : FitsBlocks o n (view_of c.views n) m owner s g b fenced marks stored lacked (pending_of n c.memory.pending)) where
   -- a generation that is kept now was kept before
   kept_before : (place : ℕ) → KeptIn o (moved c m owner) place → KeptIn o c place
   kept_before place kept = ⊎_elim
@@ -86,8 +86,8 @@ module _ (o : Origin) (c : Core) (n : ℕ) (s : Seat) (g : Ghost) (pin began : �
     marks = fits.marks_fit;
     syncs = (let r = f.syncs in record {
       to = r.to;
-      marks = λ sync. subst (λ (notes : List Noted). AllByRecursion (SyncMarkHolds (q_of o) (names_by o c.logs (entries o c.history) c.generations) (λ word. cell m word) m.past s.hold.generation) notes) (sym (fits.same_notes sync))
-          (sync_marks_left o c n m inv leaves s (λ valid place same. pinned valid place same) from_first (notes_of n c.memory.notes) (r.valid sync) (notes_early o c n inv) (r.marks sync));
+      marks = λ sync. subst (λ (pending : List PendingMark). AllByRecursion (SyncMarkHolds (q_of_origin o) (names_by o c.logs (entries o c.history) c.generations) (λ word. cell m word) m.past s.hold.generation) pending) (sym (fits.same_notes sync))
+          (sync_marks_left o c n m inv leaves s (λ valid place same. pinned valid place same) from_first (pending_of n c.memory.pending) (r.valid sync) (notes_early o c n inv) (r.marks sync));
       valid = λ sync some. r.valid sync (λ none. some (fits.same_notes sync ∙ none));
       answered = r.answered;
     });

@@ -5,10 +5,10 @@ use Rattle.std.specs.List.{AllByRecursion}
 use Rattle.std.proofs.lemmas.List.{length-set}
 use Rattle.log_entry.specs.declared.calls.Call.{Call}
 use Rattle.pmem_words.specs.Seats.{Seat}
-use Rattle.persistence.specs.Memory.{Memory, Noted, cell}
+use Rattle.persistence.specs.Memory.{Memory, PendingMark, cell}
 use Rattle.log_core.specs.Entries.{has, head_place}
 use Rattle.log_core.specs.Views.{View, Ghost, view_of, spent_view}
-use Rattle.log_core.specs.Origin.{Origin, shape, q_of, first_generation, Owner, OwnedBy, LeftTo}
+use Rattle.log_core.specs.Origin.{Origin, shape, q_of_origin, first_generation, Owner, OwnedBy, LeftTo}
 use Rattle.log_core.specs.Files.{entries, end_of}
 use Rattle.log_core.specs.Cores.{Core, current, head_floor, nth_log, IsPinned}
 use Rattle.log_core.specs.Sizes.{Sizes, SeatFits}
@@ -90,7 +90,7 @@ module _ (o : Origin) (c : Core) (n : ℕ) (s : Seat) (g : Ghost) (m : Memory) (
       pins = leaves.fits.pins;
       floors = leaves.fits.floors;
       reached = leaves.fits.reached;
-      notes = subst (λ (k : ℕ). AllByRecursion (λ (note : Noted). (note.seat < k) × (note.word < length o.words) × (note.time ≤ length m.past)) m.notes) (sym count) leaves.fits.notes;
+      pending = subst (λ (k : ℕ). AllByRecursion (λ (note : PendingMark). (note.seat < k) × (note.word < length o.words) × (note.time ≤ length m.past)) m.pending) (sym count) leaves.fits.pending;
     };
     some = subst (λ (k : ℕ). 0 < k) (sym count) inv.sizes.some;
     few = subst (λ (k : ℕ). k ≤ o.seats) (sym count) inv.sizes.few;
@@ -170,8 +170,8 @@ module _ (o : Origin) (c : Core) (n : ℕ) (s : Seat) (g : Ghost) (m : Memory) (
   walks = each_set (λ (k : ℕ) (v : View). v.parts ≢ [] → WalkHolds (around o new) v.seat.hold v.seat.walk) c.views n w here
       (λ some. walk_mine (facts.walk some)) (λ k other some. walk_left o c n m inv leaves views owner began kept_before (view_of c.views k).seat.hold (view_of c.views k).seat.walk (pin_kept o c n m inv leaves k) (inv.walks k some))
 
-  owned : (seat : ℕ) → OwnedHold (λ word. cell m word) m.past m.notes seat (view_of views seat).ghost (view_of views seat).seat
-  owned = each_set (λ (k : ℕ) (v : View). OwnedHold (λ word. cell m word) m.past m.notes k v.ghost v.seat) c.views n w here facts.owned (λ k other. owned_left o c n m inv leaves k other)
+  owned : (seat : ℕ) → OwnedHold (λ word. cell m word) m.past m.pending seat (view_of views seat).ghost (view_of views seat).seat
+  owned = each_set (λ (k : ℕ) (v : View). OwnedHold (λ word. cell m word) m.past m.pending k v.ghost v.seat) c.views n w here facts.owned (λ k other. owned_left o c n m inv leaves k other)
 
   scans : (seat other : ℕ) → ScanHolds (view_of views seat).seat.giving other (view_of views other).seat.hold
   scans seat other = each_set (λ (k : ℕ) (v : View). ScanHolds v.seat.giving other (view_of views other).seat.hold) c.views n w here
@@ -205,7 +205,7 @@ module _ (o : Origin) (c : Core) (n : ℕ) (s : Seat) (g : Ghost) (m : Memory) (
     calls = each_set (λ (k : ℕ) (v : View). CallHolds o c.history v) c.views n w here facts.calls (λ k other. inv.records.calls k);
     tails = each_set (λ (k : ℕ) (v : View). TailHolds v (slice_index began k)) c.views n w here facts.tail
         (λ k other. subst (λ (end : ℕ). TailHolds (view_of c.views k) end) (sym (other_began k other)) (inv.records.tails k));
-    marks = each_set (λ (k : ℕ) (v : View). MarksFit (λ word. cell m word) m.past m.notes k v) c.views n w here facts.marks (λ k other. marks_left o c n m inv leaves k other (inv.records.marks k));
+    marks = each_set (λ (k : ℕ) (v : View). MarksFit (λ word. cell m word) m.past m.pending k v) c.views n w here facts.marks (λ k other. marks_left o c n m inv leaves k other (inv.records.marks k));
   }
 
   syncs : Syncs o m views c.history c.generations c.logs c.synced
@@ -214,7 +214,7 @@ module _ (o : Origin) (c : Core) (n : ℕ) (s : Seat) (g : Ghost) (m : Memory) (
     words = λ place number low inside cut less. (let kept : KeptIn o c place = record { inside = inside; why = inl (let rises = floor_up in omega (arith, low, rises)) } in
         synced_narrows (shape o) (λ word. cell c.memory word) (λ word. cell m word) c.synced (nth_log c.logs number) (nth_log c.logs (number + 1)) (inv.order.log.inside number less)
         (λ k within. log_cells o c n m inv leaves place number k kept cut less within) (inv.syncs.words place number (let rises = floor_up in omega (arith, low, rises)) inside cut less));
-    views_hold = each_set (λ (k : ℕ) (v : View). SyncHolds (q_of o) (names_by o c.logs (entries o c.history) c.generations) (λ word. cell m word) m.past m.notes c.synced k v) c.views n w here facts.syncs
+    views_hold = each_set (λ (k : ℕ) (v : View). SyncHolds (q_of_origin o) (names_by o c.logs (entries o c.history) c.generations) (λ word. cell m word) m.past m.pending c.synced k v) c.views n w here facts.syncs
         (λ k other. sync_left o c n m inv leaves k other (inv.syncs.views_hold k));
   }
 

@@ -7,12 +7,12 @@ use Rattle.log_entry.specs.declared.calls.Call.{Call}
 use Rattle.pmem_words.specs.declared.keeps.Task.{Task}
 use Rattle.pmem_words.specs.declared.keeps.Task.TheVariants.{Pread}
 use Rattle.pmem_words.specs.Seats.{Seat}
-use Rattle.persistence.specs.Memory.{Noted, cell, notes_of}
+use Rattle.persistence.specs.Memory.{PendingMark, cell, pending_of}
 use Rattle.log_core.specs.Views.{Ghost, HeadPut, view_of, op_of}
-use Rattle.log_core.specs.Origin.{Origin, q_of}
+use Rattle.log_core.specs.Origin.{Origin, q_of_origin}
 use Rattle.log_core.specs.Files.{file_at, entries}
 use Rattle.log_core.specs.Cores.{Core}
-use Rattle.log_core.specs.Works.{Begins, worked, laid_bytes, MayBegin}
+use Rattle.log_core.specs.Works.{Begins, state_after_work, laid_bytes, MayBegin}
 use Rattle.log_core.specs.Steps.{call_if}
 use Rattle.log_core.specs.Walks.{WalkHolds}
 use Rattle.log_core.specs.Giving.{ScanHolds}
@@ -39,7 +39,7 @@ never_both either put none some = cc
 module _ (o : Origin) (c : Core) (n : ℕ) (s : Seat) (g : Ghost) (pin began now : ℕ) (f : Knows o c n s g pin began) (task : Task) (bytes : List ℕ) (number : ℕ) (b : Bool)
     (may : MayBegin g s task bytes) (higher : b ≡ true → g.call.number < number) (begun : op_of task bytes ≢ None → b ≡ true) where
   abbrev pub new : Seat
-  new = worked s (Begins task bytes)
+  new = state_after_work s (Begins task bytes)
 
   abbrev pub ghost : Ghost
   ghost = record g { call = call_if b g.call number }
@@ -101,8 +101,8 @@ module _ (o : Origin) (c : Core) (n : ℕ) (s : Seat) (g : Ghost) (pin began now
     put_runs = λ some. absurd (some (put_none b));
   }
 
-  notes_none : notes_of n c.memory.notes ≡ []
-  notes_none = no_notes (mark_of (λ word. cell c.memory word) c.memory.past) (notes_of n c.memory.notes) (sym may.no_marks ∙ f.marks)
+  notes_none : pending_of n c.memory.pending ≡ []
+  notes_none = no_notes (mark_of (λ word. cell c.memory word) c.memory.past) (pending_of n c.memory.pending) (sym may.no_marks ∙ f.marks)
 
   pub begun_facts : Knows o c n new ghost pin now
   begun_facts = record {
@@ -132,7 +132,7 @@ module _ (o : Origin) (c : Core) (n : ℕ) (s : Seat) (g : Ghost) (pin began now
     marks = f.marks;
     syncs = record {
       to = λ position same. cc;
-      marks = λ same. subst (λ (notes : List Noted). AllByRecursion (SyncMarkHolds (q_of o) (names_by o c.logs (entries o c.history) c.generations) (λ word. cell c.memory word) c.memory.past s.hold.generation) notes) (sym notes_none) tt;
+      marks = λ same. subst (λ (pending : List PendingMark). AllByRecursion (SyncMarkHolds (q_of_origin o) (names_by o c.logs (entries o c.history) c.generations) (λ word. cell c.memory word) c.memory.past s.hold.generation) pending) (sym notes_none) tt;
       valid = λ same some. absurd (some notes_none);
       answered = f.syncs.answered;
     };

@@ -77,7 +77,7 @@ module _ (o : Origin) (c : Core) (n : ℕ) (s : Seat) (g : Ghost) (pin began wor
     found = length-set s.blocks.found word (without_bits (slice_index s.blocks.found word) bits);
     named = refl;
     owns = cleared_list (shape o) c.memory.now.taken c.owner n word bits s.blocks.owned inv.owners.bits inside may.small f.owns.owned mine;
-    owned = left_hold (λ at. cell left at) left.past left.notes n s g (ghost_after g s after (ClearsBits word bits) value) f.owned (λ block. is_among word bits block) refl given.blocks.found;
+    owned = left_hold (λ at. cell left at) left.past left.pending n s g (ghost_after g s after (ClearsBits word bits) value) f.owned (λ block. is_among word bits block) refl given.blocks.found;
     sure = f.giving.replaced_sure;
     marks_fit = f.marks;
     same_notes = λ sync. refl;

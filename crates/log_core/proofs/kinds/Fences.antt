@@ -8,11 +8,11 @@ use Rattle.pmem_words.specs.declared.keeps.Task.{Task}
 use Rattle.pmem_words.specs.declared.keeps.Task.TheVariants.{Sync}
 use Rattle.pmem_words.specs.Seats.{Seat}
 use Rattle.asks.specs.declared.ask.Ask.TheVariants.{Fence}
-use Rattle.persistence.specs.Memory.{Memory, Noted, cell, index_at, notes_of, memory_after}
+use Rattle.persistence.specs.Memory.{Memory, PendingMark, cell, index_at, pending_of, memory_after}
 use Rattle.persistence.specs.Survivors.{value_at}
 use Rattle.persistence.proofs.ValueLemmas.{index_at-most}
 use Rattle.log_core.specs.Entries.{head_place}
-use Rattle.log_core.specs.Views.{Ghost, Marked, view_of}
+use Rattle.log_core.specs.Views.{Ghost, MarkedWord, view_of}
 use Rattle.log_core.specs.Origin.{Origin, OwnedBy, first_generation}
 use Rattle.log_core.specs.Order.{nth_generation, front_of}
 use Rattle.log_core.specs.Cores.{Core, head_floor}
@@ -61,7 +61,7 @@ module _ (o : Origin) (c : Core) (n : ℕ) (s : Seat) (g : Ghost) (pin began : �
     pins = λ k other. refl;
     cells = λ k apart. narrows k;
     values = λ k j inside. value_narrows (cell c.memory k) (cell m k) (narrows k) j;
-    notes = fenced_others o c.memory (length c.views) inv.sizes.words n;
+    pending = fenced_others o c.memory (length c.views) inv.sizes.words n;
     times = λ time k early. refl;
   }
 
@@ -76,14 +76,14 @@ module _ (o : Origin) (c : Core) (n : ℕ) (s : Seat) (g : Ghost) (pin began : �
 
   -- a head that was marked outlasts a crash from the fence on, or a later one does
   head_sure : is_head_marked s.giving.replaced_generation g.marks ≡ true → s.giving.replaced_generation < first_generation o + head_floor m
-  head_sure marked = any_each (λ (note : Noted). index_at c.memory.past note.time note.word ≤ (cell m note.word).floor) (λ (note : Noted). is_above (mark_of (λ word. cell c.memory word) c.memory.past note)) (notes_of n c.memory.notes)
-      (sym (any_map (mark_of (λ word. cell c.memory word) c.memory.past) is_above (notes_of n c.memory.notes)) ∙ (ap (list_any is_above) (sym f.marks) ∙ marked))
+  head_sure marked = any_each (λ (note : PendingMark). index_at c.memory.past note.time note.word ≤ (cell m note.word).floor) (λ (note : PendingMark). is_above (mark_of (λ word. cell c.memory word) c.memory.past note)) (pending_of n c.memory.pending)
+      (sym (any_map (mark_of (λ word. cell c.memory word) c.memory.past) is_above (pending_of n c.memory.pending)) ∙ (ap (list_any is_above) (sym f.marks) ∙ marked))
       (fenced_reaches o c.memory (length c.views) inv.sizes.words n) at_note
     where
-      is_above : Marked → Bool
+      is_above : MarkedWord → Bool
       is_above mark = (mark.word == head_place) && nat_lt s.giving.replaced_generation (field HEAD_GENERATION mark.value)
 
-      at_note : (note : Noted) → ((note.word == head_place) && nat_lt s.giving.replaced_generation (field HEAD_GENERATION (value_at (cell c.memory note.word) (index_at c.memory.past note.time note.word)))) ≡ true →
+      at_note : (note : PendingMark) → ((note.word == head_place) && nat_lt s.giving.replaced_generation (field HEAD_GENERATION (value_at (cell c.memory note.word) (index_at c.memory.past note.time note.word)))) ≡ true →
           index_at c.memory.past note.time note.word ≤ (cell m note.word).floor → s.giving.replaced_generation < first_generation o + head_floor m
       at_note note above reaches =
           (let parts = both (note.word == head_place) (nat_lt s.giving.replaced_generation (field HEAD_GENERATION (value_at (cell c.memory note.word) (index_at c.memory.past note.time note.word)))) above in
@@ -95,12 +95,12 @@ module _ (o : Origin) (c : Core) (n : ℕ) (s : Seat) (g : Ghost) (pin began : �
           let above_it : s.giving.replaced_generation < field HEAD_GENERATION (value_at (cell c.memory head_place) (index_at c.memory.past note.time head_place)) = ltb-true s.giving.replaced_generation _ test in
           omega (arith, above_it, is, low))
 
-  fits_blocks : FitsBlocks o n (view_of c.views n) m (λ block. c.owner block) s g (fenced_blocks s) (s.giving.head_fenced || is_head_marked s.giving.replaced_generation g.marks) [] g.stored g.call.lacked (notes_of n c.memory.notes)
+  fits_blocks : FitsBlocks o n (view_of c.views n) m (λ block. c.owner block) s g (fenced_blocks s) (s.giving.head_fenced || is_head_marked s.giving.replaced_generation g.marks) [] g.stored g.call.lacked (pending_of n c.memory.pending)
   fits_blocks = record {
     found = refl;
     named = refl;
     owns = subst (λ (list : List ℕ). IsListOf (λ block. c.owner block) list (OwnedBy n)) (sym (fenced_numbers s)) f.owns.owned;
-    owned = owned_fenced (λ k. cell c.memory k) (λ k. cell m k) c.memory.past c.memory.notes m.notes n (s.giving.head_fenced || is_head_marked s.giving.replaced_generation g.marks) g s f.owned narrows
+    owned = owned_fenced (λ k. cell c.memory k) (λ k. cell m k) c.memory.past c.memory.pending m.pending n (s.giving.head_fenced || is_head_marked s.giving.replaced_generation g.marks) g s f.owned narrows
         (fenced_present o c.memory (length c.views) inv.sizes.words n) _ refl;
     sure = λ fenced. ⊎_elim
         (λ (old : s.giving.head_fenced ≡ true). (let sure = f.giving.replaced_sure old in let rises = floor_rises o c n m inv fence_leaves in omega (arith, sure, rises)))

@@ -6,10 +6,10 @@ use Rattle.log_entry.specs.Fields.{field}
 use Rattle.log_entry.specs.declared.layouts.TheConstants.{HEAD_GENERATION}
 use Rattle.pmem_words.specs.declared.keeps.KeptWord.{KeptWord}
 use Rattle.pmem_words.specs.Seats.{Seat, Hold, Giving}
-use Rattle.persistence.specs.Memory.{Noted, cell, notes_of}
+use Rattle.persistence.specs.Memory.{PendingMark, cell, pending_of}
 use Rattle.log_core.specs.Entries.{head_place}
 use Rattle.log_core.specs.Views.{Ghost, view_of}
-use Rattle.log_core.specs.Origin.{Origin, shape, q_of, first_generation}
+use Rattle.log_core.specs.Origin.{Origin, shape, q_of_origin, first_generation}
 use Rattle.log_core.specs.Files.{entries}
 use Rattle.log_core.specs.Cores.{Core, current, generation_at, is_named, head_floor, IsPinned}
 use Rattle.log_core.specs.Pins.{PinHolds}
@@ -132,17 +132,17 @@ module _ (o : Origin) (c : Core) (n : ℕ) (s : Seat) (g : Ghost) (pin began wor
     limbo = λ inside free valid. scan.limbo inside free (valid_either s.hold.valid valid);
   }
 
-  some_notes : (note : Noted) (notes : List Noted) → (note ∷ notes) ≢ []
-  some_notes note notes e = cc
+  some_notes : (note : PendingMark) (pending : List PendingMark) → (note ∷ pending) ≢ []
+  some_notes note pending e = cc
 
-  abbrev Marked : ℕ → Noted → Type 0
-  Marked generation note = SyncMarkHolds (q_of o) (names_by o c.logs (entries o c.history) c.generations) (λ place. cell c.memory place) c.memory.past generation note
+  abbrev Marked : ℕ → PendingMark → Type 0
+  Marked generation note = SyncMarkHolds (q_of_origin o) (names_by o c.logs (entries o c.history) c.generations) (λ place. cell c.memory place) c.memory.past generation note
 
-  sync_marks : (b : Bool) (notes : List Noted) → (notes ≢ [] → s.hold.valid ≡ true) → AllByRecursion (Marked s.hold.generation) notes →
-      AllByRecursion (Marked (if b then s.hold.pin else s.hold.generation)) notes
+  sync_marks : (b : Bool) (pending : List PendingMark) → (pending ≢ [] → s.hold.valid ≡ true) → AllByRecursion (Marked s.hold.generation) pending →
+      AllByRecursion (Marked (if b then s.hold.pin else s.hold.generation)) pending
   sync_marks b [] valid all = all
-  sync_marks b (note ∷ notes) valid all = subst (λ (generation : ℕ). AllByRecursion (Marked generation) (note ∷ notes))
-      (sym (valid_same b (valid (some_notes note notes)))) all
+  sync_marks b (note ∷ pending) valid all = subst (λ (generation : ℕ). AllByRecursion (Marked generation) (note ∷ pending))
+      (sym (valid_same b (valid (some_notes note pending)))) all
 
   loaded_facts : (b : Bool) → (b ≡ true → s.hold.pin ≡ current o c.generations) → Knows o c n (loaded_by b s word) g pin began
   loaded_facts b is = record {
@@ -172,7 +172,7 @@ module _ (o : Origin) (c : Core) (n : ℕ) (s : Seat) (g : Ghost) (pin began wor
     marks = f.marks;
     syncs = (let r = f.syncs in record {
       to = r.to;
-      marks = λ sync. sync_marks b (notes_of n c.memory.notes) (r.valid sync) (r.marks sync);
+      marks = λ sync. sync_marks b (pending_of n c.memory.pending) (r.valid sync) (r.marks sync);
       valid = λ sync some. rw (r.valid sync some) refl;
       answered = r.answered;
     });

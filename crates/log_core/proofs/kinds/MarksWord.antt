@@ -3,10 +3,10 @@ use Rattle.std.proofs.Common.{◌≡◌, ◌≢◌, ◌++◌, ◌∷◌, ℕ, Li
 use Rattle.std.proofs.lemmas.List.{map_push}
 use Rattle.pmem_words.specs.Seats.{Seat}
 use Rattle.asks.specs.declared.ask.Ask.TheVariants.{Mark}
-use Rattle.persistence.specs.Memory.{Memory, Noted, Cell, cell, notes_of, memory_after}
+use Rattle.persistence.specs.Memory.{Memory, PendingMark, Cell, cell, pending_of, memory_after}
 use Rattle.persistence.specs.Survivors.{value_at}
 use Rattle.persistence.proofs.ValueLemmas.{index_at-now}
-use Rattle.log_core.specs.Views.{Ghost, Marked, view_of}
+use Rattle.log_core.specs.Views.{Ghost, MarkedWord, view_of}
 use Rattle.log_core.specs.Origin.{Origin}
 use Rattle.log_core.specs.Cores.{Core}
 use Rattle.log_core.specs.Records.{mark_of}
@@ -28,13 +28,13 @@ module _ (o : Origin) (c : Core) (n : ℕ) (s : Seat) (g : Ghost) (pin began wor
   abbrev m : Memory
   m = memory_after c.memory n (Mark word)
 
-  abbrev mark : Noted
+  abbrev mark : PendingMark
   mark = record { seat = n; word = word; time = length c.memory.past }
 
   same : (k : ℕ) → cell m k ≡ cell c.memory k
   same = marked_cells o c.memory (length c.views) inv.sizes.words n word
 
-  more : notes_of n m.notes ≡ notes_of n c.memory.notes ++ mark ∷ []
+  more : pending_of n m.pending ≡ pending_of n c.memory.pending ++ mark ∷ []
   more = marked_own o c.memory (length c.views) inv.sizes.words n word
 
   pub mark_leaves : Leaves o c n m
@@ -43,7 +43,7 @@ module _ (o : Origin) (c : Core) (n : ℕ) (s : Seat) (g : Ghost) (pin began wor
     pins = λ k other. refl;
     cells = λ k apart. same_narrows c.memory m k (same k);
     values = λ k j inside. ap (λ (x : Cell). value_at x j) (same k);
-    notes = marked_others o c.memory (length c.views) inv.sizes.words n word;
+    pending = marked_others o c.memory (length c.views) inv.sizes.words n word;
     times = λ time k early. refl;
   }
 
@@ -53,18 +53,18 @@ module _ (o : Origin) (c : Core) (n : ℕ) (s : Seat) (g : Ghost) (pin began wor
       (ap (λ (k : ℕ). value_at (cell m word) k) (index_at-now c.memory.past word)
       ∙ (last_value (cell m word) ∙ (ap (λ (x : Cell). x.present) (same word) ∙ sym is_found)))
 
-  marks_more : map (mark_of (λ k. cell m k) m.past) (notes_of n m.notes) ≡ g.marks ++ record { word = word; value = found } ∷ []
+  marks_more : map (mark_of (λ k. cell m k) m.past) (pending_of n m.pending) ≡ g.marks ++ record { word = word; value = found } ∷ []
   marks_more = ap (map (mark_of (λ k. cell m k) m.past)) more
-      ∙ (map_push (mark_of (λ k. cell m k) m.past) (notes_of n c.memory.notes) mark
-      ∙ (ap (λ (marks : List Marked). marks ++ mark_of (λ k. cell m k) m.past mark ∷ []) (own_marks o c n m inv mark_leaves ∙ sym f.marks)
-      ∙ ap (λ (last : Marked). g.marks ++ last ∷ []) mark_is))
+      ∙ (map_push (mark_of (λ k. cell m k) m.past) (pending_of n c.memory.pending) mark
+      ∙ (ap (λ (marks : List MarkedWord). marks ++ mark_of (λ k. cell m k) m.past mark ∷ []) (own_marks o c n m inv mark_leaves ∙ sym f.marks)
+      ∙ ap (λ (last : MarkedWord). g.marks ++ last ∷ []) mark_is))
 
-  fits_blocks : FitsBlocks o n (view_of c.views n) m (λ block. c.owner block) s g s.blocks s.giving.head_fenced (g.marks ++ record { word = word; value = found } ∷ []) (stored_marked g.stored word) g.call.lacked (notes_of n c.memory.notes)
+  fits_blocks : FitsBlocks o n (view_of c.views n) m (λ block. c.owner block) s g s.blocks s.giving.head_fenced (g.marks ++ record { word = word; value = found } ∷ []) (stored_marked g.stored word) g.call.lacked (pending_of n c.memory.pending)
   fits_blocks = record {
     found = refl;
     named = refl;
     owns = (let r = f.owns.owned in record { listed = r.listed; all = r.all; once = r.once });
-    owned = owned_marked (λ k. cell c.memory k) (λ k. cell m k) c.memory.past c.memory.notes m.notes n word g s f.owned (λ k. same_narrows c.memory m k (same k)) (λ k. refl) more _ refl;
+    owned = owned_marked (λ k. cell c.memory k) (λ k. cell m k) c.memory.past c.memory.pending m.pending n word g s f.owned (λ k. same_narrows c.memory m k (same k)) (λ k. refl) more _ refl;
     sure = λ fenced. (let sure = f.giving.replaced_sure fenced in let rises = floor_rises o c n m inv mark_leaves in omega (arith, sure, rises));
     marks_fit = sym marks_more;
     same_notes = λ sync. absurd (own.no_sync sync);

@@ -9,9 +9,9 @@ use Rattle.asks.specs.declared.ask.Ask.TheVariants.{Load, Store, Exchange, SetBi
 use Rattle.persistence.specs.Memory.{found, found_answer}
 use Rattle.log_core.specs.Entries.{head_place}
 use Rattle.log_core.specs.Views.{View, view_of}
-use Rattle.log_core.specs.Origin.{Origin, q_of}
+use Rattle.log_core.specs.Origin.{Origin, q_of_origin}
 use Rattle.log_core.specs.Cores.{Core, first_core}
-use Rattle.log_core.specs.Steps.{Note, Step, Does, Splits, Joins, Kind, LoadsHead, StoresOwnPin, LoadsImageWord, NoKind, ExchangesHead, ExchangesLink, ExchangesSlot, kind_of, exchange_kind}
+use Rattle.log_core.specs.Steps.{Note, Step, Does, Splits, Joins, Kind, LoadsHead, StoresOwnPin, LoadsImageWord, NoKind, ExchangesHead, ExchangesLink, ExchangesSlot, kind_of_ask, exchange_kind}
 use Rattle.log_core.specs.After.{stepped}
 use Rattle.log_core.specs.May.{IsOfferedKind}
 use Rattle.log_core.specs.Runs.{MayStep, IsRun, end, is_offered_work}
@@ -48,7 +48,7 @@ module _ (o : Origin) (c : Core) (n : ℕ) (inv : Invariant o c) (here : n < len
       (λ offered. pin_holds o c n inv here unspent note value f)
   by_own other value f false e = λ offered. absurd offered
 
-  each_ask : (ask : Ask) → KeepsAsk ask (kind_of (q_of o) n ask) (found c.memory ask) (found_answer c.memory ask)
+  each_ask : (ask : Ask) → KeepsAsk ask (kind_of_ask (q_of_origin o) n ask) (found c.memory ask) (found_answer c.memory ask)
   each_ask (Load (Image word)) = by_head word (word == head_place) refl
   each_ask (Load (Pin other)) = λ offered. seen_holds o c n inv here unspent note other
   each_ask (Load (Map word)) = λ offered. bitmap_word_holds o c n inv here unspent note word
@@ -57,7 +57,7 @@ module _ (o : Origin) (c : Core) (n : ℕ) (inv : Invariant o c) (here : n < len
   each_ask (Store (Pin other) value) = by_own other value (found c.memory (Store (Pin other) value)) (other == n) refl
   each_ask (Store (Map word) value) = λ offered. absurd offered
   each_ask (Store (FenceOf other) value) = λ offered. absurd offered
-  each_ask (Exchange (Image word) before next) = λ offered. absurd (no_exchange note.before (q_of o) word before next offered)
+  each_ask (Exchange (Image word) before next) = λ offered. absurd (no_exchange note.before (q_of_origin o) word before next offered)
   each_ask (Exchange (Pin other) before next) = λ offered. absurd offered
   each_ask (Exchange (Map word) before next) = λ offered. absurd offered
   each_ask (Exchange (FenceOf other) before next) = λ offered. absurd offered

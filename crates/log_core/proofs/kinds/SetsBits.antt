@@ -10,7 +10,7 @@ use Rattle.persistence.specs.Memory.{Memory, cell, memory_after}
 use Rattle.log_core.specs.Views.{Ghost, view_of}
 use Rattle.log_core.specs.Origin.{Origin, shape, Owner}
 use Rattle.log_core.specs.Cores.{Core}
-use Rattle.log_core.specs.Works.{shape_of}
+use Rattle.log_core.specs.Works.{seat_shape}
 use Rattle.log_core.specs.Steps.{SetsBits, gained, effect, lacked_after, ghost_after}
 use Rattle.log_core.specs.May.{MaySetBits}
 use Rattle.log_core.specs.Owners.{BitsFit}
@@ -55,8 +55,8 @@ module _ (o : Origin) (c : Core) (n : ℕ) (s : Seat) (g : Ghost) (pin began wor
   sets_facts = set_blocks o c n s g pin began left owner inv sets_leaves sets_changes f after.blocks s.giving.head_fenced g.marks g.stored (lacked_after g.call.lacked after (SetsBits word bits)) (record {
     found = length-set s.blocks.found word (bit_or (slice_index s.blocks.found word) (bit_or value bits));
     named = refl;
-    owns = set_list (shape o) c.memory.now.taken c.owner n word bits inv.owners.bits inside in_image (shape_of s) s.blocks.owned f.owns.owned;
-    owned = taken_hold (λ at. cell left at) left.past left.notes n s g (ghost_after g s after (SetsBits word bits) value) f.owned refl (gained word bits value) after.blocks.found;
+    owns = set_list (shape o) c.memory.now.taken c.owner n word bits inv.owners.bits inside in_image (seat_shape s) s.blocks.owned f.owns.owned;
+    owned = taken_hold (λ at. cell left at) left.past left.pending n s g (ghost_after g s after (SetsBits word bits) value) f.owned refl (gained word bits value) after.blocks.found;
     sure = f.giving.replaced_sure;
     marks_fit = f.marks;
     same_notes = λ sync. refl;

@@ -2,7 +2,7 @@
 use Rattle.std.proofs.Common.{◌≡◌, ℕ, false, [], refl, sym, ◌∙◌}
 use Rattle.pmem_words.specs.declared.keeps.Task.TheVariants.{Sync}
 use Rattle.pmem_words.specs.Seats.{Seat, Giving}
-use Rattle.persistence.specs.Memory.{cell, notes_of}
+use Rattle.persistence.specs.Memory.{cell, pending_of}
 use Rattle.log_core.specs.Views.{Ghost, view_of}
 use Rattle.log_core.specs.Origin.{Origin}
 use Rattle.log_core.specs.Cores.{Core}
@@ -37,8 +37,8 @@ module _ (o : Origin) (c : Core) (n : ℕ) (s : Seat) (g : Ghost) (pin began val
   unseen : (giving : Giving) → ScanHolds giving n (pinned_at s value).hold
   unseen giving = record { replaced = λ inside free valid. cc; limbo = λ inside free valid. cc }
 
-  notes_none : s.calling.job ≡ Sync → notes_of n c.memory.notes ≡ []
-  notes_none sync = no_notes (mark_of (λ word. cell c.memory word) c.memory.past) (notes_of n c.memory.notes) (sym (may.no_marks sync) ∙ f.marks)
+  notes_none : s.calling.job ≡ Sync → pending_of n c.memory.pending ≡ []
+  notes_none sync = no_notes (mark_of (λ word. cell c.memory word) c.memory.past) (pending_of n c.memory.pending) (sym (may.no_marks sync) ∙ f.marks)
 
   pub store_facts : Knows o c n (pinned_at s value) g value began
   store_facts = record {

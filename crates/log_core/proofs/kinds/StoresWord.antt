@@ -4,8 +4,8 @@ use Rattle.std.proofs.lemmas.List.{get_or_append_left}
 use Rattle.pmem_words.specs.Seats.{Seat}
 use Rattle.asks.specs.declared.ask.Place.TheVariants.{Image}
 use Rattle.asks.specs.declared.ask.Ask.TheVariants.{Store}
-use Rattle.persistence.specs.Memory.{Memory, Noted, Cell, cell, index_at, notes_of, memory_after}
-use Rattle.persistence.specs.Steps.{grown}
+use Rattle.persistence.specs.Memory.{Memory, PendingMark, Cell, cell, index_at, pending_of, memory_after}
+use Rattle.persistence.specs.Steps.{with_value}
 use Rattle.persistence.specs.Survivors.{value_at}
 use Rattle.log_core.specs.Views.{Ghost, view_of}
 use Rattle.log_core.specs.Origin.{Origin, OwnedBy}
@@ -26,7 +26,7 @@ use Rattle.log_core.proofs.clauses.OneView.{same_or_other}
 use Rattle.log_core.proofs.clauses.OwnedStored.{stored_seat, owned_stored, stored_numbers}
 
 -- a value before the one that is stored
-grown_value : (c : Cell) (value k : ℕ) → k ≤ length c.past → value_at (grown c value) k ≡ value_at c k
+grown_value : (c : Cell) (value k : ℕ) → k ≤ length c.past → value_at (with_value c value) k ≡ value_at c k
 grown_value c value k inside = get_or_append_left (c.past ++ c.present ∷ []) (value ∷ []) 0 k
     (let long = Rattle.std.proofs.lemmas.List.length_push c.past c.present in omega (arith, long, inside))
 
@@ -34,7 +34,7 @@ module _ (o : Origin) (c : Core) (n : ℕ) (s : Seat) (g : Ghost) (pin began wor
   abbrev m : Memory
   m = memory_after c.memory n (Store (Image word) value)
 
-  here : cell m word ≡ grown (cell c.memory word) value
+  here : cell m word ≡ with_value (cell c.memory word) value
   here = stored_here o c.memory (length c.views) inv.sizes.words n word value (word_inside o c n s g pin began inv f unspent word may.owned)
 
   others : (k : ℕ) → k ≢ word → cell m k ≡ cell c.memory k
@@ -52,18 +52,18 @@ module _ (o : Origin) (c : Core) (n : ℕ) (s : Seat) (g : Ghost) (pin began wor
         (λ same. subst (λ (w : ℕ). j ≤ length (cell c.memory w).past → value_at (cell m w) j ≡ value_at (cell c.memory w) j) (sym same)
         (λ low. ap (λ (x : Cell). value_at x j) here ∙ grown_value (cell c.memory word) value j low) inside)
         (λ other. ap (λ (x : Cell). value_at x j) (others k other));
-    notes = λ k other. refl;
+    pending = λ k other. refl;
     times = times;
   }
 
-  fits_blocks : FitsBlocks o n (view_of c.views n) m (λ block. c.owner block) s g (stored_seat s word).blocks s.giving.head_fenced g.marks (stored_with g.stored word value) g.call.lacked (notes_of n c.memory.notes)
+  fits_blocks : FitsBlocks o n (view_of c.views n) m (λ block. c.owner block) s g (stored_seat s word).blocks s.giving.head_fenced g.marks (stored_with g.stored word value) g.call.lacked (pending_of n c.memory.pending)
   fits_blocks = record {
     found = refl;
     named = refl;
     owns = subst (λ (list : List ℕ). IsListOf (λ block. c.owner block) list (OwnedBy n)) (sym (stored_numbers s word)) f.owns.owned;
-    owned = owned_stored (λ k. cell c.memory k) (λ k. cell m k) c.memory.past m.past c.memory.notes n word value g s f.owned
+    owned = owned_stored (λ k. cell c.memory k) (λ k. cell m k) c.memory.past m.past c.memory.pending n word value g s f.owned
         (λ k other. same_narrows c.memory m k (others k other)) (ap (λ (x : Cell). x.present) here)
-        (λ k. each_weaker (λ (note : Noted). note.time ≤ length c.memory.past) (λ (note : Noted). index_at m.past note.time k ≡ index_at c.memory.past note.time k) (notes_of n c.memory.notes) (λ note early. times note.time k early) (notes_early o c n inv))
+        (λ k. each_weaker (λ (note : PendingMark). note.time ≤ length c.memory.past) (λ (note : PendingMark). index_at m.past note.time k ≡ index_at c.memory.past note.time k) (pending_of n c.memory.pending) (λ note early. times note.time k early) (notes_early o c n inv))
         may.owned _ refl;
     sure = λ fenced. (let sure = f.giving.replaced_sure fenced in let rises = floor_rises o c n m inv store_leaves in omega (arith, sure, rises));
     marks_fit = f.marks ∙ sym (own_marks o c n m inv store_leaves);

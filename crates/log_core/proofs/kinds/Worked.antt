@@ -8,7 +8,7 @@ use Rattle.log_core.specs.Views.{View, Ghost, view_of, op_in, op_of}
 use Rattle.log_core.specs.Origin.{Origin}
 use Rattle.log_core.specs.Files.{end_of}
 use Rattle.log_core.specs.Cores.{Core}
-use Rattle.log_core.specs.Works.{Work, Begins, KeepsTable, StartsFromLog, StartsFromSnapshot, ReadsRun, NextSnapshot, EndsReading, TakesEntry, TakesSeal, Follows, Forgets, OpensBase, AddsBaseWord, Lays, SetsWord, CountsFilled, NotesNamed, KeepsReplaced, NotesHeld, worked, worked_all, MayBegin, MayWorkAll, is_going_on}
+use Rattle.log_core.specs.Works.{Work, Begins, KeepsTable, StartsFromLog, StartsFromSnapshot, ReadsRun, NextSnapshot, EndsReading, TakesEntry, TakesSeal, Follows, Forgets, OpensBase, AddsBaseWord, Lays, SetsWord, CountsFilled, NotesNamed, KeepsReplaced, NotesHeld, state_after_work, state_after_all_work, MayBegin, MayWorkAll, is_going_on}
 use Rattle.log_core.specs.Steps.{is_begun, ghost_begun}
 use Rattle.log_core.specs.After.{began_if}
 use Rattle.log_core.specs.Runs.{MayNumber, is_offered_work}
@@ -46,7 +46,7 @@ both_right true b e = e
 both_right false b e = cc
 
 -- a call that runs goes on running: no other begins
-runs_on : (g : Ghost) (s : Seat) (works : List Work) → list_all is_offered_work works ≡ true → MayWorkAll g s works → op_in s ≢ None → op_in (worked_all s works) ≡ op_in s
+runs_on : (g : Ghost) (s : Seat) (works : List Work) → list_all is_offered_work works ≡ true → MayWorkAll g s works → op_in s ≢ None → op_in (state_after_all_work s works) ≡ op_in s
 runs_on g s [] offered may some = refl
 runs_on g s (Begins task bytes ∷ works) offered may some = absurd (some may.0.none_runs)
 runs_on g s (Forgets ∷ works) offered may some = runs_on g (forgotten s) works offered may.1 some
@@ -62,8 +62,8 @@ runs_on g s (Follows ∷ works) offered may some = cc
 runs_on g s (OpensBase virt ∷ works) offered may some = cc
 runs_on g s (AddsBaseWord ∷ works) offered may some = cc
 runs_on g s (Lays bytes ∷ works) offered may some = cc
-runs_on g s (SetsWord place word value ∷ works) offered may some = runs_on g (worked s (SetsWord place word value)) works offered may.1 some
-runs_on g s (CountsFilled place ∷ works) offered may some = runs_on g (worked s (CountsFilled place)) works offered may.1 some
+runs_on g s (SetsWord place word value ∷ works) offered may some = runs_on g (state_after_work s (SetsWord place word value)) works offered may.1 some
+runs_on g s (CountsFilled place ∷ works) offered may some = runs_on g (state_after_work s (CountsFilled place)) works offered may.1 some
 runs_on g s (NotesNamed words ∷ works) offered may some = cc
 runs_on g s (KeepsReplaced ∷ works) offered may some = cc
 runs_on g s (NotesHeld held ∷ works) offered may some = cc
@@ -81,22 +81,22 @@ module _ (o : Origin) (c : Core) (n pin number : ℕ) where
 
   -- a call begins from a state in which none runs
   begin_one : (s : Seat) (task : Task) (bytes : List ℕ) → FactsAt s → (op_in s ≡ None → op_in v.seat ≡ None) → MayBegin v.ghost s task bytes →
-      (is_begun (op_in v.seat) (op_of task bytes) ≡ true → v.ghost.call.number < number) → FactsAt (worked s (Begins task bytes))
+      (is_begun (op_in v.seat) (op_of task bytes) ≡ true → v.ghost.call.number < number) → FactsAt (state_after_work s (Begins task bytes))
   begin_one s task bytes facts start may higher =
       (let same : ghost_begun v.ghost v.seat s number ≡ v.ghost = rw (no_begin (op_in v.seat) (op_in s) may.none_runs) refl in
-      begun_facts o c n s v.ghost pin (slice_index (began_at s) n) (slice_index (began_at (worked s (Begins task bytes))) n)
+      begun_facts o c n s v.ghost pin (slice_index (began_at s) n) (slice_index (began_at (state_after_work s (Begins task bytes))) n)
       (subst (λ (g : Ghost). Knows o c n s g pin (slice_index (began_at s) n)) same facts) task bytes number
       (is_begun (op_in v.seat) (op_of task bytes)) may higher (begins_from_none (op_in v.seat) (op_of task bytes) (start may.none_runs)))
 
   -- what a seat computes before a step
   pub works_hold : (s : Seat) (works : List Work) → list_all is_offered_work works ≡ true → MayWorkAll v.ghost s works → FactsAt s → (op_in s ≡ None → op_in v.seat ≡ None) →
-      MayNumber (is_begun (op_in v.seat) (op_in (worked_all s works))) v.ghost.call.number number → FactsAt (worked_all s works)
+      MayNumber (is_begun (op_in v.seat) (op_in (state_after_all_work s works))) v.ghost.call.number number → FactsAt (state_after_all_work s works)
   works_hold s [] offered may facts start higher = facts
   works_hold s (Begins task bytes ∷ works) offered may facts start higher =
-      works_hold (worked s (Begins task bytes)) works offered may.1
+      works_hold (state_after_work s (Begins task bytes)) works offered may.1
       (begin_one s task bytes facts start may.0
-      (λ begun. number_higher (is_begun (op_in v.seat) (op_in (worked_all (worked s (Begins task bytes)) works))) v.ghost.call.number number
-      (ap (λ (op : Option Op). is_begun (op_in v.seat) op) (runs_on v.ghost (worked s (Begins task bytes)) works offered may.1 (begun_some (op_in v.seat) (op_of task bytes) begun)) ∙ begun)
+      (λ begun. number_higher (is_begun (op_in v.seat) (op_in (state_after_all_work (state_after_work s (Begins task bytes)) works))) v.ghost.call.number number
+      (ap (λ (op : Option Op). is_begun (op_in v.seat) op) (runs_on v.ghost (state_after_work s (Begins task bytes)) works offered may.1 (begun_some (op_in v.seat) (op_of task bytes) begun)) ∙ begun)
       higher))
       (λ none. start may.0.none_runs) higher
   works_hold s (Forgets ∷ works) offered may facts start higher =
@@ -114,10 +114,10 @@ module _ (o : Origin) (c : Core) (n pin number : ℕ) where
   works_hold s (AddsBaseWord ∷ works) offered may facts start higher = cc
   works_hold s (Lays bytes ∷ works) offered may facts start higher = cc
   works_hold s (SetsWord place word value ∷ works) offered may facts start higher =
-      works_hold (worked s (SetsWord place word value)) works offered may.1
+      works_hold (state_after_work s (SetsWord place word value)) works offered may.1
       (set_word_facts o c n s (ghost_begun v.ghost v.seat s number) pin (slice_index (began_at s) n) place word value facts may.0) start higher
   works_hold s (CountsFilled place ∷ works) offered may facts start higher =
-      works_hold (worked s (CountsFilled place)) works offered may.1
+      works_hold (state_after_work s (CountsFilled place)) works offered may.1
       (count_filled_facts o c n s (ghost_begun v.ghost v.seat s number) pin (slice_index (began_at s) n) place facts (record { owned = may.0.owned; each = may.0.each })) start higher
   works_hold s (NotesNamed words ∷ works) offered may facts start higher = cc
   works_hold s (KeepsReplaced ∷ works) offered may facts start higher = cc
@@ -125,7 +125,7 @@ module _ (o : Origin) (c : Core) (n pin number : ℕ) where
 
 -- what a seat computes after a step: it gives up its kept words, sets words of owned blocks, and counts them as filled
 module _ (o : Origin) (c : Core) (n pin began : ℕ) (g : Ghost) where
-  pub later_hold : (s : Seat) (works : List Work) → list_all is_offered_work works ≡ true → list_all is_going_on works ≡ true → MayWorkAll g s works → Knows o c n s g pin began → Knows o c n (worked_all s works) g pin began
+  pub later_hold : (s : Seat) (works : List Work) → list_all is_offered_work works ≡ true → list_all is_going_on works ≡ true → MayWorkAll g s works → Knows o c n s g pin began → Knows o c n (state_after_all_work s works) g pin began
   later_hold s [] offered going may facts = facts
   later_hold s (Forgets ∷ works) offered going may facts = later_hold (forgotten s) works offered going may.1 (forget_facts o c n s g pin began facts)
   later_hold s (Begins task bytes ∷ works) offered going may facts = cc
@@ -142,9 +142,9 @@ module _ (o : Origin) (c : Core) (n pin began : ℕ) (g : Ghost) where
   later_hold s (AddsBaseWord ∷ works) offered going may facts = cc
   later_hold s (Lays bytes ∷ works) offered going may facts = cc
   later_hold s (SetsWord place word value ∷ works) offered going may facts =
-      later_hold (worked s (SetsWord place word value)) works offered going may.1 (set_word_facts o c n s g pin began place word value facts may.0)
+      later_hold (state_after_work s (SetsWord place word value)) works offered going may.1 (set_word_facts o c n s g pin began place word value facts may.0)
   later_hold s (CountsFilled place ∷ works) offered going may facts =
-      later_hold (worked s (CountsFilled place)) works offered going may.1 (count_filled_facts o c n s g pin began place facts may.0)
+      later_hold (state_after_work s (CountsFilled place)) works offered going may.1 (count_filled_facts o c n s g pin began place facts may.0)
   later_hold s (NotesNamed words ∷ works) offered going may facts = cc
   later_hold s (KeepsReplaced ∷ works) offered going may facts = cc
   later_hold s (NotesHeld held ∷ works) offered going may facts = cc

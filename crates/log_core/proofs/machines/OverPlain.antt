@@ -17,12 +17,12 @@ use Rattle.asks.specs.declared.ask.Ask.TheVariants.{Load, Store, Exchange, SetBi
 use Rattle.pmem_words.specs.declared.machine.Turn.{Turn}
 use Rattle.pmem_words.specs.declared.machine.Turn.TheVariants.{Go, Done}
 use Rattle.pmem_words.proofs.PlainLemmas.{leads_plain}
-use Rattle.persistence.specs.Memory.{Memory, Replaced, Noted, found_answer, memory_after}
-use Rattle.persistence.specs.Cells.{TakesAsk}
+use Rattle.persistence.specs.Memory.{Memory, Replaced, PendingMark, found_answer, memory_after}
+use Rattle.persistence.specs.Cells.{MemoryTakes}
 use Rattle.log_core.specs.Views.{View, view_of, spent_view}
-use Rattle.log_core.specs.Origin.{Origin, q_of}
+use Rattle.log_core.specs.Origin.{Origin, q_of_origin}
 use Rattle.log_core.specs.Cores.{Core, first_core}
-use Rattle.log_core.specs.Steps.{Step, Does, kind_of, view_after}
+use Rattle.log_core.specs.Steps.{Step, Does, kind_of_ask, view_after}
 use Rattle.log_core.specs.After.{after}
 use Rattle.log_core.specs.Runs.{Allowed, IsReached}
 use Rattle.log_core.specs.Invariant.{Invariant}
@@ -40,22 +40,22 @@ module _ (p : SharedWords) (memory : Memory) (agrees : Agrees p memory) where
   same_word (FenceOf seat) has = refl
 
   -- and both agree after a number is put there
-  agrees_with : (at : Place) (value : ℕ) (past : List Replaced) (floors : List ℕ) (notes : List Noted) →
-      Agrees (with_word p at value) (record { now = with_word memory.now at value; past = past; floors = floors; notes = notes })
-  agrees_with (Image word) value past floors notes = record {
+  agrees_with : (at : Place) (value : ℕ) (past : List Replaced) (floors : List ℕ) (pending : List PendingMark) →
+      Agrees (with_word p at value) (record { now = with_word memory.now at value; past = past; floors = floors; pending = pending })
+  agrees_with (Image word) value past floors pending = record {
     words = ap (λ (words : List ℕ). slice_set words word value) agrees.words;
     taken = agrees.taken;
     long = agrees.long;
     pins = agrees.pins;
   }
-  agrees_with (Map word) value past floors notes = record {
+  agrees_with (Map word) value past floors pending = record {
     words = agrees.words;
     taken = ap (λ (words : List ℕ). slice_set words word value) agrees.taken;
     long = agrees.long;
     pins = agrees.pins;
   }
-  agrees_with (FenceOf seat) value past floors notes = record { words = agrees.words; taken = agrees.taken; long = agrees.long; pins = agrees.pins }
-  agrees_with (Pin seat) value past floors notes = record {
+  agrees_with (FenceOf seat) value past floors pending = record { words = agrees.words; taken = agrees.taken; long = agrees.long; pins = agrees.pins }
+  agrees_with (Pin seat) value past floors pending = record {
     words = agrees.words;
     taken = agrees.taken;
     long = (let many = length-set memory.now.pins seat value in let more = length-set p.pins seat value in let long = agrees.long in omega (arith, many, more, long));
@@ -83,7 +83,7 @@ module _ (p : SharedWords) (memory : Memory) (agrees : Agrees p memory) where
     can_load (FenceOf seat) has = tt
 
     -- so it takes each ask that the core's takes
-    pub takes_too : (ask : Ask) → TakesAsk memory ask → plain_takes p ask
+    pub takes_too : (ask : Ask) → MemoryTakes memory ask → plain_takes p ask
     takes_too (Load at) takes = can_load at takes
     takes_too (Store at value) takes = has_word at takes
     takes_too (Exchange at before next) takes = has_word at takes
@@ -99,7 +99,7 @@ module _ (p : SharedWords) (memory : Memory) (agrees : Agrees p memory) where
   loads_too (Map word) has = has
   loads_too (FenceOf seat) has = tt
 
-  finds_word : (ask : Ask) → TakesAsk memory ask → CanLoad (length memory.now.pins) memory.now (place 0 ask)
+  finds_word : (ask : Ask) → MemoryTakes memory ask → CanLoad (length memory.now.pins) memory.now (place 0 ask)
   finds_word (Load at) takes = takes
   finds_word (Store at value) takes = loads_too at takes
   finds_word (Exchange at before next) takes = loads_too at takes
@@ -108,18 +108,18 @@ module _ (p : SharedWords) (memory : Memory) (agrees : Agrees p memory) where
   finds_word (Mark word) takes = takes
   finds_word Fence takes = tt
 
-  same_found : (ask : Ask) → TakesAsk memory ask → found_by p ask ≡ found_by memory.now ask
+  same_found : (ask : Ask) → MemoryTakes memory ask → found_by p ask ≡ found_by memory.now ask
   same_found ask takes = same_word (place 0 ask) (finds_word ask takes)
 
   -- it answers alike, and they agree after the ask
-  pub same_answer : (ask : Ask) → TakesAsk memory ask → answer_of p ask ≡ found_answer memory ask
+  pub same_answer : (ask : Ask) → MemoryTakes memory ask → answer_of p ask ≡ found_answer memory ask
   same_answer ask takes = ap (λ (found : ℕ). answer ask found) (same_found ask takes)
 
-  pub agrees_after : (seat : ℕ) (ask : Ask) → TakesAsk memory ask → Agrees (words_after p ask) (memory_after memory seat ask)
+  pub agrees_after : (seat : ℕ) (ask : Ask) → MemoryTakes memory ask → Agrees (words_after p ask) (memory_after memory seat ask)
   agrees_after seat ask takes =
       (let new = memory_after memory seat ask in
       subst (λ (found : ℕ). Agrees (with_word p (place 0 ask) (becomes ask found)) new) (sym (same_found ask takes))
-      (agrees_with (place 0 ask) (becomes ask (found_by memory.now ask)) new.past new.floors new.notes))
+      (agrees_with (place 0 ask) (becomes ask (found_by memory.now ask)) new.past new.floors new.pending))
 
 -- an allowed step leads from a reached core to a reached core
 pub reached_next : (o : Origin) (c : Core) (step : Step) → IsReached o c → Allowed o c step → IsReached o (after o c step)
@@ -142,7 +142,7 @@ module _ (o : Origin) (start : Invariant o (first_core o)) (seat number : ℕ) {
       (let ask = script.asks m s in
       let f = found_answer c.memory ask in
       let note = note_of script rec number m s f in
-      let kind = kind_of (q_of o) seat ask in
+      let kind = kind_of_ask (q_of_origin o) seat ask in
       let allowed = ready.can c reached made at in
       let inv = reached_keeps o start c reached in
       let takes = takes_asked o c seat ask note inv allowed in

@@ -10,21 +10,21 @@ use Rattle.pmem_words.specs.declared.machine.Turn.{Turn}
 use Rattle.pmem_words.specs.declared.machine.Turn.TheVariants.{Go, Done}
 use Rattle.persistence.specs.Memory.{found_answer}
 use Rattle.log_core.specs.Views.{Ghost}
-use Rattle.log_core.specs.Origin.{Origin, q_of}
-use Rattle.log_core.specs.Works.{Work, MayWorkAll, worked, worked_all, is_going_on}
-use Rattle.log_core.specs.Steps.{kind_of, effect, ghost_after}
+use Rattle.log_core.specs.Origin.{Origin, q_of_origin}
+use Rattle.log_core.specs.Works.{Work, MayWorkAll, state_after_work, state_after_all_work, is_going_on}
+use Rattle.log_core.specs.Steps.{kind_of_ask, effect, ghost_after}
 use Rattle.log_core.specs.May.{May, IsOfferedKind}
 use Rattle.log_core.specs.Runs.{is_offered_work}
 use Rattle.log_core.specs.Within.{no_record, adds_at, IsFound, EntersOffered, Lawful, Serves, FitsNext}
 
 -- computations after others
-pub worked_more : (s : Seat) (first second : List Work) → worked_all s (first ++ second) ≡ worked_all (worked_all s first) second
+pub worked_more : (s : Seat) (first second : List Work) → state_after_all_work s (first ++ second) ≡ state_after_all_work (state_after_all_work s first) second
 worked_more s [] second = refl
-worked_more s (work ∷ first) second = worked_more (worked s work) first second
+worked_more s (work ∷ first) second = worked_more (state_after_work s work) first second
 
-pub may_more : (g : Ghost) (s : Seat) (first second : List Work) → MayWorkAll g s first → MayWorkAll g (worked_all s first) second → MayWorkAll g s (first ++ second)
+pub may_more : (g : Ghost) (s : Seat) (first second : List Work) → MayWorkAll g s first → MayWorkAll g (state_after_all_work s first) second → MayWorkAll g s (first ++ second)
 may_more g s [] second may more = more
-may_more g s (work ∷ first) second may more = (may.0, may_more g (worked s work) first second may.1 more)
+may_more g s (work ∷ first) second may more = (may.0, may_more g (state_after_work s work) first second may.1 more)
 
 pub all_more : (f : Work → Bool) (first second : List Work) → list_all f first ≡ true → list_all f second ≡ true → list_all f (first ++ second) ≡ true
 all_more f [] second all more = more
@@ -39,14 +39,14 @@ pub enters_more : (g : Ghost) (e t u : Seat) (adds : List Call) → EntersOffere
 enters_more g e t u adds part more =
     (let first = part.enters.computed.works in
     let second = more.enters.computed.works in
-    let at : t ≡ worked_all e first = part.enters.seat_is ∙ part.enters.computed.gives in
+    let at : t ≡ state_after_all_work e first = part.enters.seat_is ∙ part.enters.computed.gives in
     record {
       enters = record {
         last = more.enters.last;
         computed = record {
           works = first ++ second;
           may = may_more g e first second part.enters.computed.may (subst (λ (s : Seat). MayWorkAll g s second) at more.enters.computed.may);
-          gives = more.enters.computed.gives ∙ (ap (λ (s : Seat). worked_all s second) at ∙ sym (worked_more e first second));
+          gives = more.enters.computed.gives ∙ (ap (λ (s : Seat). state_after_all_work s second) at ∙ sym (worked_more e first second));
         };
         going_on = all_more is_going_on first second part.enters.going_on more.enters.going_on;
         adds_are = more.enters.adds_are;
@@ -62,7 +62,7 @@ module _ {A C OutA Out : Type 0} (o : Origin) (seat : ℕ) (part : Script A OutA
     (on_part : (m : A) (s : Seat) (g : Ghost) → P m s g → PC (inject m) s g) (on_next : (out : OutA) (t : Seat) (g : Ghost) → R out t g → FitsNext rec PC RC t g (next out t)) where
   -- what contracts alone see of the seat after the step that an ask is
   abbrev left : Seat → Ghost → Ask → ℕ → Ghost
-  left s g ask f = ghost_after g s (effect g.marks s (kind_of (q_of o) seat ask) f) (kind_of (q_of o) seat ask) f
+  left s g ask f = ghost_after g s (effect g.marks s (kind_of_ask (q_of_origin o) seat ask) f) (kind_of_ask (q_of_origin o) seat ask) f
 
   -- the whole after its part, by the part's turn
   moved_enters : (g : Ghost) (e t : Seat) (m : C) (n : Next C Out) → EntersOffered g e t [] → FitsNext rec PC RC t g n → EntersOffered g e (moved m n).seat (adds_at rec (moved m n).seat (moved m n).turn)
@@ -118,8 +118,8 @@ module _ {A C OutA Out : Type 0} (o : Origin) (seat : ℕ) (part : Script A OutA
       found : (f : ℕ) → IsFound o seat s g (whole.asks (inject m) s) f → IsFound o seat s g (part.asks m s) f
       found f is = subst (λ (ask : Ask). IsFound o seat s g ask f) (sym asks) is
 
-      first : (f : ℕ) → IsFound o seat s g (part.asks m s) f → part.admits m s f → EntersOffered (ghost_after g s (effect g.marks s (kind_of (q_of o) seat (part.asks m s)) f) (kind_of (q_of o) seat (part.asks m s)) f) (effect g.marks s (kind_of (q_of o) seat (part.asks m s)) f) (part.after m s f).seat []
-      first f is admits = subst (λ (adds : List Call). EntersOffered (ghost_after g s (effect g.marks s (kind_of (q_of o) seat (part.asks m s)) f) (kind_of (q_of o) seat (part.asks m s)) f) (effect g.marks s (kind_of (q_of o) seat (part.asks m s)) f) (part.after m s f).seat adds)
+      first : (f : ℕ) → IsFound o seat s g (part.asks m s) f → part.admits m s f → EntersOffered (ghost_after g s (effect g.marks s (kind_of_ask (q_of_origin o) seat (part.asks m s)) f) (kind_of_ask (q_of_origin o) seat (part.asks m s)) f) (effect g.marks s (kind_of_ask (q_of_origin o) seat (part.asks m s)) f) (part.after m s f).seat []
+      first f is admits = subst (λ (adds : List Call). EntersOffered (ghost_after g s (effect g.marks s (kind_of_ask (q_of_origin o) seat (part.asks m s)) f) (kind_of_ask (q_of_origin o) seat (part.asks m s)) f) (effect g.marks s (kind_of_ask (q_of_origin o) seat (part.asks m s)) f) (part.after m s f).seat adds)
           (none_at (part.after m s f).seat (part.after m s f).turn) (laws.enters f is admits)
 
       ends_so : (f : ℕ) → IsFound o seat s g (whole.asks (inject m) s) f → whole.admits (inject m) s f → (out : OutA) → (part.after m s f).turn ≡ Done out → R out (part.after m s f).seat (left s g (part.asks m s) f)
@@ -127,13 +127,13 @@ module _ {A C OutA Out : Type 0} (o : Origin) (seat : ℕ) (part : Script A OutA
 
       lawful : Lawful o seat whole rec PC RC (inject m) s g
       lawful = record {
-        may = λ c pin began inv unspent knows. subst (λ (ask : Ask). May o c g s (kind_of (q_of o) seat ask)) asks (laws.may c pin began inv unspent knows);
-        offered = subst (λ (ask : Ask). IsOfferedKind s (kind_of (q_of o) seat ask)) asks laws.offered;
+        may = λ c pin began inv unspent knows. subst (λ (ask : Ask). May o c g s (kind_of_ask (q_of_origin o) seat ask)) asks (laws.may c pin began inv unspent knows);
+        offered = subst (λ (ask : Ask). IsOfferedKind s (kind_of_ask (q_of_origin o) seat ask)) asks laws.offered;
         admitted = λ c pin began inv unspent knows. subst (λ (ask : Ask). whole.admits (inject m) s (found_answer c.memory ask)) asks
             (joins m s g (found_answer c.memory (part.asks m s)) stands (laws.admitted c pin began inv unspent knows));
-        enters = λ f is may. subst (λ (ask : Ask). EntersOffered (left s g ask f) (effect g.marks s (kind_of (q_of o) seat ask) f) (whole.after (inject m) s f).seat (adds_at rec (whole.after (inject m) s f).seat (whole.after (inject m) s f).turn)) asks
-            (subst (λ (r : After C Out). EntersOffered (left s g (part.asks m s) f) (effect g.marks s (kind_of (q_of o) seat (part.asks m s)) f) r.seat (adds_at rec r.seat r.turn)) (same f)
-            (at_enters (left s g (part.asks m s) f) (effect g.marks s (kind_of (q_of o) seat (part.asks m s)) f) (part.after m s f).seat (part.after m s f).machine (part.after m s f).turn (first f (found f is) (leaves m s f may)) (ends_so f is may)));
+        enters = λ f is may. subst (λ (ask : Ask). EntersOffered (left s g ask f) (effect g.marks s (kind_of_ask (q_of_origin o) seat ask) f) (whole.after (inject m) s f).seat (adds_at rec (whole.after (inject m) s f).seat (whole.after (inject m) s f).turn)) asks
+            (subst (λ (r : After C Out). EntersOffered (left s g (part.asks m s) f) (effect g.marks s (kind_of_ask (q_of_origin o) seat (part.asks m s)) f) r.seat (adds_at rec r.seat r.turn)) (same f)
+            (at_enters (left s g (part.asks m s) f) (effect g.marks s (kind_of_ask (q_of_origin o) seat (part.asks m s)) f) (part.after m s f).seat (part.after m s f).machine (part.after m s f).turn (first f (found f is) (leaves m s f may)) (ends_so f is may)));
         none_added = λ f is may. subst (λ (r : After C Out). adds_at rec r.seat r.turn ≡ []) (same f)
             (at_none (left s g (part.asks m s) f) (part.after m s f).seat (part.after m s f).machine (part.after m s f).turn (ends_so f is may));
         goes = λ f is may go. subst (λ (ask : Ask). PC (whole.after (inject m) s f).machine (whole.after (inject m) s f).seat (left s g ask f)) asks

@@ -7,12 +7,12 @@ use Rattle.asks.specs.declared.ask.Place.TheVariants.{Image, Pin, Map, FenceOf}
 use Rattle.asks.specs.declared.ask.Ask.{Ask}
 use Rattle.asks.specs.declared.ask.Ask.TheVariants.{Load, Store, Exchange, SetBits, ClearBits, Mark, Fence}
 use Rattle.persistence.specs.Memory.{found_answer}
-use Rattle.persistence.specs.Cells.{TakesAsk}
+use Rattle.persistence.specs.Cells.{MemoryTakes}
 use Rattle.log_core.specs.Entries.{has, head_place}
 use Rattle.log_core.specs.Views.{view_of, op_in}
-use Rattle.log_core.specs.Origin.{Origin, shape, q_of}
+use Rattle.log_core.specs.Origin.{Origin, shape, q_of_origin}
 use Rattle.log_core.specs.Cores.{Core}
-use Rattle.log_core.specs.Steps.{Note, Does, is_begun, LoadsHead, StoresOwnPin, LoadsImageWord, NoKind, kind_of}
+use Rattle.log_core.specs.Steps.{Note, Does, is_begun, LoadsHead, StoresOwnPin, LoadsImageWord, NoKind, kind_of_ask}
 use Rattle.log_core.specs.Files.{end_of}
 use Rattle.log_core.specs.Works.{words_of}
 use Rattle.log_core.specs.Needs.{owned_numbers}
@@ -43,7 +43,7 @@ module _ (o : Origin) (c : Core) (seat : ℕ) (note : Note) (inv : Invariant o c
 
   -- what is known at the ask
   abbrev KnownAt : Ask → Type 0
-  KnownAt ask = (step : MayStep o c (view_of c.views seat) (kind_of (q_of o) seat ask) note (found_answer c.memory ask)) →
+  KnownAt ask = (step : MayStep o c (view_of c.views seat) (kind_of_ask (q_of_origin o) seat ask) note (found_answer c.memory ask)) →
       Knows o c seat note.before (ghost_at (view_of c.views seat) note) (slice_index c.memory.now.pins seat)
       (slice_index (began_if (is_begun (op_in (view_of c.views seat).seat) (op_in note.before)) c.began seat (end_of o c.history)) seat)
 
@@ -65,8 +65,8 @@ module _ (o : Origin) (c : Core) (seat : ℕ) (note : Note) (inv : Invariant o c
   image_inside word owned pin began known =
       (let low = own_inside o c seat note.before (ghost_at (view_of c.views seat) note) pin began inv known unspent word owned in let many = inv.sizes.words.words in omega (arith, low, many))
 
-  takes_by : (ask : Ask) → KnownAt ask → IsOfferedKind note.before (kind_of (q_of o) seat ask) →
-      (step : MayStep o c (view_of c.views seat) (kind_of (q_of o) seat ask) note (found_answer c.memory ask)) → TakesAsk c.memory ask
+  takes_by : (ask : Ask) → KnownAt ask → IsOfferedKind note.before (kind_of_ask (q_of_origin o) seat ask) →
+      (step : MayStep o c (view_of c.views seat) (kind_of_ask (q_of_origin o) seat ask) note (found_answer c.memory ask)) → MemoryTakes c.memory ask
   takes_by (Load (Image word)) known offered step = by_head word (word == head_place) refl offered
   takes_by (Load (Pin other)) known offered step = pins_inside other step.may.inside
   takes_by (Load (Map word)) known offered step = bitmap_inside word step.may.inside _ _ (known step)
@@ -75,7 +75,7 @@ module _ (o : Origin) (c : Core) (seat : ℕ) (note : Note) (inv : Invariant o c
   takes_by (Store (Pin other) value) known offered step = by_own other value (other == seat) refl offered
   takes_by (Store (Map word) value) known offered step = absurd offered
   takes_by (Store (FenceOf other) value) known offered step = absurd offered
-  takes_by (Exchange (Image word) before next) known offered step = absurd (no_exchange note.before (q_of o) word before next offered)
+  takes_by (Exchange (Image word) before next) known offered step = absurd (no_exchange note.before (q_of_origin o) word before next offered)
   takes_by (Exchange (Pin other) before next) known offered step = absurd offered
   takes_by (Exchange (Map word) before next) known offered step = absurd offered
   takes_by (Exchange (FenceOf other) before next) known offered step = absurd offered
@@ -91,8 +91,8 @@ module _ (o : Origin) (c : Core) (seat : ℕ) (note : Note) (inv : Invariant o c
   takes_by Fence known offered step = tt
 
 -- so each step that is allowed is one that the memory takes
-pub takes_asked : (o : Origin) (c : Core) (seat : ℕ) (ask : Ask) (note : Note) → Invariant o c → Allowed o c (Does seat ask note) → TakesAsk c.memory ask
+pub takes_asked : (o : Origin) (c : Core) (seat : ℕ) (ask : Ask) (note : Note) → Invariant o c → Allowed o c (Does seat ask note) → MemoryTakes c.memory ask
 takes_asked o c seat ask note inv allowed =
     takes_by o c seat note inv allowed.fits.made allowed.fits.unspent ask
-    (λ step. at_ask o c seat inv allowed.fits.made allowed.fits.unspent note (kind_of (q_of o) seat ask) (found_answer c.memory ask) allowed.fits.step allowed.offered.before allowed.offered.later allowed.offered.no_record)
+    (λ step. at_ask o c seat inv allowed.fits.made allowed.fits.unspent note (kind_of_ask (q_of_origin o) seat ask) (found_answer c.memory ask) allowed.fits.step allowed.offered.before allowed.offered.later allowed.offered.no_record)
     allowed.offered.kind allowed.fits.step

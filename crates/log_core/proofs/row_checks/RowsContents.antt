@@ -11,7 +11,7 @@ use Rattle.std.specs.Prelude.{slice_index_or}
 use Rattle.log_core.specs.Entries.{no_entry, entry_by}
 use Rattle.log_core.specs.May.{is_log_entry_by}
 use Rattle.log_core.specs.Origin.{Owner, Free, Header, InChain, OwnedBy, LeftTo}
-use Rattle.log_core.specs.Files.{entries, map_at, byte_in}
+use Rattle.log_core.specs.Files.{entries, history_map_at, byte_in}
 use Rattle.log_core.specs.Contents.{IsStillTaken, AreRecorded, EntriesSay, HoldsFileAt}
 use Rattle.log_core.specs.worked_rows.Samples.{image_a, small_shape}
 use Rattle.log_core.specs.worked_rows.Rows.{collected, to_first}
@@ -38,7 +38,7 @@ recorded_by blocks all block k named within =
     (below_all 8 (λ j. is_certain (cell collected.memory (block * 8 + j)) (slice_index (collected.recorded block) j)) k
     (in_all (λ b. all_below 8 (λ j. is_certain (cell collected.memory (b * 8 + j)) (slice_index (collected.recorded b) j))) blocks block all named) within)
 
-held_bytes : (virt at : ℕ) → at < 64 → byte_in collected.recorded (map_at image_a (entries image_a collected.history) 1 virt) at ≡ slice_index (170 ∷ []) (virt * 64 + at)
+held_bytes : (virt at : ℕ) → at < 64 → byte_in collected.recorded (history_map_at image_a (entries image_a collected.history) 1 virt) at ≡ slice_index (170 ∷ []) (virt * 64 + at)
 held_bytes zero at within = below_same 64 (λ k. slice_index (word_bytes (collected.recorded 1)) k) (λ k. slice_index (170 ∷ []) (0 * 64 + k)) at refl within
 held_bytes (suc virt) at within =
     ap (λ (found : Option ℕ). byte_in collected.recorded (option_or None found) at) (names_none (direct_meaning to_first) (suc virt) (omega arith))

@@ -106,7 +106,7 @@ words (suc (suc place)) number from inside cut within = absurd (omega (arith, in
 no_sync : (position : ℕ) → Wrote 1 ≡ Synced position → ⊥
 no_sync position same = false≢true (sym (ap is_written same))
 
-views : (seat : ℕ) → SyncHolds 8 (names_by image_a late_synced.logs (entries image_a late_synced.history) late_synced.generations) (λ word. cell late_synced.memory word) late_synced.memory.past late_synced.memory.notes 2 seat (view_of late_synced.views seat)
+views : (seat : ℕ) → SyncHolds 8 (names_by image_a late_synced.logs (entries image_a late_synced.history) late_synced.generations) (λ word. cell late_synced.memory word) late_synced.memory.past late_synced.memory.pending 2 seat (view_of late_synced.views seat)
 views zero = record { to = λ position same. absurd (none_not_some position same); marks = λ sync. tt; valid = λ sync some. absurd (some refl); answered = (λ position same. absurd (no_sync position same), tt) }
 views (suc zero) = record {
   to = λ position same. absurd (none_not_some position same);

@@ -12,9 +12,9 @@ use Rattle.log_image.specs.Maps.{block_in, entry_end}
 use Rattle.log_image.specs.Image.{is_in_data}
 use Rattle.log_image.proofs.HoldingLemmas.{names_none}
 use Rattle.pmem_words.specs.Seats.{Seat}
-use Rattle.log_core.specs.Views.{Marked, op_in, view_of}
+use Rattle.log_core.specs.Views.{MarkedWord, op_in, view_of}
 use Rattle.log_core.specs.Files.{byte_in, file_at, accepted_reply}
-use Rattle.log_core.specs.Works.{shape_of}
+use Rattle.log_core.specs.Works.{seat_shape}
 use Rattle.log_core.specs.Steps.{content_of, new_meaning}
 use Rattle.log_core.specs.After.{op_or_size}
 use Rattle.log_core.specs.May.{MayCommit, MayMark, OfOwned, OfNewHead, OfHead, OfTrail, is_fenced, walked_trail}
@@ -34,7 +34,7 @@ pin_may_be_stored = (
   record { value_is = inr (λ none. omega (arith, none), refl); no_marks = λ sync. refl },
   record { value_is = inl refl; no_marks = λ sync. refl },
   λ may. no_pin 2 refl _ may.value_is,
-  λ may. (let none = ap (λ (marks : List Marked). length marks) (may.no_marks refl) in omega (arith, none)),
+  λ may. (let none = ap (λ (marks : List MarkedWord). length marks) (may.no_marks refl) in omega (arith, none)),
 )
 
 pub word_may_be_loaded : WordMayBeLoaded
@@ -86,9 +86,9 @@ byte_of s entry op job may virt block at found inside =
     (ap op_or_size (sym may.job ∙ job)) (may.holds virt block at found inside)
 
 size_of : (s : Seat) (entry : ℕ) (op : Op) → op_in s ≡ Some op → MayCommit image_a [] s 27 entry
-    → max s.walk.size (entry_end (shape_of s) (new_meaning s entry)) ≡ length (file_after (file_at image_a [] s.walk.position) op (accepted_reply op s.walk.size))
+    → max s.walk.size (entry_end (seat_shape s) (new_meaning s entry)) ≡ length (file_after (file_at image_a [] s.walk.position) op (accepted_reply op s.walk.size))
 size_of s entry op job may =
-    subst (λ (o : Op). max s.walk.size (entry_end (shape_of s) (new_meaning s entry)) ≡ length (file_after (file_at image_a [] s.walk.position) o (accepted_reply o s.walk.size)))
+    subst (λ (o : Op). max s.walk.size (entry_end (seat_shape s) (new_meaning s entry)) ≡ length (file_after (file_at image_a [] s.walk.position) o (accepted_reply o s.walk.size)))
     (ap op_or_size (sym may.job ∙ job)) may.size_is
 
 pub entry_may_be_put : EntryMayBePut

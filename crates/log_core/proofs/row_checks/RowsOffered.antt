@@ -5,12 +5,12 @@ use Rattle.std.proofs.lemmas.Bool.{false≢true, true≢false}
 use Rattle.log_entry.specs.declared.shapes.Area.TheVariants.{Data}
 use Rattle.asks.specs.declared.ask.Ask.{Ask}
 use Rattle.log_core.specs.Views.{view_of, op_in}
-use Rattle.log_core.specs.Origin.{Origin, q_of}
+use Rattle.log_core.specs.Origin.{Origin, q_of_origin}
 use Rattle.log_core.specs.Cores.{Core}
-use Rattle.log_core.specs.Works.{Work, SetsWord, CountsFilled, worked_all, MayWorkAll}
-use Rattle.log_core.specs.Steps.{is_begun, ghost_begun, kind_of}
+use Rattle.log_core.specs.Works.{Work, SetsWord, CountsFilled, state_after_all_work, MayWorkAll}
+use Rattle.log_core.specs.Steps.{is_begun, ghost_begun, kind_of_ask}
 use Rattle.log_core.specs.May.{May, IsOfferedKind, OfHead, OfTrail, OfNewHead}
-use Rattle.log_core.specs.Runs.{Fits, Allowed, MayNumber, is_offered_work}
+use Rattle.log_core.specs.Runs.{MayMakeStep, Allowed, MayNumber, is_offered_work}
 use Rattle.log_core.specs.worked_rows.Samples.{step_of}
 use Rattle.log_core.specs.worked_rows.Offered.{FilledNoMore, BitmapMayBeRead, OfferedKinds, NotOffered}
 use Rattle.log_core.proofs.row_checks.RowsTaken.{bits_taken, fence_follows}
@@ -34,9 +34,9 @@ bitmap_may_be_read = (
 module _ (o : Origin) (c : Core) (seat number : ℕ) (ask : Ask) (works : List Work) where
   abbrev pub step_fits : seat < length c.views → (view_of c.views seat).parts ≢ [] →
       MayWorkAll (view_of c.views seat).ghost (view_of c.views seat).seat works →
-      MayNumber (is_begun (op_in (view_of c.views seat).seat) (op_in (worked_all (view_of c.views seat).seat works))) (view_of c.views seat).ghost.call.number number →
-      May o c (ghost_begun (view_of c.views seat).ghost (view_of c.views seat).seat (worked_all (view_of c.views seat).seat works) number) (worked_all (view_of c.views seat).seat works) (kind_of (q_of o) seat ask) →
-      Fits o c (step_of o c seat ask number works [] [])
+      MayNumber (is_begun (op_in (view_of c.views seat).seat) (op_in (state_after_all_work (view_of c.views seat).seat works))) (view_of c.views seat).ghost.call.number number →
+      May o c (ghost_begun (view_of c.views seat).ghost (view_of c.views seat).seat (state_after_all_work (view_of c.views seat).seat works) number) (state_after_all_work (view_of c.views seat).seat works) (kind_of_ask (q_of_origin o) seat ask) →
+      MayMakeStep o c (step_of o c seat ask number works [] [])
   step_fits made unspent computes numbered may = record {
     made = made;
     unspent = unspent;
@@ -49,9 +49,9 @@ module _ (o : Origin) (c : Core) (seat number : ℕ) (ask : Ask) (works : List W
   }
 
   pub step_allowed : (made : seat < length c.views) (unspent : (view_of c.views seat).parts ≢ []) (computes : MayWorkAll (view_of c.views seat).ghost (view_of c.views seat).seat works)
-      (numbered : MayNumber (is_begun (op_in (view_of c.views seat).seat) (op_in (worked_all (view_of c.views seat).seat works))) (view_of c.views seat).ghost.call.number number)
-      (may : May o c (ghost_begun (view_of c.views seat).ghost (view_of c.views seat).seat (worked_all (view_of c.views seat).seat works) number) (worked_all (view_of c.views seat).seat works) (kind_of (q_of o) seat ask)) →
-      IsOfferedKind (worked_all (view_of c.views seat).seat works) (kind_of (q_of o) seat ask) → list_all is_offered_work works ≡ true → Allowed o c (step_of o c seat ask number works [] [])
+      (numbered : MayNumber (is_begun (op_in (view_of c.views seat).seat) (op_in (state_after_all_work (view_of c.views seat).seat works))) (view_of c.views seat).ghost.call.number number)
+      (may : May o c (ghost_begun (view_of c.views seat).ghost (view_of c.views seat).seat (state_after_all_work (view_of c.views seat).seat works) number) (state_after_all_work (view_of c.views seat).seat works) (kind_of_ask (q_of_origin o) seat ask)) →
+      IsOfferedKind (state_after_all_work (view_of c.views seat).seat works) (kind_of_ask (q_of_origin o) seat ask) → list_all is_offered_work works ≡ true → Allowed o c (step_of o c seat ask number works [] [])
   step_allowed made unspent computes numbered may kind offered = record {
     fits = step_fits made unspent computes numbered may;
     offered = record { kind = kind; before = offered; later = refl; no_record = refl };

@@ -8,7 +8,7 @@ use Rattle.persistence.specs.Memory.{cell}
 use Rattle.persistence.specs.Survivors.{value_at}
 use Rattle.log_core.specs.Entries.{no_entry, head_place}
 use Rattle.log_core.specs.Files.{entries}
-use Rattle.log_core.specs.Cores.{nth_log, entry_count, is_full}
+use Rattle.log_core.specs.Cores.{nth_log, entries_used, is_full}
 use Rattle.log_core.specs.Order.{nth_generation, front_of, HeadsInOrder, GenerationsRise, LogInOrder, LogStands}
 use Rattle.log_core.specs.Pins.{PinHolds}
 use Rattle.log_core.specs.Views.{view_of}
@@ -64,7 +64,7 @@ cut_base (suc (suc place)) less = absurd (omega (arith, less))
 generations_rise : GenerationsRise image_a 1 collected.generations collected.logs
 generations_rise = record { from_first = λ place less. omega arith; to_end = to_end; rise = rise; cuts_rise = cuts_rise; cut_inside = cut_inside; cut_base = cut_base }
 
-next : (number : ℕ) → number + 1 < 2 → (nth_log collected.logs (number + 1)).base ≡ (nth_log collected.logs number).base + entry_count (nth_log collected.logs number)
+next : (number : ℕ) → number + 1 < 2 → (nth_log collected.logs (number + 1)).base ≡ (nth_log collected.logs number).base + entries_used (nth_log collected.logs number)
 next zero less = refl
 next (suc number) less = absurd (omega (arith, less))
 

@@ -16,7 +16,7 @@ use Rattle.asks.specs.declared.ask.Ask.TheVariants.{Load, Store, SetBits, ClearB
 use Rattle.asks.specs.declared.ask.Place.TheVariants.{Image, Map}
 use Rattle.log_core.specs.Entries.{has}
 use Rattle.log_core.specs.Views.{view_of, op_in}
-use Rattle.log_core.specs.Works.{SetsWord, CountsFilled, MaySetWord, worked, shape_of, stored_at, content_word}
+use Rattle.log_core.specs.Works.{SetsWord, CountsFilled, MaySetWord, state_after_work, seat_shape, stored_at, content_word}
 use Rattle.log_core.specs.Needs.{owned_numbers, is_in_area}
 use Rattle.log_core.specs.May.{MayStoreWord, IsOwnMark, OfOwned}
 use Rattle.log_core.specs.worked_rows.Rows.{pinned}
@@ -49,7 +49,7 @@ same_call None number = refl
 same_call (Some op) number = refl
 
 -- seat 0 sets and stores a word of block 1, which it owns first
-store_next : {c : Core} (word value : ℕ) → IsReached image_a c → 0 < length c.views → (view_of c.views 0).parts ≢ [] → MaySetWord (seat_zero c) 0 word value → MayStoreWord (worked (seat_zero c) (SetsWord 0 word value)) (8 + word) value
+store_next : {c : Core} (word value : ℕ) → IsReached image_a c → 0 < length c.views → (view_of c.views 0).parts ≢ [] → MaySetWord (seat_zero c) 0 word value → MayStoreWord (state_after_work (seat_zero c) (SetsWord 0 word value)) (8 + word) value
     → IsReached image_a (stepping image_a c 0 (Store (Image (8 + word)) value) (number_in c 0) (SetsWord 0 word value ∷ []) [])
 store_next {c} word value run made unspent sets stores = reach run (step_allowed image_a c 0 (number_in c 0) (Store (Image (8 + word)) value) (SetsWord 0 word value ∷ []) made unspent (sets, tt) (same_call (op_in (seat_zero c)) (number_in c 0)) stores tt refl)
 
@@ -65,7 +65,7 @@ taken_reached =
     let run : IsReached image_a pinned = record { steps = pin_steps; is_run = pin_runs.0; ends = pin_runs.1 } in
     let loaded = reach run (step_allowed image_a pinned 0 1 (Load (Map 0)) [] (omega arith) (one_part 0) tt refl (record { inside = omega arith; area = Data; lacks = omega arith }) tt refl) in
     reach loaded (step_allowed image_a _ 0 1 (SetBits (Map 0) 2) [] (omega arith) (one_part 0) tt refl
-    (record { inside = omega arith; area = Data; in_area = all_among 2 (λ block. is_in_area (shape_of (seat_zero pinned)) Data block) refl; few = omega arith }) tt refl)
+    (record { inside = omega arith; area = Data; in_area = all_among 2 (λ block. is_in_area (seat_shape (seat_zero pinned)) Data block) refl; few = omega arith }) tt refl)
 
 stored_reached : IsReached image_a own_stored
 stored_reached =

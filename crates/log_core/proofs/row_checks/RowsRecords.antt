@@ -109,7 +109,7 @@ tails zero = record { begun = λ at. omega arith; records = λ at. (omega arith,
 tails (suc zero) = record { begun = λ at. omega arith; records = λ at. tt }
 tails (suc (suc seat)) = record { begun = λ at. absurd (false≢true at); records = λ at. tt }
 
-marks : (seat : ℕ) → MarksFit (λ word. cell collected.memory word) collected.memory.past collected.memory.notes seat (view_of collected.views seat)
+marks : (seat : ℕ) → MarksFit (λ word. cell collected.memory word) collected.memory.past collected.memory.pending seat (view_of collected.views seat)
 marks zero = refl
 marks (suc zero) = refl
 marks (suc (suc seat)) = refl
@@ -131,7 +131,7 @@ records_stand = record {
 no_reply : (seat : ℕ) → Wrote 1 ≡ Synced seat → ⊥
 no_reply seat same = true≢false (ap is_written same)
 
-marked_views : (seat : ℕ) → SyncHolds 8 (names_by image_a slot_marked.logs (entries image_a slot_marked.history) slot_marked.generations) (λ word. cell slot_marked.memory word) slot_marked.memory.past slot_marked.memory.notes 0 seat (view_of slot_marked.views seat)
+marked_views : (seat : ℕ) → SyncHolds 8 (names_by image_a slot_marked.logs (entries image_a slot_marked.history) slot_marked.generations) (λ word. cell slot_marked.memory word) slot_marked.memory.past slot_marked.memory.pending 0 seat (view_of slot_marked.views seat)
 marked_views zero = record {
   to = λ position same. absurd (none_not_some position same);
   marks = λ sync. (
@@ -149,7 +149,7 @@ marked_views (suc (suc seat)) = record {
   answered = tt;
 }
 
-synced_views : (seat : ℕ) → SyncHolds 8 (names_by image_a synced.logs (entries image_a synced.history) synced.generations) (λ word. cell synced.memory word) synced.memory.past synced.memory.notes 1 seat (view_of synced.views seat)
+synced_views : (seat : ℕ) → SyncHolds 8 (names_by image_a synced.logs (entries image_a synced.history) synced.generations) (λ word. cell synced.memory word) synced.memory.past synced.memory.pending 1 seat (view_of synced.views seat)
 synced_views zero = record {
   to = λ position same. (let one = ap number_of same in (omega (arith, one), omega (arith, one)));
   marks = λ sync. tt;

@@ -7,7 +7,7 @@ use Rattle.log_entry.specs.declared.shapes.Area.TheVariants.{Data, Log, Spare}
 use Rattle.pmem_words.specs.Owned.{is_among}
 use Rattle.pmem_words.specs.declared.keeps.Task.TheVariants.{Pwrite}
 use Rattle.log_core.specs.Views.{Stored, view_of}
-use Rattle.log_core.specs.Works.{shape_of, stored_at, content_word}
+use Rattle.log_core.specs.Works.{seat_shape, stored_at, content_word}
 use Rattle.log_core.specs.Needs.{is_in_area, lacking}
 use Rattle.log_core.specs.worked_rows.Rows.{walked, taken_by_one, longer_writer, marked_words, BitsTaken, FenceFollows}
 use Rattle.log_core.proofs.row_checks.RowChecks.{all_below, below_implied}
@@ -26,12 +26,12 @@ none_more Data many = omega (arith, many)
 none_more Log many = omega (arith, many)
 none_more Spare many = omega (arith, many)
 
-none_after : (area : Area) → is_in_area (shape_of (view_of taken_by_one.views 0).seat) area 2 ≡ true → 1 ≤ lacking (view_of taken_by_one.views 0).seat (Pwrite 0) area → ⊥
+none_after : (area : Area) → is_in_area (seat_shape (view_of taken_by_one.views 0).seat) area 2 ≡ true → 1 ≤ lacking (view_of taken_by_one.views 0).seat (Pwrite 0) area → ⊥
 none_after Data within some = omega (arith, some)
 none_after Log within some = false≢true within
 none_after Spare within some = omega (arith, some)
 
-not_both : (area : Area) → is_in_area (shape_of longer_writer) area 4 ≡ true → 2 ≤ lacking longer_writer (Pwrite 0) area → ⊥
+not_both : (area : Area) → is_in_area (seat_shape longer_writer) area 4 ≡ true → 2 ≤ lacking longer_writer (Pwrite 0) area → ⊥
 not_both Data within many = false≢true within
 not_both Log within many = omega (arith, many)
 not_both Spare within many = omega (arith, many)
@@ -45,10 +45,10 @@ bits_taken = (
   refl,
   refl,
   refl,
-  record { inside = omega arith; area = Data; in_area = all_among 2 (λ block. is_in_area (shape_of (view_of walked.views 0).seat) Data block) refl; few = omega arith },
+  record { inside = omega arith; area = Data; in_area = all_among 2 (λ block. is_in_area (seat_shape (view_of walked.views 0).seat) Data block) refl; few = omega arith },
   λ may. none_more may.area may.few,
   λ may. none_after may.area (may.in_area 2 refl) may.few,
-  record { inside = omega arith; area = Data; in_area = all_among 6 (λ block. is_in_area (shape_of longer_writer) Data block) refl; few = omega arith },
+  record { inside = omega arith; area = Data; in_area = all_among 6 (λ block. is_in_area (seat_shape longer_writer) Data block) refl; few = omega arith },
   λ may. not_both may.area (may.in_area 4 refl) may.few,
 )
 

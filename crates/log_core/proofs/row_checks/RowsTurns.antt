@@ -9,7 +9,7 @@ use Rattle.log_image.specs.Image.{is_in_data}
 use Rattle.log_image.specs.Maps.{block_in}
 use Rattle.log_image.proofs.HoldingLemmas.{names_none}
 use Rattle.log_core.specs.Files.{byte_in}
-use Rattle.log_core.specs.Works.{shape_of}
+use Rattle.log_core.specs.Works.{seat_shape}
 use Rattle.log_core.specs.Steps.{content_of, new_meaning}
 use Rattle.log_core.specs.May.{is_fenced}
 use Rattle.log_core.specs.worked_rows.Accepted.{runs_writer, RunsMayBePut, CollectionsInTurn}
@@ -61,7 +61,7 @@ runs_may_be_put = (
     allowed = refl;
     form = refl;
     owned = λ block named. in_all (λ b. is_fenced runs_writer.blocks.owned b) (5 ∷ 1 ∷ 3 ∷ []) block refl named;
-    in_data = λ block named. in_all (λ b. is_in_data (shape_of runs_writer) b) (5 ∷ 1 ∷ 3 ∷ []) block refl named;
+    in_data = λ block named. in_all (λ b. is_in_data (seat_shape runs_writer) b) (5 ∷ 1 ∷ 3 ∷ []) block refl named;
     once = refl;
     size_is = refl;
     holds = bytes_held;

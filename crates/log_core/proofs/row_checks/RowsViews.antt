@@ -8,7 +8,7 @@ use Rattle.pmem_words.specs.Maps.{map_at as mapped_at}
 use Rattle.persistence.specs.Memory.{cell}
 use Rattle.log_core.specs.Entries.{has}
 use Rattle.log_core.specs.Views.{view_of}
-use Rattle.log_core.specs.Files.{entries, map_at}
+use Rattle.log_core.specs.Files.{entries, history_map_at}
 use Rattle.log_core.specs.Cores.{is_named, generation_at}
 use Rattle.log_core.specs.Works.{owned_block, stored_at, content_word, MayCountFilled}
 use Rattle.log_core.specs.Certain.{IsCertain}
@@ -20,14 +20,14 @@ use Rattle.log_core.specs.worked_rows.Rows.{collected, scan_clear, to_first}
 use Rattle.log_core.specs.worked_rows.Accepted.{ViewsStand, OwnedStands, GivingsStand}
 use Rattle.log_core.proofs.row_checks.RowChecks.{below_all, in_all, false_of, is_certain, certain_by}
 
-table_zero : (virt : ℕ) → mapped_at (view_of collected.views 0).seat.walk.map virt ≡ map_at image_a (entries image_a collected.history) 1 virt
+table_zero : (virt : ℕ) → mapped_at (view_of collected.views 0).seat.walk.map virt ≡ history_map_at image_a (entries image_a collected.history) 1 virt
 table_zero zero = refl
 table_zero (suc zero) = refl
 table_zero (suc (suc zero)) = refl
 table_zero (suc (suc (suc zero))) = refl
 table_zero (suc (suc (suc (suc virt)))) = sym (ap (λ (o : Option ℕ). option_or None o) (names_none (direct_meaning to_first) (suc (suc (suc (suc virt)))) (omega arith)))
 
-table_one : (virt : ℕ) → mapped_at (view_of collected.views 1).seat.walk.map virt ≡ map_at image_a (entries image_a collected.history) 0 virt
+table_one : (virt : ℕ) → mapped_at (view_of collected.views 1).seat.walk.map virt ≡ history_map_at image_a (entries image_a collected.history) 0 virt
 table_one zero = refl
 table_one (suc zero) = refl
 table_one (suc (suc zero)) = refl

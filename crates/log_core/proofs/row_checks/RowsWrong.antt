@@ -2,7 +2,7 @@
 use Rattle.std.proofs.Common.{◌≡◌, ◌≢◌, ◌⊎◌, ◌<◌, ◌+◌, slice_index, ℕ, zero, suc, List, [], ◌∷◌, length, refl, inl, inr, arith, ap}
 use Rattle.std.proofs.lemmas.Bool.{false≢true, true≢false}
 use Rattle.persistence.specs.Memory.{cell}
-use Rattle.log_core.specs.Views.{Marked}
+use Rattle.log_core.specs.Views.{MarkedWord}
 use Rattle.log_core.specs.Synced.{IsSynced}
 use Rattle.log_core.specs.Certain.{IsCertain}
 use Rattle.log_core.specs.worked_rows.Samples.{small_shape}
@@ -47,7 +47,7 @@ record_of_no_write = (
   λ records. (let times = records.writes_once 0 (one_part 0) 1 (omega arith) (omega arith) in omega (arith, times)),
   λ records. (let byte = ap first_byte (records.records 0).1.0.answers in omega (arith, byte)),
   λ records. (let times = records.collected_once 2 (omega arith) (omega arith) in omega (arith, times)),
-  λ records. (let many = ap (λ (marks : List Marked). length marks) (records.marks 0) in omega (arith, many)),
+  λ records. (let many = ap (λ (marks : List MarkedWord). length marks) (records.marks 0) in omega (arith, many)),
 )
 
 slot_sure : (k : ℕ) → k < 1 → 0 + k < 1 → IsCertain (cell synced.memory (24 + (k + 3))) (slice_index (to_first ∷ []) k)

@@ -13,7 +13,7 @@ use Rattle.log_image.proofs.NameLemmas.{all_good}
 use Rattle.persistence.specs.Memory.{cell}
 use Rattle.log_core.specs.Entries.{has, place_in, LogEntry, no_entry, entry_by}
 use Rattle.log_core.specs.Views.{View}
-use Rattle.log_core.specs.Origin.{Origin, shape, first_recorded, first_logs, first_memory, first_owner, first_entries, first_base, start_generation}
+use Rattle.log_core.specs.Origin.{Origin, shape, first_recorded, first_logs, first_memory, first_owner, first_entries, start_base, start_generation}
 use Rattle.log_core.specs.Files.{entries}
 use Rattle.log_core.specs.Cores.{data_names, is_named, IsKept}
 use Rattle.log_core.specs.May.{is_log_entry_by}
@@ -61,7 +61,7 @@ module _ (o : Origin) (s : Facts o) where
     taken = λ block inside. inl ((start_owns o s).all block inside);
     whole = long_block;
     words = recorded_words ((start_generation o).snapshots ++ data_names o (entries o []) (start_generation o));
-    entries_say = subst (λ (es : List LogEntry). EntriesSay (shape o) (first_recorded o) ((start_generation o).base - first_base o) es) (sym (append-nil (first_entries o))) (says ((start_generation o).base - first_base o));
+    entries_say = subst (λ (es : List LogEntry). EntriesSay (shape o) (first_recorded o) ((start_generation o).base - start_base o) es) (sym (append-nil (first_entries o))) (says ((start_generation o).base - start_base o));
     snapshot = start_snapshot o s;
     files = λ position from to. start_file o s position;
   }

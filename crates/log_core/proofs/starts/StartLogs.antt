@@ -15,7 +15,7 @@ use Rattle.log_image.proofs.ListLemmas.{all_back}
 use Rattle.persistence.specs.Memory.{cell}
 use Rattle.log_image.proofs.ChainSteps.{log_entry_words}
 use Rattle.log_core.specs.Entries.{place_in}
-use Rattle.log_core.specs.Origin.{Origin, shape, no_log, log_block, used_slots, first_recorded, first_logs, first_memory, first_base}
+use Rattle.log_core.specs.Origin.{Origin, shape, no_log, log_block, used_slots, first_recorded, first_logs, first_memory, start_base}
 use Rattle.log_core.specs.Cores.{nth_log}
 use Rattle.log_core.specs.Certain.{IsCertain, IsGrowing}
 use Rattle.log_image.proofs.SetWordLemmas.{log_inside}
@@ -93,8 +93,8 @@ module _ (o : Origin) (s : Facts o) where
   form_at number inside = test_at (λ (b : ℕ). is_log_block o.words (shape o) (first_recorded o b)) blocks number s.stands.format.logs inside
 
   pub log_at : (number : ℕ) → number < length blocks →
-      (kind_of (first_recorded o (block_at number)) ≡ 1) × (base_of (first_recorded o (block_at number)) ≡ first_base o + length (flat_map (log_entry_words o.words (shape o)) (take number blocks)))
-  log_at number inside = log_at_place o.words (shape o) (first_base o) blocks number s.stands.is_chain.logs inside
+      (kind_of (first_recorded o (block_at number)) ≡ 1) × (base_of (first_recorded o (block_at number)) ≡ start_base o + length (flat_map (log_entry_words o.words (shape o)) (take number blocks)))
+  log_at number inside = log_at_place o.words (shape o) (start_base o) blocks number s.stands.is_chain.logs inside
 
   placed_at : (number : ℕ) → number < length blocks → is_seal_placed (slots_at number) ≡ true
   placed_at number inside =

@@ -15,9 +15,9 @@ use Rattle.persistence.specs.Memory.{cell}
 use Rattle.persistence.specs.Survivors.{value_at}
 use Rattle.log_image.proofs.ChainSteps.{log_entry_words}
 use Rattle.log_core.specs.Entries.{LogEntry, no_entry, entry_by, head_place}
-use Rattle.log_core.specs.Origin.{Origin, shape, LogBlock, no_log, log_block, used_slots, first_recorded, first_logs, first_memory, first_base, first_position, first_generation, first_entries, start_generation}
+use Rattle.log_core.specs.Origin.{Origin, shape, LogBlock, no_log, log_block, used_slots, first_recorded, first_logs, first_memory, start_base, first_position, first_generation, first_entries, start_generation}
 use Rattle.log_core.specs.Files.{entries}
-use Rattle.log_core.specs.Cores.{nth_log, entry_count, is_sealed, is_full}
+use Rattle.log_core.specs.Cores.{nth_log, entries_used, is_sealed, is_full}
 use Rattle.log_core.specs.Order.{HeadsInOrder, GenerationsRise, LogInOrder, nth_generation, front_of}
 use Rattle.log_core.specs.Snapshots.{first_or}
 use Rattle.log_core.proofs.starts.StartViews.{start_floor}
@@ -64,7 +64,7 @@ module _ (o : Origin) (s : Facts o) where
       each (suc place) inside = absurd (omega (arith, inside))
 
   -- the position that the entries come to
-  long : first_base o + length (flat_map (log_entry_words o.words (shape o)) (blocks o s)) ≡ first_position o
+  long : start_base o + length (flat_map (log_entry_words o.words (shape o)) (blocks o s)) ≡ first_position o
   long = refl
 
   pub start_rises : GenerationsRise o (first_position o + 0) (start_generation o ∷ []) (first_logs o)
@@ -77,7 +77,7 @@ module _ (o : Origin) (s : Facts o) where
     cut_base = cut_base;
   }
     where
-      from_first : (place : ℕ) → place < 1 → first_base o ≤ (nth_generation (start_generation o ∷ []) place).base
+      from_first : (place : ℕ) → place < 1 → start_base o ≤ (nth_generation (start_generation o ∷ []) place).base
       from_first zero inside = omega arith
       from_first (suc place) inside = absurd (omega (arith, inside))
 
@@ -102,18 +102,18 @@ module _ (o : Origin) (s : Facts o) where
       go (inl inside) = subst (λ (l : LogBlock). P number l) (sym (nth o s number inside)) (chained_holds number inside)
       go (inr past) = subst (λ (l : LogBlock). P number l) (sym (get_or_past (first_logs o) number no_log (omega (arith, past, many o s)))) (none number)
 
-  base_at : (number : ℕ) → number < length (blocks o s) → (nth_log (first_logs o) number).base ≡ first_base o + length (flat_map (log_entry_words o.words (shape o)) (take number (blocks o s)))
+  base_at : (number : ℕ) → number < length (blocks o s) → (nth_log (first_logs o) number).base ≡ start_base o + length (flat_map (log_entry_words o.words (shape o)) (take number (blocks o s)))
   base_at number inside = ap (λ (l : LogBlock). l.base) (nth o s number inside) ∙ (log_at o s number inside).1
 
-  count_at : (number : ℕ) → number < length (blocks o s) → entry_count (nth_log (first_logs o) number) ≡ length (log_entry_words o.words (shape o) (block_at o s number))
-  count_at number inside = ap (λ (l : LogBlock). entry_count l) (nth o s number inside) ∙ ap (λ (l : List ℕ). length l) (used_entries (slots_at o s number))
+  count_at : (number : ℕ) → number < length (blocks o s) → entries_used (nth_log (first_logs o) number) ≡ length (log_entry_words o.words (shape o) (block_at o s number))
+  count_at number inside = ap (λ (l : LogBlock). entries_used l) (nth o s number inside) ∙ ap (λ (l : List ℕ). length l) (used_entries (slots_at o s number))
 
-  next_base : (number : ℕ) → number + 1 < length (blocks o s) → (nth_log (first_logs o) (number + 1)).base ≡ (nth_log (first_logs o) number).base + entry_count (nth_log (first_logs o) number)
+  next_base : (number : ℕ) → number + 1 < length (blocks o s) → (nth_log (first_logs o) (number + 1)).base ≡ (nth_log (first_logs o) number).base + entries_used (nth_log (first_logs o) number)
   next_base number inside =
       let here : number < length (blocks o s) = omega (arith, inside) in
       omega (arith, base_at (number + 1) inside, base_at number here, count_at number here, entries_more (log_entry_words o.words (shape o)) (blocks o s) number here)
 
-  last_end : (number : ℕ) → number + 1 ≡ length (blocks o s) → (nth_log (first_logs o) number).base + entry_count (nth_log (first_logs o) number) ≡ first_position o
+  last_end : (number : ℕ) → number + 1 ≡ length (blocks o s) → (nth_log (first_logs o) number).base + entries_used (nth_log (first_logs o) number) ≡ first_position o
   last_end number last =
       let here : number < length (blocks o s) = omega (arith, last) in
       let all : length (flat_map (log_entry_words o.words (shape o)) (take (number + 1) (blocks o s))) ≡ length (flat_map (log_entry_words o.words (shape o)) (blocks o s)) =
@@ -146,17 +146,17 @@ module _ (o : Origin) (s : Facts o) where
   entry_word (word ∷ words) (suc place) = entry_word words place
 
   entry_at : (number k : ℕ) → number < length (blocks o s) → k < length (log_entry_words o.words (shape o) (block_at o s number)) →
-      (get_or (entries o []) ((nth_log (first_logs o) number).base + k - first_base o) no_entry).word ≡ get_or (log_entry_words o.words (shape o) (block_at o s number)) k 0
+      (get_or (entries o []) ((nth_log (first_logs o) number).base + k - start_base o) no_entry).word ≡ get_or (log_entry_words o.words (shape o) (block_at o s number)) k 0
   entry_at number k inside before =
-      let place : (nth_log (first_logs o) number).base + k - first_base o ≡ length (flat_map (log_entry_words o.words (shape o)) (take number (blocks o s))) + k = omega (arith, base_at number inside) in
-      ap (λ (es : List LogEntry). (get_or es ((nth_log (first_logs o) number).base + k - first_base o) no_entry).word) (append-nil (first_entries o))
-      ∙ entry_word (log_words o.words (shape o) o.chain) ((nth_log (first_logs o) number).base + k - first_base o)
+      let place : (nth_log (first_logs o) number).base + k - start_base o ≡ length (flat_map (log_entry_words o.words (shape o)) (take number (blocks o s))) + k = omega (arith, base_at number inside) in
+      ap (λ (es : List LogEntry). (get_or es ((nth_log (first_logs o) number).base + k - start_base o) no_entry).word) (append-nil (first_entries o))
+      ∙ entry_word (log_words o.words (shape o) o.chain) ((nth_log (first_logs o) number).base + k - start_base o)
       ∙ ap (λ (i : ℕ). get_or (log_words o.words (shape o) o.chain) i 0) place
       ∙ get_or-flat_map (log_entry_words o.words (shape o)) (blocks o s) number k 0 0 inside before
 
   pub start_log : LogInOrder o (entries o []) (first_position o + 0) (first_logs o)
   start_log = record {
-    count = ap (λ (es : List LogEntry). first_base o + length es) (append-nil (first_entries o)) ∙ omega (arith, length-map (log_words o.words (shape o) o.chain) (λ (word : ℕ). entry_by (first_recorded o) word), long);
+    count = ap (λ (es : List LogEntry). start_base o + length es) (append-nil (first_entries o)) ∙ omega (arith, length-map (log_words o.words (shape o) o.chain) (λ (word : ℕ). entry_by (first_recorded o) word), long);
     limit = omega (arith, s.stands.format.below_limit);
     some = omega (arith, many o s, (chained o s).some);
     first = base_at 0 (chained o s).some ∙ omega arith;
@@ -171,17 +171,17 @@ module _ (o : Origin) (s : Facts o) where
   }
     where
       same_entry : (number k : ℕ) → k < length (nth_log (first_logs o) number).slots → get_or (nth_log (first_logs o) number).slots k 0 ≢ 3 →
-          get_or (nth_log (first_logs o) number).slots k 0 ≡ (get_or (entries o []) ((nth_log (first_logs o) number).base + k - first_base o) no_entry).word
+          get_or (nth_log (first_logs o) number).slots k 0 ≡ (get_or (entries o []) ((nth_log (first_logs o) number).base + k - start_base o) no_entry).word
       same_entry number k before other = go (cases_lt number (length (blocks o s))) before other
         where
           of_block : (inside : number < length (blocks o s)) → k < length (used_slots (slots_at o s number)) → get_or (used_slots (slots_at o s number)) k 0 ≢ 3 →
-              get_or (used_slots (slots_at o s number)) k 0 ≡ (get_or (entries o []) ((nth_log (first_logs o) number).base + k - first_base o) no_entry).word
+              get_or (used_slots (slots_at o s number)) k 0 ≡ (get_or (entries o []) ((nth_log (first_logs o) number).base + k - start_base o) no_entry).word
           of_block inside before other =
               let entry : (k < length (entry_words (slots_at o s number))) × (get_or (entry_words (slots_at o s number)) k 0 ≡ get_or (used_slots (slots_at o s number)) k 0) = used_entry (slots_at o s number) k before other in
               sym entry.1 ∙ sym (entry_at number k inside entry.0)
 
           go : (number < length (blocks o s)) ⊎ (length (blocks o s) ≤ number) → k < length (nth_log (first_logs o) number).slots → get_or (nth_log (first_logs o) number).slots k 0 ≢ 3 →
-              get_or (nth_log (first_logs o) number).slots k 0 ≡ (get_or (entries o []) ((nth_log (first_logs o) number).base + k - first_base o) no_entry).word
-          go (inl inside) = subst (λ (l : LogBlock). k < length l.slots → get_or l.slots k 0 ≢ 3 → get_or l.slots k 0 ≡ (get_or (entries o []) ((nth_log (first_logs o) number).base + k - first_base o) no_entry).word)
+              get_or (nth_log (first_logs o) number).slots k 0 ≡ (get_or (entries o []) ((nth_log (first_logs o) number).base + k - start_base o) no_entry).word
+          go (inl inside) = subst (λ (l : LogBlock). k < length l.slots → get_or l.slots k 0 ≢ 3 → get_or l.slots k 0 ≡ (get_or (entries o []) ((nth_log (first_logs o) number).base + k - start_base o) no_entry).word)
               (sym (nth o s number inside)) (of_block inside)
           go (inr past) = (let none : nth_log (first_logs o) number ≡ no_log = get_or_past (first_logs o) number no_log (omega (arith, past, many o s)) in λ before other. absurd (omega (arith, rw none at before)))

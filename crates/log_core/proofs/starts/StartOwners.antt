@@ -12,9 +12,9 @@ use Rattle.log_image.specs.Taken.{named_blocks}
 use Rattle.log_image.proofs.NameLemmas.{test_in, names_in_data, not_data, different_join}
 use Rattle.log_core.specs.Entries.{has, LogEntry, entry_by, entry_names}
 use Rattle.log_core.specs.Views.{View}
-use Rattle.log_core.specs.Origin.{Origin, shape, Free, Header, InChain, OwnedBy, LeftTo, owner_by, first_owner, first_recorded, first_logs, first_base, first_generation, first_entries, first_snapshot, first_views, start_generation, log_block}
+use Rattle.log_core.specs.Origin.{Origin, shape, Free, Header, InChain, OwnedBy, LeftTo, owner_by, first_owner, first_recorded, first_logs, start_base, first_generation, first_entries, first_snapshot, first_views, start_generation, log_block}
 use Rattle.log_core.specs.Files.{entries}
-use Rattle.log_core.specs.Cores.{log_blocks, chain_names, data_names, named, is_named, IsKept}
+use Rattle.log_core.specs.Cores.{log_blocks, chain_names, data_names, generation_blocks, is_named, IsKept}
 use Rattle.log_core.specs.Order.{nth_generation}
 use Rattle.log_core.specs.Owners.{bit_for, BitsFit, ChainOwns, IsListOf, SeatOwns, NamesOnce}
 use Rattle.log_core.specs.Invariant.{Owners}
@@ -86,13 +86,13 @@ module _ (o : Origin) (s : Facts o) where
 
   pub data_is : data_names o (entries o []) (start_generation o) ≡ all_names (entries_of o.words (shape o) o.chain)
   data_is =
-      let none : first_base o - first_base o ≡ 0 = omega arith in
+      let none : start_base o - start_base o ≡ 0 = omega arith in
       ap (λ (n : ℕ). all_names (first_snapshot o) ++ entry_names (drop n (first_entries o ++ []))) none
       ∙ ap (λ (es : List LogEntry). all_names (first_snapshot o) ++ entry_names es) (append-nil (first_entries o))
       ∙ ap (λ (l : List ℕ). all_names (first_snapshot o) ++ l) (same_names o.words (shape o) (log_words o.words (shape o) o.chain))
       ∙ sym (flat_map-append names (first_snapshot o) (log_entries o.words (shape o) o.chain))
 
-  pub named_is : named o (first_logs o) (entries o []) (start_generation o) ≡ named_blocks o.words (shape o) o.chain
+  pub named_is : generation_blocks o (first_logs o) (entries o []) (start_generation o) ≡ named_blocks o.words (shape o) o.chain
   named_is = ap (λ (l : List ℕ). l ++ data_names o (entries o []) (start_generation o)) chain_is ∙ ap (λ (l : List ℕ). o.chain ++ l) data_is
 
   chain_area : (block : ℕ) → has o.chain block ≡ true → is_in_log (shape o) block ≡ true

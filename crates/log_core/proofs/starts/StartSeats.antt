@@ -15,7 +15,7 @@ use Rattle.log_image.proofs.HoldingLemmas.{zeros_after}
 use Rattle.pmem_words.proofs.MapLaws.{length_unmapped}
 use Rattle.persistence.specs.Memory.{Cell, cell}
 use Rattle.log_core.specs.Views.{View, new_view, spent_view, view_of, no_ghost, no_geometry, HeadPut}
-use Rattle.log_core.specs.Origin.{Origin, q_of, start_generation, first_position, first_generation, first_memory, first_views, first_logs, made_by}
+use Rattle.log_core.specs.Origin.{Origin, q_of_origin, start_generation, first_position, first_generation, first_memory, first_views, first_logs, made_by}
 use Rattle.log_core.specs.Files.{entries}
 use Rattle.log_core.specs.Cores.{first_core, current, head_floor}
 use Rattle.log_core.specs.Sizes.{HasSeats, HasImage, SeatFits, Sizes}
@@ -40,7 +40,7 @@ pub start_sizes : (o : Origin) → HasSeats o → HasImage o → Sizes o (first_
 start_sizes o seats image = record {
   seats = seats;
   image = image;
-  words = record { words = refl; taken = refl; pins = length-replicate o.seats 0; floors = length-replicate (length o.words) 0; reached = λ word. (let e = zeros_after [] (length o.words) word in omega (arith, e)); notes = tt };
+  words = record { words = refl; taken = refl; pins = length-replicate o.seats 0; floors = length-replicate (length o.words) 0; reached = λ word. (let e = zeros_after [] (length o.words) word in omega (arith, e)); pending = tt };
   some = omega (arith, views_made o, (some_made o seats).0);
   few = omega (arith, views_made o, (some_made o seats).1);
   begun = length-replicate o.made 0 ∙ sym (views_made o);
@@ -209,7 +209,7 @@ start_records o = record {
   marks = each_view o (λ n v. MarksFit (λ word. cell (first_memory o) word) [] [] n v) (λ n before. refl) (λ n. refl);
 }
 
-pub start_syncs : (o : Origin) → SyncsHold (q_of o) (names_by o (first_logs o) (entries o []) (start_generation o ∷ [])) (λ word. cell (first_memory o) word) [] [] (first_position o) (first_views o)
-start_syncs o = each_view o (λ n v. SyncHolds (q_of o) (names_by o (first_logs o) (entries o []) (start_generation o ∷ [])) (λ word. cell (first_memory o) word) [] [] (first_position o) n v)
+pub start_syncs : (o : Origin) → SyncsHold (q_of_origin o) (names_by o (first_logs o) (entries o []) (start_generation o ∷ [])) (λ word. cell (first_memory o) word) [] [] (first_position o) (first_views o)
+start_syncs o = each_view o (λ n v. SyncHolds (q_of_origin o) (names_by o (first_logs o) (entries o []) (start_generation o ∷ [])) (λ word. cell (first_memory o) word) [] [] (first_position o) n v)
     (λ n before. record { to = λ position is. absurd (no_position position is); marks = λ job. absurd (not_syncing job); valid = λ job. absurd (not_syncing job); answered = tt })
     (λ n. record { to = λ position is. absurd (no_position position is); marks = λ job. absurd (not_syncing job); valid = λ job. absurd (not_syncing job); answered = tt })

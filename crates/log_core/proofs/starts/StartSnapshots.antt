@@ -17,7 +17,7 @@ use Rattle.log_image.proofs.ImageLemmas.{in_block}
 use Rattle.log_image.proofs.ListLemmas.{all_front}
 use Rattle.log_core.specs.Entries.{LogEntry, meanings}
 use Rattle.log_core.specs.Origin.{Origin, shape, LogBlock, first_recorded, first_logs, first_snapshot, start_generation}
-use Rattle.log_core.specs.Files.{entries, map_at}
+use Rattle.log_core.specs.Files.{entries, history_map_at}
 use Rattle.log_core.specs.Cores.{nth_log}
 use Rattle.log_core.specs.Snapshots.{AreSnapshotBlocks}
 use Rattle.log_core.specs.After.{snapshot_meanings}
@@ -74,7 +74,7 @@ module _ (o : Origin) (s : Facts o) where
   none_yet : (es : List LogEntry) → take ((start_generation o).base - (start_generation o).base) es ≡ []
   none_yet es = (let none : (start_generation o).base - (start_generation o).base ≡ 0 = omega arith in rw none refl)
 
-  map_is : (virt : ℕ) → map_at o (entries o []) (start_generation o).base virt ≡ map_of (first_snapshot o) virt
+  map_is : (virt : ℕ) → history_map_at o (entries o []) (start_generation o).base virt ≡ map_of (first_snapshot o) virt
   map_is virt = ap (λ (es : List LogEntry). map_of (first_snapshot o ++ meanings es) virt) (none_yet (entries o [])) ∙ ap (λ (l : List Meaning). map_of l virt) (append-nil (first_snapshot o))
 
   following_is : (nth_log (first_logs o) 0).block ≡ get_or (blocks o s) 0 0

@@ -17,12 +17,12 @@ use Rattle.pmem_words.specs.Seats.{Seat, new_seat, no_calling}
 use Rattle.persistence.specs.Memory.{cell}
 use Rattle.log_core.specs.Views.{View, view_of, new_view, no_ghost}
 use Rattle.log_core.specs.Origin.{Origin, Free, InChain, LeftTo, first_position}
-use Rattle.log_core.specs.Cores.{Core, IsKept, first_core, head_floor, named, is_named, generation_at}
-use Rattle.log_core.specs.Files.{entries, file_at, map_at}
+use Rattle.log_core.specs.Cores.{Core, IsKept, first_core, head_floor, generation_blocks, is_named, generation_at}
+use Rattle.log_core.specs.Files.{entries, file_at, history_map_at}
 use Rattle.log_core.specs.Works.{Begins, StartsFromSnapshot, ReadsRun, EndsReading, TakesEntry, TakesSeal, Follows}
 use Rattle.log_core.specs.Steps.{Step, Splits, Joins, new_meaning}
 use Rattle.log_core.specs.After.{after}
-use Rattle.log_core.specs.Runs.{Fits, Allowed, MayJoin, MaySplit, IsRun, end}
+use Rattle.log_core.specs.Runs.{MayMakeStep, Allowed, MayJoin, MaySplit, IsRun, end}
 use Rattle.log_core.specs.May.{MayStoreOwnPin, MayLoadImageWord, MayStoreWord, MayMark, MayCommit, walked_trail}
 use Rattle.log_core.specs.Answers.{MayAdd}
 use Rattle.log_core.specs.Walks.{HasRead}
@@ -112,8 +112,8 @@ abbrev pub SyncsStand : Type 0
 SyncsStand =
     SyncsOf slot_marked
     × SyncsOf synced
-    × MarksFit (λ word. cell slot_marked.memory word) slot_marked.memory.past slot_marked.memory.notes 0 (view_of slot_marked.views 0)
-    × MarksFit (λ word. cell slot_marked.memory word) slot_marked.memory.past slot_marked.memory.notes 1 (view_of slot_marked.views 1)
+    × MarksFit (λ word. cell slot_marked.memory word) slot_marked.memory.past slot_marked.memory.pending 0 (view_of slot_marked.views 0)
+    × MarksFit (λ word. cell slot_marked.memory word) slot_marked.memory.past slot_marked.memory.pending 1 (view_of slot_marked.views 1)
 
 -- the three steps of a pin, the newest first, are a run that comes to the pinned state
 abbrev pub pin_steps : List Step
@@ -131,7 +131,7 @@ abbrev pub write_step : Step
 write_step = step_of image_a racing 0 (Exchange (Image 27) 0 to_first) 1 [] [] (first_call ∷ [])
 
 abbrev pub WriteFits : Type 0
-WriteFits = Fits image_a racing write_step × (Allowed image_a racing write_step → ⊥)
+WriteFits = MayMakeStep image_a racing write_step × (Allowed image_a racing write_step → ⊥)
 
 -- seat 0 has its records and its blocks kept for later, and holds nothing; seat 1 has come further, and holds nothing
 abbrev pub idle : View → View
@@ -208,13 +208,13 @@ LateWrite =
     × ((view_of late_found.views 1).seat.walk.tail_base ≡ 1)
     × ((view_of late_found.views 1).seat.walk.at_tail ≡ true)
     × ((view_of late_found.views 1).seat.walk.map ≡ Some 1 ∷ None ∷ None ∷ None ∷ [])
-    × Fits image_a late_found late_step
+    × MayMakeStep image_a late_found late_step
     × (length late.history ≡ 2)
     × (file_at image_a late.history 2 ≡ 187 ∷ [])
-    × (map_at image_a (entries image_a late.history) 2 0 ≡ Some 2)
+    × (history_map_at image_a (entries image_a late.history) 2 0 ≡ Some 2)
     × (late.logs ≡ record { block = 3; base = 0; slots = to_first ∷ 3 ∷ [] } ∷ record { block = 4; base = 1; slots = to_second ∷ [] } ∷ [])
-    × (named image_a late.logs (entries image_a late.history) (generation_at image_a late.generations 1) ≡ 3 ∷ 4 ∷ 1 ∷ 2 ∷ [])
-    × (named image_a late.logs (entries image_a late.history) (generation_at image_a late.generations 2) ≡ 5 ∷ 4 ∷ 1 ∷ 2 ∷ [])
+    × (generation_blocks image_a late.logs (entries image_a late.history) (generation_at image_a late.generations 1) ≡ 3 ∷ 4 ∷ 1 ∷ 2 ∷ [])
+    × (generation_blocks image_a late.logs (entries image_a late.history) (generation_at image_a late.generations 2) ≡ 5 ∷ 4 ∷ 1 ∷ 2 ∷ [])
     × (map late.owner (1 ∷ 2 ∷ 3 ∷ 4 ∷ 5 ∷ []) ≡ InChain ∷ InChain ∷ LeftTo 0 ∷ InChain ∷ InChain ∷ [])
     × ((view_of late.views 1).done ≡ late_call ∷ [])
     × ((view_of late.views 1).seat.walk.map ≡ Some 2 ∷ None ∷ None ∷ None ∷ [])

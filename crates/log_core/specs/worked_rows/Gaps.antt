@@ -8,7 +8,7 @@ use Rattle.asks.specs.declared.ask.Ask.TheVariants.{Store, SetBits, ClearBits, M
 use Rattle.asks.specs.declared.ask.Place.TheVariants.{Image, Map}
 use Rattle.pmem_words.specs.declared.keeps.Task.TheVariants.{Pwrite, Collect}
 use Rattle.pmem_words.specs.Seats.{new_seat}
-use Rattle.persistence.specs.Memory.{cell, index_at, notes_of}
+use Rattle.persistence.specs.Memory.{cell, index_at, pending_of}
 use Rattle.log_core.specs.Views.{View, view_of, spent_view}
 use Rattle.log_core.specs.Origin.{Free, Header, InChain, LeftTo}
 use Rattle.log_core.specs.Cores.{Core, first_core}
@@ -50,7 +50,7 @@ IsOfPresent c = (index_at c.memory.past 17 16 ≡ length (cell c.memory 16).past
 -- the mark is of the present value before the store, and not after it. That it is of a block of the chain refuses it from the first
 abbrev pub MarkOfOwnedBlock : Type 0
 MarkOfOwnedBlock =
-    (notes_of 0 owned_marked.memory.notes ≡ record { seat = 0; word = 3; time = 17 } ∷ record { seat = 0; word = 16; time = 17 } ∷ [])
+    (pending_of 0 owned_marked.memory.pending ≡ record { seat = 0; word = 3; time = 17 } ∷ record { seat = 0; word = 16; time = 17 } ∷ [])
     × IsOfPresent owned_marked
     × MayStoreWord (view_of owned_marked.views 1).seat 16 188
     × (IsOfPresent owned_stored → ⊥)
@@ -71,7 +71,7 @@ FloorAhead =
     × (cell (stored_in taken_by_one).memory 8 ≡ record { present = 170; past = 0 ∷ []; floor = 0 })
     × (cell (stored_in ahead).memory 8 ≡ record { present = 170; past = 0 ∷ []; floor = 1 })
     × (stored_at (view_of (stored_in ahead).views 0).ghost.stored 8 ≡ Some (record { word = 8; value = 170; marked = false }))
-    × ((stored_in ahead).memory.notes ≡ [])
+    × ((stored_in ahead).memory.pending ≡ [])
     × (MemoryFits image_a ahead.memory 2 → ⊥)
 
 pub longer_total : total_of 2 1 512 ≤ 65535

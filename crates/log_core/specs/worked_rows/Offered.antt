@@ -8,9 +8,9 @@ use Rattle.persistence.specs.Memory.{cell}
 use Rattle.log_core.specs.Views.{view_of}
 use Rattle.log_core.specs.Origin.{Free, Header, InChain, OwnedBy}
 use Rattle.log_core.specs.Cores.{Core}
-use Rattle.log_core.specs.Works.{Work, SetsWord, CountsFilled, stored_at, worked}
+use Rattle.log_core.specs.Works.{Work, SetsWord, CountsFilled, stored_at, state_after_work}
 use Rattle.log_core.specs.May.{MayLoadBitmapWord, MaySetBits}
-use Rattle.log_core.specs.Runs.{Fits, Allowed, IsReached}
+use Rattle.log_core.specs.Runs.{MayMakeStep, Allowed, IsReached}
 use Rattle.log_core.specs.Starts.{IsStart}
 use Rattle.log_core.specs.Invariant.{Invariant}
 use Rattle.log_core.specs.worked_rows.Samples.{image_a, step_of, stepping, number_in, storing, marking}
@@ -25,7 +25,7 @@ stored_again = stepping image_a fenced 0 (Store (Image 8) 171) 1 [] []
 abbrev pub FilledNoMore : Type 0
 FilledNoMore =
     ((view_of stored_again.views 0).seat.blocks.owned ≡ record { block = 1; area = Data; filled = false; fenced = false } ∷ [])
-    × ((worked (view_of fenced.views 0).seat (SetsWord 0 0 171)).blocks.owned ≡ record { block = 1; area = Data; filled = false; fenced = false } ∷ [])
+    × ((state_after_work (view_of fenced.views 0).seat (SetsWord 0 0 171)).blocks.owned ≡ record { block = 1; area = Data; filled = false; fenced = false } ∷ [])
     × (stored_at (view_of stored_again.views 0).ghost.stored 8 ≡ Some (record { word = 8; value = 171; marked = false }))
     × (stored_at (view_of stored_again.views 0).ghost.stored 9 ≡ Some (record { word = 9; value = 0; marked = true }))
     × (cell stored_again.memory 8 ≡ record { present = 171; past = 0 ∷ 170 ∷ []; floor = 1 })
@@ -42,7 +42,7 @@ BitmapMayBeRead =
 
 -- a step of a seat in its running call meets the condition of its kind, and is allowed
 abbrev pub MayBeMade : Core → ℕ → Ask → List Work → Type 0
-MayBeMade c seat ask works = Fits image_a c (step_of image_a c seat ask (number_in c seat) works [] [])
+MayBeMade c seat ask works = MayMakeStep image_a c (step_of image_a c seat ask (number_in c seat) works [] [])
 
 abbrev pub IsAllowed : Core → ℕ → Ask → List Work → Type 0
 IsAllowed c seat ask works = Allowed image_a c (step_of image_a c seat ask (number_in c seat) works [] [])

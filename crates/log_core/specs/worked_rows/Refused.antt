@@ -13,7 +13,7 @@ use Rattle.persistence.specs.Memory.{Replaced, cell}
 use Rattle.log_core.specs.Views.{view_of}
 use Rattle.log_core.specs.Origin.{Origin, Generation, LogBlock}
 use Rattle.log_core.specs.Cores.{Core, first_core}
-use Rattle.log_core.specs.Works.{worked, NotesNamed}
+use Rattle.log_core.specs.Works.{state_after_work, NotesNamed}
 use Rattle.log_core.specs.Steps.{Splits, content_of, new_meaning, new_snapshots}
 use Rattle.log_core.specs.After.{after, snapshot_meanings}
 use Rattle.log_core.specs.May.{MayCommit, MayExchangeHead, is_log_entry_by}
@@ -44,7 +44,7 @@ abbrev pub ViewsOf : Core → Type 0
 ViewsOf c = WalksHold (around image_a c) c.views
 
 abbrev pub OwnedOf : Core → Type 0
-OwnedOf c = OwnedAllHold (λ word. cell c.memory word) c.memory.past c.memory.notes c.views
+OwnedOf c = OwnedAllHold (λ word. cell c.memory word) c.memory.past c.memory.pending c.views
 
 abbrev pub GivingsOf : Core → Type 0
 GivingsOf c = Givings image_a c.memory c.views c.history c.generations c.logs
@@ -165,7 +165,7 @@ RecordOfNoWrite =
     × (RecordsOf (with_done written []) → ⊥)
     × (RecordsOf (with_done written (first_call ∷ record { position = 1; seat = 0; number = 2; op = PreadOp 0 1; reply = Bytes (171 ∷ []) } ∷ [])) → ⊥)
     × (RecordsOf (record collected { views = slice_set collected.views 0 (record (view_of collected.views 0) { ghost = (view_of written.views 0).ghost }) }) → ⊥)
-    × (RecordsOf (record marked_words { memory = record (marked_words.memory) { notes = [] } }) → ⊥)
+    × (RecordsOf (record marked_words { memory = record (marked_words.memory) { pending = [] } }) → ⊥)
 
 -- synced: a crash may leave 0 in a slot that counts as synced; a sync has answered a position that is not synced; the synced position
 -- is past the end. What a sync leaves is synced
@@ -197,7 +197,7 @@ NamedTwice =
 
 -- the seat that may put the second generation in place, with these words as its snapshot's
 abbrev pub snapshot_writer : List ℕ → Seat
-snapshot_writer words = record (worked (seat_zero linked) (NotesNamed (26 ∷ []))) { blocks = record ((worked (seat_zero linked) (NotesNamed (26 ∷ []))).blocks) { contents = words } }
+snapshot_writer words = record (state_after_work (seat_zero linked) (NotesNamed (26 ∷ []))) { blocks = record ((state_after_work (seat_zero linked) (NotesNamed (26 ∷ []))).blocks) { contents = words } }
 
 -- a snapshot whose second run covers its first leads where the map does, and names block 2, which the map does not
 abbrev pub covered : Seat

@@ -19,10 +19,10 @@ use Rattle.pmem_words.specs.declared.owned.OwnedBlock.{OwnedBlock}
 use Rattle.pmem_words.specs.Seats.{Seat, Calling, new_seat, no_calling}
 use Rattle.persistence.specs.Memory.{cell}
 use Rattle.log_core.specs.Views.{Ghost, view_of, op_in, no_ghost, no_call}
-use Rattle.log_core.specs.Origin.{Origin, Free, Header, InChain, OwnedBy, LeftTo, first_position, first_generation, first_base, first_logs, first_entries, first_owner, start_generation, q_of}
-use Rattle.log_core.specs.Files.{Write, entries, end_of, file_at, early_file, map_at, size_at, write_at, call_of}
-use Rattle.log_core.specs.Cores.{Core, first_core, IsKept, head_floor, named, data_names, generation_at, current, trail}
-use Rattle.log_core.specs.Works.{stored_at, content_word, front_kind, front_base, is_quiet, without_bases, worked, worked_all, MayWork, MayCountFilled, Begins, ReadsRun, EndsReading, TakesEntry, TakesSeal, Follows, OpensBase, AddsBaseWord, Lays, CountsFilled, NotesNamed, KeepsReplaced}
+use Rattle.log_core.specs.Origin.{Origin, Free, Header, InChain, OwnedBy, LeftTo, first_position, first_generation, start_base, first_logs, first_entries, first_owner, start_generation, q_of_origin}
+use Rattle.log_core.specs.Files.{Write, entries, end_of, file_at, early_file, history_map_at, history_size_at, write_at, call_of}
+use Rattle.log_core.specs.Cores.{Core, first_core, IsKept, head_floor, generation_blocks, data_names, generation_at, current, trail}
+use Rattle.log_core.specs.Works.{stored_at, content_word, front_kind, front_base, is_quiet, without_bases, state_after_work, state_after_all_work, MayWork, MayCountFilled, Begins, ReadsRun, EndsReading, TakesEntry, TakesSeal, Follows, OpensBase, AddsBaseWord, Lays, CountsFilled, NotesNamed, KeepsReplaced}
 use Rattle.log_core.specs.Needs.{is_one_run, lacking, is_pass_found}
 use Rattle.log_core.specs.Steps.{LoadsBitmapWord, replaced_by, lacked_after}
 use Rattle.log_core.specs.After.{after}
@@ -34,7 +34,7 @@ use Rattle.log_core.specs.worked_rows.Samples.{small, small_shape, wide, image_a
 -- the just-made image as a core: one log block, the first generation, and each block's owner
 abbrev pub JustMade : Type 0
 JustMade =
-    (q_of image_a ≡ 8)
+    (q_of_origin image_a ≡ 8)
     × (first_position image_a ≡ 0)
     × (first_generation image_a ≡ 1)
     × ((first_core image_a).logs ≡ record { block = 3; base = 0; slots = [] } ∷ [])
@@ -158,7 +158,7 @@ FenceFollows =
     × (stored_at (view_of stored_words.views 0).ghost.stored 8 ≡ Some (record { word = 8; value = 170; marked = false }))
     × (stored_at (view_of marked_words.views 0).ghost.stored 8 ≡ Some (record { word = 8; value = 170; marked = true }))
     × (length (view_of marked_words.views 0).ghost.stored ≡ 8)
-    × (length marked_words.memory.notes ≡ 8)
+    × (length marked_words.memory.pending ≡ 8)
     × (length (view_of marked_words.views 0).ghost.marks ≡ 8)
     × ((word : ℕ) → word < 8 → stored_at (view_of marked_words.views 0).ghost.stored (8 + word) ≡ Some (record { word = 8 + word; value = content_word (view_of marked_words.views 0).seat 0 word; marked = true }))
     × MayCountFilled (view_of marked_words.views 0).ghost (view_of marked_words.views 0).seat 0
@@ -168,7 +168,7 @@ FenceFollows =
     × ((view_of fenced.views 0).seat.blocks.owned ≡ record { block = 1; area = Data; filled = true; fenced = true } ∷ [])
     × ((view_of fenced.views 0).seat.blocks.contents ≡ 170 ∷ 0 ∷ 0 ∷ 0 ∷ 0 ∷ 0 ∷ 0 ∷ 0 ∷ [])
     × ((view_of fenced.views 0).ghost.marks ≡ [])
-    × (fenced.memory.notes ≡ [])
+    × (fenced.memory.pending ≡ [])
     × (fenced.synced ≡ 0)
     × ((view_of (stepping image_a marked_words 0 Fence 1 [] []).views 0).seat.blocks.owned ≡ record { block = 1; area = Data; filled = false; fenced = false } ∷ [])
 
@@ -213,7 +213,7 @@ SlotWon =
     × ((view_of won.views 0).ghost.stored ≡ [])
     × (end_of image_a won.history ≡ 1)
     × (file_at image_a won.history 1 ≡ 170 ∷ [])
-    × (named image_a won.logs (entries image_a won.history) (generation_at image_a won.generations 1) ≡ 3 ∷ 1 ∷ [])
+    × (generation_blocks image_a won.logs (entries image_a won.history) (generation_at image_a won.generations 1) ≡ 3 ∷ 1 ∷ [])
 
 -- nothing changes but the view that lost, which keeps the word found
 abbrev pub SlotLost : Type 0
@@ -321,8 +321,8 @@ HeadWon =
     × ((view_of collected.views 0).seat.giving.head_fenced ≡ false)
     × ((view_of collected.views 0).seat.blocks.owned ≡ [])
     × (cell collected.memory 3 ≡ record { present = 8589934597; past = 4294967299 ∷ []; floor = 0 })
-    × (named image_a collected.logs (entries image_a collected.history) (generation_at image_a collected.generations 1) ≡ 3 ∷ 4 ∷ 1 ∷ [])
-    × (named image_a collected.logs (entries image_a collected.history) (generation_at image_a collected.generations 2) ≡ 5 ∷ 4 ∷ 1 ∷ [])
+    × (generation_blocks image_a collected.logs (entries image_a collected.history) (generation_at image_a collected.generations 1) ≡ 3 ∷ 4 ∷ 1 ∷ [])
+    × (generation_blocks image_a collected.logs (entries image_a collected.history) (generation_at image_a collected.generations 2) ≡ 5 ∷ 4 ∷ 1 ∷ [])
 
 abbrev pub HeadLost : Type 0
 HeadLost =
@@ -392,7 +392,7 @@ BitsNotCleared =
 
 -- where a pin holds the replaced blocks, they are kept for later
 abbrev pub kept_later : Seat
-kept_later = worked (view_of scan_held.views 0).seat KeepsReplaced
+kept_later = state_after_work (view_of scan_held.views 0).seat KeepsReplaced
 
 abbrev pub collect_call : Reply → Call
 collect_call reply = record { position = 1; seat = 0; number = 2; op = CollectOp; reply = reply }
@@ -432,7 +432,7 @@ abbrev pub SyncEnds : Type 0
 SyncEnds =
     (walked_trail image_a syncing (view_of syncing.views 0).seat ≡ record { place = 27; word = to_first } ∷ [])
     × ((view_of slot_marked.views 0).ghost.marks ≡ record { word = 3; value = 4294967299 } ∷ record { word = 27; value = to_first } ∷ [])
-    × (slot_marked.memory.notes ≡ record { seat = 0; word = 3; time = 17 } ∷ record { seat = 0; word = 27; time = 17 } ∷ [])
+    × (slot_marked.memory.pending ≡ record { seat = 0; word = 3; time = 17 } ∷ record { seat = 0; word = 27; time = 17 } ∷ [])
     × MayFence (walked_trail image_a slot_marked (view_of slot_marked.views 0).seat) (view_of slot_marked.views 0).ghost (view_of slot_marked.views 0).seat
     × (MayFence (walked_trail image_a head_marked (view_of head_marked.views 0).seat) (view_of head_marked.views 0).ghost (view_of head_marked.views 0).seat → ⊥)
     × ((view_of slot_marked.views 0).seat.calling.sync_to ≡ None)
@@ -462,12 +462,12 @@ FilesByPosition =
     (file_at image_a two_writes 0 ≡ [])
     × (file_at image_a two_writes 1 ≡ 170 ∷ [])
     × (file_at image_a two_writes 2 ≡ 170 ∷ 187 ∷ 204 ∷ [])
-    × (map_at image_a (entries image_a two_writes) 0 0 ≡ None)
-    × (map_at image_a (entries image_a two_writes) 1 0 ≡ Some 1)
-    × (map_at image_a (entries image_a two_writes) 2 0 ≡ Some 2)
-    × (map_at image_a (entries image_a two_writes) 2 1 ≡ None)
-    × (size_at image_a (entries image_a two_writes) 1 ≡ 1)
-    × (size_at image_a (entries image_a two_writes) 2 ≡ 3)
+    × (history_map_at image_a (entries image_a two_writes) 0 0 ≡ None)
+    × (history_map_at image_a (entries image_a two_writes) 1 0 ≡ Some 1)
+    × (history_map_at image_a (entries image_a two_writes) 2 0 ≡ Some 2)
+    × (history_map_at image_a (entries image_a two_writes) 2 1 ≡ None)
+    × (history_size_at image_a (entries image_a two_writes) 1 ≡ 1)
+    × (history_size_at image_a (entries image_a two_writes) 2 ≡ 3)
     × (write_at image_a two_writes 1 ≡ first_write)
     × (write_at image_a two_writes 2 ≡ second_write)
     × (call_of 2 second_write ≡ record { position = 2; seat = 1; number = 1; op = AppendOp (187 ∷ 204 ∷ []); reply = Appended 1 2 })
@@ -481,7 +481,7 @@ image_c = origin_of small 2 1 collected_words (55 ∷ []) (5 ∷ 4 ∷ []) (204 
 abbrev pub EarlyFiles : Type 0
 EarlyFiles =
     (first_position image_c ≡ 3)
-    × (first_base image_c ≡ 2)
+    × (start_base image_c ≡ 2)
     × (first_generation image_c ≡ 2)
     × (start_generation image_c ≡ record { snapshots = 5 ∷ []; shared = 2 ∷ []; cut = 0; base = 2; size = 1 })
     × (first_logs image_c ≡ record { block = 4; base = 2; slots = to_first ∷ [] } ∷ [])
@@ -489,8 +489,8 @@ EarlyFiles =
     × (file_at image_c [] 2 ≡ 187 ∷ [])
     × (file_at image_c [] 3 ≡ 204 ∷ [])
     × (file_at image_c (record first_write { number = 2 } ∷ []) 4 ≡ 170 ∷ [])
-    × (map_at image_c (first_entries image_c) 2 0 ≡ Some 2)
-    × (map_at image_c (first_entries image_c) 3 0 ≡ Some 1)
+    × (history_map_at image_c (first_entries image_c) 2 0 ≡ Some 2)
+    × (history_map_at image_c (first_entries image_c) 3 0 ≡ Some 1)
     × (map (first_owner image_c) (0 ∷ 1 ∷ 2 ∷ 3 ∷ 4 ∷ 5 ∷ []) ≡ Header ∷ InChain ∷ InChain ∷ Free ∷ InChain ∷ InChain ∷ [])
 
 -- the used slots and links that a walk has come past: of the first generation all three, of the second none
@@ -570,17 +570,17 @@ with_runs_kept = walker (kept 10 3 22 ∷ kept 5 0 8590065668 ∷ kept 5 1 65537
 abbrev pub EntryTakenIn : Type 0
 EntryTakenIn =
     MayWork no_ghost with_runs_kept TakesEntry
-    × ((worked with_runs_kept TakesEntry).walk.position ≡ 8)
-    × ((worked with_runs_kept TakesEntry).walk.size ≡ 384)
-    × ((worked with_runs_kept TakesEntry).walk.map ≡ Some 7 ∷ None ∷ None ∷ Some 6 ∷ Some 1 ∷ Some 3 ∷ None ∷ None ∷ [])
-    × ((worked with_runs_kept TakesEntry).walk.tail_slot ≡ 4)
-    × ((worked with_runs_kept TakesEntry).walk.kept ≡ [])
+    × ((state_after_work with_runs_kept TakesEntry).walk.position ≡ 8)
+    × ((state_after_work with_runs_kept TakesEntry).walk.size ≡ 384)
+    × ((state_after_work with_runs_kept TakesEntry).walk.map ≡ Some 7 ∷ None ∷ None ∷ Some 6 ∷ Some 1 ∷ Some 3 ∷ None ∷ None ∷ [])
+    × ((state_after_work with_runs_kept TakesEntry).walk.tail_slot ≡ 4)
+    × ((state_after_work with_runs_kept TakesEntry).walk.kept ≡ [])
     × (MayWork no_ghost (walker (kept 10 3 22 ∷ [])) TakesEntry → ⊥)
     × (MayWork no_ghost (walker (kept 10 3 0 ∷ [])) TakesEntry → ⊥)
     × (MayWork no_ghost (walker (kept 10 3 3 ∷ [])) TakesEntry → ⊥)
     × MayWork no_ghost (walker (kept 10 3 0 ∷ kept 10 3 3 ∷ [])) TakesSeal
-    × ((worked (walker (kept 10 3 3 ∷ [])) TakesSeal).walk.tail_slot ≡ 8)
-    × ((worked (worked (walker (kept 10 3 3 ∷ [])) TakesSeal) Follows).walk.position ≡ 7)
+    × ((state_after_work (walker (kept 10 3 3 ∷ [])) TakesSeal).walk.tail_slot ≡ 8)
+    × ((state_after_work (state_after_work (walker (kept 10 3 3 ∷ [])) TakesSeal) Follows).walk.position ≡ 7)
 
 -- a seat at the tail with this task and these words
 abbrev pub reader : List KeptWord → Seat
@@ -594,7 +594,7 @@ far_reader = record (reader []) { calling = record ((reader []).calling) { bytes
 abbrev pub ReadLays : Type 0
 ReadLays =
     MayWork no_ghost (reader (kept 7 0 170 ∷ [])) (Lays (170 ∷ 0 ∷ []))
-    × ((worked (reader (kept 7 0 170 ∷ [])) (Lays (170 ∷ 0 ∷ []))).calling.bytes ≡ 170 ∷ 0 ∷ [])
+    × ((state_after_work (reader (kept 7 0 170 ∷ [])) (Lays (170 ∷ 0 ∷ []))).calling.bytes ≡ 170 ∷ 0 ∷ [])
     × (MayWork no_ghost (reader (kept 7 0 170 ∷ [])) (Lays (171 ∷ [])) → ⊥)
     × (MayWork no_ghost (reader []) (Lays (0 ∷ [])) → ⊥)
     × (MayWork no_ghost (walker (kept 7 0 170 ∷ [])) (Lays (170 ∷ [])) → ⊥)
@@ -605,7 +605,7 @@ ReadLays =
 -- the present content of virtual block 0 is block 7's, word by word; virtual block 1 has none and is 0. Where an entry that is taken in
 -- gives virtual block 0 another block, its words are dropped
 abbrev pub based : Seat
-based = worked_all (walker (kept 7 0 170 ∷ [])) (OpensBase 0 ∷ AddsBaseWord ∷ [])
+based = state_after_all_work (walker (kept 7 0 170 ∷ [])) (OpensBase 0 ∷ AddsBaseWord ∷ [])
 
 abbrev pub two_bases : Calling
 two_bases = record no_calling { bases = 0 ∷ 1 ∷ []; base_words = 1 ∷ 2 ∷ 3 ∷ 4 ∷ 5 ∷ 6 ∷ 7 ∷ 8 ∷ 9 ∷ [] }
@@ -613,12 +613,12 @@ two_bases = record no_calling { bases = 0 ∷ 1 ∷ []; base_words = 1 ∷ 2 ∷
 abbrev pub BaseWords : Type 0
 BaseWords =
     MayWork no_ghost (walker (kept 7 0 170 ∷ [])) (OpensBase 0)
-    × MayWork no_ghost (worked (walker (kept 7 0 170 ∷ [])) (OpensBase 0)) AddsBaseWord
+    × MayWork no_ghost (state_after_work (walker (kept 7 0 170 ∷ [])) (OpensBase 0)) AddsBaseWord
     × (based.calling.bases ≡ 0 ∷ [])
     × (based.calling.base_words ≡ 170 ∷ [])
     × (MayWork no_ghost based AddsBaseWord → ⊥)
     × (MayWork no_ghost based (OpensBase 1) → ⊥)
-    × ((worked_all (walker []) (OpensBase 1 ∷ AddsBaseWord ∷ AddsBaseWord ∷ [])).calling.base_words ≡ 0 ∷ 0 ∷ [])
+    × ((state_after_all_work (walker []) (OpensBase 1 ∷ AddsBaseWord ∷ AddsBaseWord ∷ [])).calling.base_words ≡ 0 ∷ 0 ∷ [])
     × ((without_bases 8 (direct_meaning to_first) two_bases).bases ≡ 1 ∷ [])
     × ((without_bases 8 (direct_meaning to_first) two_bases).base_words ≡ 9 ∷ [])
 
@@ -634,14 +634,14 @@ SnapshotRead =
     (front_kind (walker (kept 11 1 9223372036854775815 ∷ [])) ≡ 2)
     × (front_base (walker (kept 11 1 9223372036854775815 ∷ [])) ≡ 7)
     × MayWork no_ghost (snapshot_reader 3 (kept 11 3 1835009 ∷ [])) ReadsRun
-    × ((worked (snapshot_reader 3 (kept 11 3 1835009 ∷ [])) ReadsRun).walk.map ≡ Some 7 ∷ None ∷ None ∷ None ∷ [])
-    × ((worked (snapshot_reader 3 (kept 11 3 1835009 ∷ [])) ReadsRun).walk.reading_slot ≡ 4)
+    × ((state_after_work (snapshot_reader 3 (kept 11 3 1835009 ∷ [])) ReadsRun).walk.map ≡ Some 7 ∷ None ∷ None ∷ None ∷ [])
+    × ((state_after_work (snapshot_reader 3 (kept 11 3 1835009 ∷ [])) ReadsRun).walk.reading_slot ≡ 4)
     × (MayWork no_ghost (snapshot_reader 3 (kept 11 3 0 ∷ [])) ReadsRun → ⊥)
     × MayWork no_ghost (snapshot_reader 7 (kept 11 7 0 ∷ kept 11 0 10 ∷ kept 10 1 4611686018427387911 ∷ [])) EndsReading
     × (MayWork no_ghost (snapshot_reader 7 (kept 11 7 1835009 ∷ kept 11 0 10 ∷ kept 10 1 4611686018427387911 ∷ [])) EndsReading → ⊥)
-    × ((worked (snapshot_reader 7 (kept 11 7 0 ∷ kept 11 0 10 ∷ [])) EndsReading).walk.tail_block ≡ 10)
-    × ((worked (snapshot_reader 7 (kept 11 7 0 ∷ kept 11 0 10 ∷ [])) EndsReading).walk.tail_base ≡ 7)
-    × ((worked (snapshot_reader 7 (kept 11 7 0 ∷ kept 11 0 10 ∷ [])) EndsReading).walk.ready ≡ true)
+    × ((state_after_work (snapshot_reader 7 (kept 11 7 0 ∷ kept 11 0 10 ∷ [])) EndsReading).walk.tail_block ≡ 10)
+    × ((state_after_work (snapshot_reader 7 (kept 11 7 0 ∷ kept 11 0 10 ∷ [])) EndsReading).walk.tail_base ≡ 7)
+    × ((state_after_work (snapshot_reader 7 (kept 11 7 0 ∷ kept 11 0 10 ∷ [])) EndsReading).walk.ready ≡ true)
 
 -- which calls make no step, and which writes are refused on their arguments: at most seven blocks and 4,194,304 bytes
 abbrev pub QuietCalls : Type 0

@@ -14,10 +14,10 @@ use Rattle.asks.specs.declared.ask.Ask.TheVariants.{Load, Store, SetBits, Mark, 
 use Rattle.asks.specs.declared.ask.Place.TheVariants.{Image, Pin, Map}
 use Rattle.persistence.specs.Memory.{found_answer}
 use Rattle.log_core.specs.Views.{view_of}
-use Rattle.log_core.specs.Origin.{Origin, q_of}
+use Rattle.log_core.specs.Origin.{Origin, q_of_origin}
 use Rattle.log_core.specs.Cores.{Core}
-use Rattle.log_core.specs.Works.{Work, Begins, StartsFromLog, SetsWord, CountsFilled, worked_all, ended}
-use Rattle.log_core.specs.Steps.{Step, Does, kind_of, effect}
+use Rattle.log_core.specs.Works.{Work, Begins, StartsFromLog, SetsWord, CountsFilled, state_after_all_work, ended}
+use Rattle.log_core.specs.Steps.{Step, Does, kind_of_ask, effect}
 use Rattle.log_core.specs.After.{after}
 use Rattle.log_core.specs.Starts.{origin_of}
 
@@ -57,8 +57,8 @@ image_a = origin_of small 2 2 two_blocks (9 ∷ []) (3 ∷ []) []
 -- a step of a seat whose call computes some works before the ask and some after the answer, and then adds some records
 abbrev pub step_of : Origin → Core → ℕ → Ask → ℕ → List Work → List Work → List Call → Step
 step_of o c seat ask number before later adds = Does seat ask (record {
-  before = worked_all (view_of c.views seat).seat before;
-  seat = ended adds (worked_all (effect (view_of c.views seat).ghost.marks (worked_all (view_of c.views seat).seat before) (kind_of (q_of o) seat ask) (found_answer c.memory ask)) later);
+  before = state_after_all_work (view_of c.views seat).seat before;
+  seat = ended adds (state_after_all_work (effect (view_of c.views seat).ghost.marks (state_after_all_work (view_of c.views seat).seat before) (kind_of_ask (q_of_origin o) seat ask) (found_answer c.memory ask)) later);
   adds = adds;
   number = number;
 })
