@@ -42,22 +42,15 @@ fn tells_a_fault_from_an_end(rt: HostRuntime) -> Result<(), Fail> {
 }
 
 #[test]
-fn gathers_all(rt: HostRuntime) -> Result<(), Fail> {
+fn gathers_but_at_the_given_writes(rt: HostRuntime) -> Result<(), Fail> {
     let mut sink = Gathered::new(rt.alloc());
-    assert_eq!(rt; write_all(&mut sink, &[]), Ok(()));
     assert_eq!(rt; write_all(&mut sink, &[1, 2]), Ok(()));
-    assert_eq!(rt; write_all(&mut sink, &[3]), Ok(()));
-    assert_eq!(rt; sink.bytes(), [1, 2, 3].as_slice());
-    Ok(())
-}
-
-#[test]
-fn fails_at_the_given_writes(rt: HostRuntime) -> Result<(), Fail> {
-    let mut sink = FailingGathered::new(rt.alloc(), [2].to_vec(rt.alloc())?);
-    assert_eq!(rt; write_all(&mut sink, &[1, 2]), Ok(()));
-    assert_eq!(rt; write_all(&mut sink, &[3]), Err(WriteAll::WriteFault));
-    assert_eq!(rt; write_all(&mut sink, &[4]), Ok(()));
-    assert_eq!(rt; sink.bytes(), [1, 2, 4].as_slice());
+    assert_eq!(rt; sink.bytes(), [1, 2].as_slice());
+    let mut failing = FailingGathered::new(rt.alloc(), [2].to_vec(rt.alloc())?);
+    assert_eq!(rt; write_all(&mut failing, &[1, 2]), Ok(()));
+    assert_eq!(rt; write_all(&mut failing, &[3]), Err(WriteAll::WriteFault));
+    assert_eq!(rt; write_all(&mut failing, &[4]), Ok(()));
+    assert_eq!(rt; failing.bytes(), [1, 2, 4].as_slice());
     Ok(())
 }
 

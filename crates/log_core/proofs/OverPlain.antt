@@ -8,8 +8,8 @@ use Rattle.asks.specs.Asks.{place, becomes, answer}
 use Rattle.pmem_words.specs.Scripts.{Script}
 use Rattle.pmem_words.specs.Courses.{over}
 use Rattle.pmem_words.specs.Leads.{Leads, asking, LeadsAt, LeadsAfter}
-use Rattle.asks.specs.SharedWords.{SharedWords, word_at, with_word, found_by, answer_of, words_after}
-use Rattle.pmem_words.specs.PlainWords.{HasWord, plain_takes, plain, CanLoad as CanLoadPlain}
+use Rattle.asks.specs.SharedWords.{SharedWords, word_at, with_word, HasWord, CanLoad, found_by, answer_of, words_after}
+use Rattle.pmem_words.specs.PlainWords.{plain_takes, plain}
 use Rattle.asks.specs.declared.ask.Place.{Place}
 use Rattle.asks.specs.declared.ask.Place.TheVariants.{Image, Pin, Map, FenceOf}
 use Rattle.asks.specs.declared.ask.Ask.{Ask}
@@ -18,7 +18,7 @@ use Rattle.pmem_words.specs.declared.machine.Turn.{Turn}
 use Rattle.pmem_words.specs.declared.machine.Turn.TheVariants.{Go, Done}
 use Rattle.pmem_words.proofs.PlainLemmas.{leads_plain}
 use Rattle.persistence.specs.Memory.{Memory, Replaced, Noted, found_answer, memory_after}
-use Rattle.persistence.specs.Cells.{HasPlace, CanLoad, TakesAsk}
+use Rattle.persistence.specs.Cells.{TakesAsk}
 use Rattle.log_core.specs.Views.{View, view_of, spent_view}
 use Rattle.log_core.specs.Origin.{Origin, q_of}
 use Rattle.log_core.specs.Cores.{Core, first_core}
@@ -33,7 +33,7 @@ use Rattle.log_core.proofs.Takes.{takes_asked}
 
 module _ (p : SharedWords) (memory : Memory) (agrees : Agrees p memory) where
   -- a word that the core's memory has is found alike in both
-  same_word : (at : Place) → CanLoad memory at → word_at p at ≡ word_at memory.now at
+  same_word : (at : Place) → CanLoad (length memory.now.pins) memory.now at → word_at p at ≡ word_at memory.now at
   same_word (Image word) has = ap (λ (words : List ℕ). slice_index words word) agrees.words
   same_word (Pin seat) has = agrees.pins seat has
   same_word (Map word) has = ap (λ (words : List ℕ). slice_index words word) agrees.taken
@@ -70,13 +70,13 @@ module _ (p : SharedWords) (memory : Memory) (agrees : Agrees p memory) where
 
   -- where the core's memory has no more pin words than there may be, the other memory has each word that it has
   module _ (few : length memory.now.pins ≤ SEATS) where
-    has_word : (at : Place) → HasPlace memory at → HasWord p at
+    has_word : (at : Place) → HasWord (length memory.now.pins) memory.now at → HasWord SEATS p at
     has_word (Image word) has = subst (λ (words : List ℕ). word < length words) (sym agrees.words) has
     has_word (Pin seat) has = omega (arith, few, has)
     has_word (Map word) has = subst (λ (words : List ℕ). word < length words) (sym agrees.taken) has
     has_word (FenceOf seat) has = has
 
-    can_load : (at : Place) → CanLoad memory at → CanLoadPlain p at
+    can_load : (at : Place) → CanLoad (length memory.now.pins) memory.now at → CanLoad SEATS p at
     can_load (Image word) has = has_word (Image word) has
     can_load (Pin seat) has = has_word (Pin seat) has
     can_load (Map word) has = has_word (Map word) has
@@ -93,13 +93,13 @@ module _ (p : SharedWords) (memory : Memory) (agrees : Agrees p memory) where
     takes_too Fence takes = tt
 
   -- a word that gets a value may be loaded
-  loads_too : (at : Place) → HasPlace memory at → CanLoad memory at
+  loads_too : (at : Place) → HasWord (length memory.now.pins) memory.now at → CanLoad (length memory.now.pins) memory.now at
   loads_too (Image word) has = has
   loads_too (Pin seat) has = has
   loads_too (Map word) has = has
   loads_too (FenceOf seat) has = tt
 
-  finds_word : (ask : Ask) → TakesAsk memory ask → CanLoad memory (place 0 ask)
+  finds_word : (ask : Ask) → TakesAsk memory ask → CanLoad (length memory.now.pins) memory.now (place 0 ask)
   finds_word (Load at) takes = takes
   finds_word (Store at value) takes = loads_too at takes
   finds_word (Exchange at before next) takes = loads_too at takes

@@ -1,12 +1,14 @@
 //! The program: makes the real things, calls the top call, and shows its status.
 #![tactic(auto)]
 
-ghost use Rattle.std.specs.Prelude.{◌≡◌, ◌⊎◌, IfErr};
+ghost use Rattle.std.specs.Prelude.{◌≡◌, ◌⊎◌, ◌++◌, IfOk, IfErr, MatchOption, string_bytes};
 ghost use Rattle.madfs_cli.specs.Commands.{IsCommand};
 
-mod image_files;
+mod image_file;
+mod new_image;
 
-use crate::image_files::{ImageFile, NO_FILE, NewImage};
+use crate::image_file::{ImageFile, NO_FILE};
+use crate::new_image::NewImage;
 use io_ends::{FromRead, ToWrite, Words};
 use madfs_cli::{Status, run};
 use std::alloc::{AllocError, Global};
@@ -18,24 +20,56 @@ use std::{env, io};
 const HELP: &str = "\
 madfs <image> <command> <arguments>
 
+    madfs disk.img mkfs 40 4 512
+    printf '0 pwrite 0 616263\\n' | madfs disk.img replay 1
+    madfs disk.img cat
+
+An image is a file that holds one file, as blocks and a log of its writes.
+
 mkfs <data blocks> <log blocks> <block bytes>
-    makes an image, and prints its blocks and bytes
+    makes an image, in the place of what has its name; prints its size
 try <data blocks> <log blocks> <block bytes> <seats>
-    runs the trace on standard input on a just-made image, and prints the report
+    runs the trace on standard input on a just-made image, which is not kept,
+    and prints the report
 replay <seats>
     runs the trace on standard input on the image, prints the report, and puts
     the image after it in the image's place
 cat
-    prints the bytes of the image's file
+    prints the file that the image holds
 dump
-    prints the image's chain and its entries
+    checks the image, and prints its log
 
-The image name - stands for an image of no bytes, and for a new image that is
-thrown away. Exit status: 0 done, 2 usage, 3 bad image, 4 bad trace, 5 read
-fault, 6 write fault, 7 no memory.";
+A trace has one call a line, and each line ends with a newline:
+    <seat> pwrite <offset> <bytes>
+    <seat> pread <offset> <length>
+Seats count from 0. A byte is two hex digits, in lower case; - is no bytes.
+
+Ranges: data and log blocks from 1, at most 65535 blocks with those that mkfs
+adds; block bytes 64, 512 or 4096; seats 1; the file up to 65536 blocks; one
+read up to 1048576 bytes, all up to 268435456; a trace up to 67108864 bytes.
+
+The image - stands for an image of no bytes, and for a new image that is
+thrown away. A new image is written to a file with .new after the image's
+name, which must not be there yet, and is renamed over the image once it is
+on the disk. So a run that fails or is killed leaves the image as it was, and
+of two runs on one image at a time one fails, with status 6.
+
+Exit status, where it is not 0 with one line on standard error:
+0: done
+2: no such command; see above
+3: the image is refused, for what the line says
+4: the trace is refused, for what the line says
+5: the image or the trace could not be read; check its name
+6: the report or the new image could not be written; check the disk's room.
+   Or another run is or was at work on the image: run again. Or one that was
+   killed left its file with .new: see that no run is at work, and remove it
+7: no memory";
 
 /// What `--version` prints.
 const VERSION: &str = "madfs 0.1.0";
+
+/// What stands after the image's name in that of the file that a new image goes to.
+const SUFFIX: &str = ".new";
 
 /// What the arguments of the program ask.
 #[derive(Drop)]
@@ -78,16 +112,18 @@ fn read_arguments<R: Env + AllocGlobal>(rt: &R) -> Result<Invocation, Status>
 }
 
 /// The name of the file that a new image goes to: that of the image and `.new`, or none where it is thrown away.
-fn new_name(alloc: Global, image: &str) -> Result<Option<String>, AllocError> {
+fn new_name(alloc: Global, image: &str) -> Result<Option<String>, AllocError>
+    ensures { IfOk result (λ name. MatchOption name (image.now ≡ NO_FILE.now) (λ text. string_bytes text ≡ image.now ++ SUFFIX.now)) }
+{
     if image == NO_FILE {
         return Ok(None);
     }
-    let name = format!(in alloc; "{image}.new")?;
+    let name = format!(in alloc; "{image}{SUFFIX}")?;
     Ok(Some(name))
 }
 
 /// Runs a command on the image of this name, standard input and standard output. Where it is done and made a new image, that takes
-/// the image's place; a renaming that fails is a write fault.
+/// the image's place, and where that fails it is a write fault. Where it is not done, the image is as before.
 fn run_command<R: Input + Print + Files + AllocGlobal>(rt: &R, image: &str, words: &Words) -> Status
     ensures { result ≡ Status.Usage → IsCommand words.now → ⊥ }
 {
@@ -95,8 +131,8 @@ fn run_command<R: Input + Print + Files + AllocGlobal>(rt: &R, image: &str, word
     let Ok(name) = new_name(alloc, image) else {
         return Status::NoMemory;
     };
-    let mut source = ImageFile::open(rt, image);
-    let mut fresh = NewImage::new(rt, name);
+    let mut source = ImageFile::new(rt, image);
+    let mut fresh = NewImage::new(rt, name.as_ref().map(|name| name.as_str()));
     let mut trace = FromRead::new(rt.reader());
     let mut report = ToWrite::new(io::writer(rt));
     let status = run(
@@ -107,7 +143,9 @@ fn run_command<R: Input + Print + Files + AllocGlobal>(rt: &R, image: &str, word
         &mut report,
         &mut fresh,
     );
-    if status == Status::Done && !fresh.replace(image) {
+    if status != Status::Done {
+        fresh.remove();
+    } else if !fresh.replace(&source) {
         return Status::WriteFault;
     }
     status

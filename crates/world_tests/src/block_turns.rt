@@ -16,8 +16,7 @@ use crate::Unfinished;
 use block_bitmap::{Fill, Give, GiveFrom, Take, Taken, begin_alone};
 use crash_model::World;
 use log_entry::Area;
-use pmem_words::GiveFrom as Listed;
-use pmem_words::{Task, Turn};
+use pmem_words::{GiveFrom as Listed, Task, Turn};
 
 /// A seat begins a task of a machine that runs alone.
 pub fn begin_in(world: &mut World, seat: u8, task: Task)
@@ -118,26 +117,9 @@ pub fn set_in(world: &mut World, seat: u8, word: u16, value: u64)
 }
 
 /// Does nothing: its contract says of words that they have 64 bits, which a contract over a list of numbers has to be told.
-pub fn bound(words: &[u64])
+fn bound(words: &[u64])
     ensures { (place : ℕ) → slice_index words.now place < 2 ^ 64 }
 {}
-
-/// A seat begins to fill the one block that it owns.
-pub fn begin_fill(world: &mut World, seat: u8) -> Fill
-    requires inside { seat < length world.old.seats }
-    requires resting { IsResting world.old }
-    requires alone { AreAlone world.old }
-    requires owned { length (seat_of world.old seat).blocks.owned ≡ 1 }
-    ensures led { IsLed seat fill_script no_record (λ out t v. HasLeft out t v) result world.new }
-    ensures alone { AreAloneBut world.new seat }
-    ensures others { (other : ℕ) → other ≢ seat → seat_of world.new other ≡ seat_of world.old other }
-    ensures many { length world.new.seats ≡ length world.old.seats }
-    ensures room { world.new.cells.room ≡ world.old.cells.room }
-{
-    begin_in(world, seat, Task::Fill { first: 0, count: 1 });
-    bound(world.seat(seat).contents());
-    Fill::new(0, 1)
-}
 
 /// A seat begins to fill the one block that it owns.
 pub fn begin_fill(world: &mut World, seat: u8) -> Fill
