@@ -67,11 +67,7 @@ fn numbers_are_printed_and_read(rt: HostRuntime) -> Result<(), Fail> {
     assert_eq!(rt; out.as_slice(), b"18446744073709551615".as_slice());
     assert_eq!(rt; read_number(b"18446744073709551615"), Some(u64::MAX));
     assert_eq!(rt; read_number(b"00042"), Some(42));
-    for text in [
-        b"".as_slice(),
-        b"18446744073709551616",
-        b"+1",
-    ] {
+    for text in [b"".as_slice(), b"18446744073709551616", b"+1"] {
         assert_eq!(rt; read_number(text), None);
     }
     Ok(())

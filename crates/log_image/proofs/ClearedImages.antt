@@ -1,14 +1,13 @@
 -- Clearing keeps what the words of an image stand for.
-use Rattle.std.proofs.Common.{◌≡◌, ◌≤◌, ◌<◌, ◌+◌, ◌*◌, ◌/◌, ◌^◌, ◌==◌, ◌&&◌, ◌||◌, not, nat_le, nat_lt, inl, ℕ, Bool, true, false, List, [], ◌∷◌, ◌++◌, length, get_or, None, if◌then◌else◌, refl, sym, ap, ◌∙◌, subst, arith}
+use Rattle.std.proofs.Common.{◌≡◌, ◌≤◌, ◌<◌, ◌+◌, ◌*◌, ◌==◌, ◌&&◌, ◌||◌, not, nat_le, nat_lt, inl, ℕ, Bool, true, false, List, [], ◌∷◌, ◌++◌, length, get_or, if◌then◌else◌, refl, sym, ap, ◌∙◌, subst, arith}
 use Rattle.std.specs.List.{list_all}
 use Rattle.std.proofs.lemmas.Bool.{leb-true, ltb-true}
 use Rattle.std.proofs.lemmas.List.{ext_get_or}
 use Rattle.std.proofs.Math.Nat.{mul-le-mul_right}
 use Rattle.log_entry.specs.Fields.{field}
-use Rattle.log_entry.specs.Geometry.{shape_refusal}
-use Rattle.log_entry.specs.declared.layouts.TheConstants.{HEAD_BLOCK, HEAD_UNNAMED, HEAD_GENERATION}
+use Rattle.log_entry.specs.declared.layouts.TheConstants.{HEAD_BLOCK, HEAD_GENERATION}
 use Rattle.log_image.specs.Image.{Shape, words_in, total, is_in_log, block_words}
-use Rattle.log_image.specs.Header.{shape_of, HasHeader}
+use Rattle.log_image.specs.Header.{shape_of}
 use Rattle.log_image.specs.Entries.{Meaning, all_names}
 use Rattle.log_image.specs.Blocks.{is_snapshot, link_of, slots_of, entry_words, is_closed, leads_on}
 use Rattle.log_image.specs.Chains.{LeadsAlong, IsLinked}

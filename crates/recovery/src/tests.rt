@@ -2,7 +2,7 @@
 
 ghost use Rattle.std.specs.Prelude.{◌<◌, length};
 
-use crate::{Tail, OpenRefusal, open_bytes, open_words, open_words_with_rest};
+use crate::{OpenRefusal, Tail, open_bytes, open_words, open_words_with_rest};
 use log_entry::to_bytes;
 use opening_rules::BadImage;
 use std::alloc::{AllocError, Global};

@@ -97,12 +97,7 @@ fn keeps_each_rest(rt: HostRuntime) -> Result<(), Fail> {
 
 #[test]
 fn stops_past_the_limit(rt: HostRuntime) -> Result<(), Fail> {
-    for (limit, after) in [
-        (0, 20),
-        (7, 13),
-        (8, 12),
-        (20, 0),
-    ] {
+    for (limit, after) in [(0, 20), (7, 13), (8, 12), (20, 0)] {
         let mut source = Bytes::new(counting(rt.alloc(), 21)?);
         assert_eq!(rt;
             read_words(rt.alloc(), &mut source, limit).err(),
