@@ -2,9 +2,9 @@
 #![tactic(auto)]
 
 pub mod laws;
-pub mod map_run;
+mod map_run;
 mod places;
-pub mod table;
+mod table;
 
 pub use map_run::MapRun;
 pub use table::Table;

@@ -2,8 +2,8 @@
 #![tactic(auto)]
 
 pub mod blocks;
-pub mod reading;
-pub mod taking;
+mod reading;
+mod taking;
 #[cfg(test)]
 mod tests;
 

@@ -1,5 +1,5 @@
 -- Worked lines: a call, and what is printed of it.
-use Rattle.std.specs.Prelude.{ℕ, ◌≡◌, [], ◌∷◌, replicate, Some, None, codes}
+use Rattle.std.specs.Prelude.{◌≡◌, [], ◌∷◌, replicate, Some, None, codes}
 use Rattle.log_entry.specs.declared.shapes.Area.TheVariants.{Data}
 use Rattle.log_entry.specs.Rows.{at}
 use Rattle.log_entry.specs.declared.calls.Op.TheVariants.{Pwrite, Append, Pread, Size, Sync, Collect}

@@ -1,12 +1,12 @@
 //! Decides how a history is printed: the order of its calls, the line of each, and the last line.
 #![tactic(auto)]
 
-pub mod answers;
+mod answers;
 pub mod laws;
-pub mod lines;
-pub mod numbers;
-pub mod places;
-pub mod reports;
+mod lines;
+mod numbers;
+mod places;
+mod reports;
 #[cfg(test)]
 mod tests;
 

@@ -1,5 +1,5 @@
 -- The shape and the generation of words whose first four are those of others, and of which there are as many.
-use Rattle.std.proofs.Common.{◌≡◌, ◌<◌, ℕ, List, ap, arith}
+use Rattle.std.proofs.Common.{ℕ, List, ap, arith}
 use Rattle.log_entry.specs.Fields.{field}
 use Rattle.log_entry.specs.declared.layouts.TheConstants.{HEAD_GENERATION}
 use Rattle.log_image.specs.SameWords.{SameHeader}

@@ -10,7 +10,7 @@ ghost use Rattle.chain_reader.specs.ChainBlocks.{is_sound};
 ghost use Rattle.image_tools.specs.DumpText.{shape_text, head_text, run_text, direct_text, indirect_text, entry_text, slot_lines, seal_line, snapshot_text, log_text, block_text};
 
 use chain_reader::blocks::{count_entries, entries_in, is_snapshot_in, kept_in, slots_in};
-use chain_reader::taking::{block_at, runs_in};
+use chain_reader::{block_at, runs_in};
 use log_entry::layouts::{
     BLOCK_BASE, DIRECT, DIRECT_BLOCK, DIRECT_COUNT, DIRECT_LEFTOVER, DIRECT_VIRT, ENTRY_KIND,
     HEAD_BLOCK, HEAD_GENERATION, INDIRECT_BLOCK, RUN_BLOCK, RUN_COUNT, RUNS_COUNT, RUNS_LEFTOVER,

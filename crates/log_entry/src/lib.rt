@@ -1,21 +1,21 @@
 //! Decides what the project's words mean: the shape of an image, a call and its reply, and which lists of calls are a legal history of a byte file.
 #![tactic(auto)]
 
-pub mod calls;
-pub mod content;
-pub mod entries;
-pub mod fields;
+mod calls;
+mod content;
+mod entries;
+mod fields;
 pub mod laws;
 pub mod layouts;
 #[cfg(test)]
 mod shape_tests;
-pub mod shapes;
+mod shapes;
 #[cfg(test)]
 mod tests;
 pub mod text;
-pub mod word_bytes;
+mod word_bytes;
 pub mod word_laws;
-pub mod words;
+mod words;
 
 pub use calls::{Call, CollectRefusal, Collected, Held, Job, Op, Reply, WriteRefusal};
 pub use content::Blob;

@@ -13,7 +13,7 @@ same_long shape block old new long =
     ∙ ap (λ (k : ℕ). min (block * words_in shape + words_in shape - block * words_in shape) k) (length-drop (block * words_in shape) new ∙ ap (λ (k : ℕ). k - block * words_in shape) long ∙ sym (length-drop (block * words_in shape) old))
     ∙ sym (length-take (block * words_in shape + words_in shape - block * words_in shape) (drop (block * words_in shape) old))
 
-within : (shape : Shape) (block : ℕ) (words : List ℕ) (index : ℕ) → index < length (block_words words shape block) → index < words_in shape
+pub within : (shape : Shape) (block : ℕ) (words : List ℕ) (index : ℕ) → index < length (block_words words shape block) → index < words_in shape
 within shape block words index inside =
     omega (arith, inside, length-take (block * words_in shape + words_in shape - block * words_in shape) (drop (block * words_in shape) words))
 

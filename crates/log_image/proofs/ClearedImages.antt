@@ -1,24 +1,22 @@
 -- Clearing keeps what the words of an image stand for.
-use Rattle.std.proofs.Common.{◌≡◌, ◌≤◌, ◌<◌, ◌+◌, ◌*◌, ◌/◌, ◌^◌, ◌==◌, ◌&&◌, ◌||◌, not, nat_le, nat_lt, inl, ℕ, Bool, true, false, List, [], ◌∷◌, ◌++◌, length, get_or, None, if◌then◌else◌, refl, sym, ap, ◌∙◌, subst, arith}
+use Rattle.std.proofs.Common.{◌≡◌, ◌≤◌, ◌<◌, ◌+◌, ◌*◌, ◌==◌, ◌&&◌, ◌||◌, not, nat_le, nat_lt, inl, ℕ, Bool, true, false, List, [], ◌∷◌, ◌++◌, length, get_or, if◌then◌else◌, refl, sym, ap, ◌∙◌, subst, arith}
 use Rattle.std.specs.List.{list_all}
 use Rattle.std.proofs.lemmas.Bool.{leb-true, ltb-true}
 use Rattle.std.proofs.lemmas.List.{ext_get_or}
 use Rattle.std.proofs.Math.Nat.{mul-le-mul_right}
 use Rattle.log_entry.specs.Fields.{field}
-use Rattle.log_entry.specs.Geometry.{shape_refusal}
-use Rattle.log_entry.specs.declared.layouts.TheConstants.{HEAD_BLOCK, HEAD_UNNAMED, HEAD_GENERATION}
+use Rattle.log_entry.specs.declared.layouts.TheConstants.{HEAD_BLOCK, HEAD_GENERATION}
 use Rattle.log_image.specs.Image.{Shape, words_in, total, is_in_log, block_words}
-use Rattle.log_image.specs.Header.{shape_of, HasHeader}
+use Rattle.log_image.specs.Header.{shape_of}
 use Rattle.log_image.specs.Entries.{Meaning, all_names}
 use Rattle.log_image.specs.Blocks.{is_snapshot, link_of, slots_of, entry_words, is_closed, leads_on}
 use Rattle.log_image.specs.Chains.{LeadsAlong, IsLinked}
 use Rattle.log_image.specs.Stands.{StandsIn, StandsBy}
 use Rattle.log_image.specs.Tails.{Tail, AtSlot, AtLink, last_block, tail_in, tail_of, IsClear, IsCleared}
 use Rattle.log_image.specs.Laws.{StaysCleared, ClearingKeeps}
-use Rattle.log_image.specs.declared.header.TheConstants.{HEADER_VERSION, HEADER_BLOCK_POWER, HEADER_UNNAMED, HEADER_DATA, HEADER_LOG}
 use Rattle.log_image.proofs.HoldingLemmas.{both_left, both_right}
-use Rattle.log_image.proofs.ImageLemmas.{allowed_shape}
-use Rattle.log_image.proofs.MadeImages.{by_bytes}
+use Rattle.log_image.specs.SameWords.{SameHeader}
+use Rattle.log_image.proofs.HeaderSteps.{header_shape, header_same, long_words}
 use Rattle.log_image.proofs.Clearing.{SameReading, ClearedAt, each_block, other_block, left_alone}
 use Rattle.log_image.proofs.ClearedChains.{SameImage}
 use Rattle.log_image.proofs.ClearedEntries.{same_entries_of, same_standing}
@@ -44,33 +42,6 @@ chain_last p words shape (first ∷ rest) linked all = last_is p first rest (bot
 no_first : (a b : Bool) → (a || b) ≡ false → a ≡ false
 no_first true b none = cc
 no_first false b none = refl
-
--- the header of words whose first four are those of others, and of which there are as many
-shape_by : ℕ → ℕ → Shape
-shape_by one two = record { data_blocks = field HEADER_DATA two; log_blocks = field HEADER_LOG two; block_bytes = 2 ^ field HEADER_BLOCK_POWER one }
-
-pub record SameHeader (old new : List ℕ) : Type 0 where
-  pub same_length : length new ≡ length old
-  pub each : (place : ℕ) → place < 4 → get_or new place 0 ≡ get_or old place 0
-
-header_shape : (old new : List ℕ) → SameHeader old new → shape_of new ≡ shape_of old
-unfolding shape_by
-header_shape old new same =
-    ap (λ (w : ℕ). shape_by w (get_or new 2 0)) (same.each 1 (omega arith)) ∙ ap (λ (w : ℕ). shape_by (get_or old 1 0) w) (same.each 2 (omega arith))
-
-header_same : (old new : List ℕ) → SameHeader old new → HasHeader old → HasHeader new
-header_same old new same header = record {
-  magic = same.each 0 (omega arith) ∙ header.magic;
-  version = ap (λ (w : ℕ). field HEADER_VERSION w) (same.each 1 (omega arith)) ∙ header.version;
-  unnamed = ap (λ (w : ℕ). field HEADER_UNNAMED w) (same.each 1 (omega arith)) ∙ header.unnamed;
-  allowed = subst (λ (s : Shape). shape_refusal s.data_blocks s.log_blocks s.block_bytes ≡ None) (sym (header_shape old new same)) header.allowed;
-  whole = subst (λ (s : Shape). length new ≡ total s * words_in s) (sym (header_shape old new same)) (same.same_length ∙ header.whole);
-  head_unnamed = ap (λ (w : ℕ). field HEAD_UNNAMED w) (same.each 3 (omega arith)) ∙ header.head_unnamed;
-  generation = subst (λ (w : ℕ). 0 < field HEAD_GENERATION w) (sym (same.each 3 (omega arith))) header.generation;
-}
-
-long_words : (words : List ℕ) → HasHeader words → 8 ≤ words_in (shape_of words)
-long_words words header = by_bytes (λ (b : ℕ). 8 ≤ b / 8) (shape_of words).block_bytes (allowed_shape (shape_of words).data_blocks (shape_of words).log_blocks (shape_of words).block_bytes header.allowed).bytes_are (omega arith) (omega arith) (omega arith)
 
 -- words cleared at a slot of a block of the log
 cleared_header : (old new : List ℕ) (shape : Shape) (block : ℕ) → 8 ≤ words_in shape → is_in_log shape block ≡ true → ClearedAt shape block old new → SameHeader old new

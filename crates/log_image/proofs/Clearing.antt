@@ -1,7 +1,7 @@
 -- Clearing what stands after the tail changes nothing that the chain says.
-use Rattle.std.proofs.Common.{◌≡◌, ◌≢◌, ◌≤◌, ◌<◌, ◌+◌, ◌-◌, ◌*◌, ◌==◌, ◌&&◌, nat_lt, ℕ, suc, Bool, true, false, List, [], ◌∷◌, length, get_or, drop, min, ◌⊎◌, inl, inr, if◌then◌else◌, refl, sym, ap, ◌∙◌, subst, arith}
+use Rattle.std.proofs.Common.{◌≡◌, ◌≢◌, ◌≤◌, ◌<◌, ◌+◌, ◌-◌, ◌*◌, ◌==◌, ◌&&◌, nat_lt, ℕ, suc, Bool, true, false, List, [], ◌∷◌, length, get_or, ◌⊎◌, inl, inr, if◌then◌else◌, refl, sym, ap, ◌∙◌, subst, arith}
 use Rattle.std.proofs.lemmas.Bool.{ne_eqb, eqb-true, eqb-false, le-ltb, ltb-true, ltb-false}
-use Rattle.std.proofs.lemmas.List.{ext_get_or, get_or-drop, length-take, length-drop}
+use Rattle.std.proofs.lemmas.List.{ext_get_or, get_or-drop, length-drop}
 use Rattle.std.proofs.Math.Nat.{mul-le-mul_right}
 use Rattle.log_entry.specs.Fields.{field}
 use Rattle.log_entry.specs.declared.layouts.TheConstants.{BLOCK_KIND, SNAPSHOT}
@@ -10,6 +10,7 @@ use Rattle.log_image.specs.Blocks.{link_of, is_snapshot, slots_of, entry_words, 
 use Rattle.log_image.specs.Format.{is_seal_last, is_seal_placed}
 use Rattle.log_image.specs.Tails.{AtSlot, is_after, IsCleared}
 use Rattle.log_image.proofs.ImageLemmas.{in_block}
+use Rattle.log_image.proofs.BlockLemmas.{same_long, within}
 
 -- slots that are the same up to the first empty one
 abbrev pub SameToTail : List ℕ → List ℕ → Type 0
@@ -144,16 +145,6 @@ pub record ClearedAt (shape : Shape) (block : ℕ) (old new : List ℕ) : Type 0
   pub log : is_snapshot (block_words old shape block) ≡ false
   pub opens : is_closed (slots_of (block_words old shape block)) ≡ false
   pub cleared : IsCleared shape (AtSlot block (3 + length (entry_words (slots_of (block_words old shape block))))) old new
-
-same_long : (shape : Shape) (block : ℕ) (old new : List ℕ) → length new ≡ length old → length (block_words new shape block) ≡ length (block_words old shape block)
-same_long shape block old new long =
-    length-take (block * words_in shape + words_in shape - block * words_in shape) (drop (block * words_in shape) new)
-    ∙ ap (λ (k : ℕ). min (block * words_in shape + words_in shape - block * words_in shape) k) (length-drop (block * words_in shape) new ∙ ap (λ (k : ℕ). k - block * words_in shape) long ∙ sym (length-drop (block * words_in shape) old))
-    ∙ sym (length-take (block * words_in shape + words_in shape - block * words_in shape) (drop (block * words_in shape) old))
-
-within : (shape : Shape) (block : ℕ) (words : List ℕ) (index : ℕ) → index < length (block_words words shape block) → index < words_in shape
-within shape block words index inside =
-    omega (arith, inside, length-take (block * words_in shape + words_in shape - block * words_in shape) (drop (block * words_in shape) words))
 
 -- where a word is left, it is the same
 word_left : (shape : Shape) (block : ℕ) (old new : List ℕ) → (is : ClearedAt shape block old new) → (other index : ℕ) → index < words_in shape →

@@ -1,5 +1,5 @@
 -- The entries of a chain, and the rules of its blocks, in an image in which the blocks that the entries name are the same.
-use Rattle.std.proofs.Common.{◌≡◌, ◌==◌, ◌&&◌, ◌||◌, ℕ, Bool, true, false, List, [], ◌∷◌, ◌++◌, get_or, map, take, if◌then◌else◌, refl, sym, ap, ◌∙◌, subst}
+use Rattle.std.proofs.Common.{◌≡◌, ◌==◌, ◌&&◌, ◌||◌, ℕ, Bool, true, false, List, [], ◌∷◌, ◌++◌, get_or, map, if◌then◌else◌, refl, sym, ap, ◌∙◌, subst}
 use Rattle.std.specs.List.{list_all, flat_map}
 use Rattle.std.proofs.lemmas.Bool.{eqb-true}
 use Rattle.std.proofs.lemmas.List.{map-append}
@@ -10,7 +10,7 @@ use Rattle.log_entry.specs.Words.{entry_unnamed}
 use Rattle.log_entry.specs.declared.layouts.TheConstants.{ENTRY_KIND, DIRECT, INDIRECT, INDIRECT_BLOCK}
 use Rattle.log_image.specs.Image.{Shape, is_in_data, block_words}
 use Rattle.log_image.specs.Entries.{Meaning, direct_meaning, indirect_meaning, meaning, names, all_names}
-use Rattle.log_image.specs.Blocks.{entry_count, slots_of, entry_words, kept_words}
+use Rattle.log_image.specs.Blocks.{slots_of, entry_words, kept_words}
 use Rattle.log_image.specs.Format.{fits, is_direct, is_indirect, is_indirect_block, is_log_entry, is_log_block, is_seal_placed}
 use Rattle.log_image.proofs.HoldingLemmas.{both_left, both_right}
 use Rattle.log_image.proofs.ClearedChains.{both}

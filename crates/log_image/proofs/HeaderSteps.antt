@@ -10,13 +10,14 @@ use Rattle.log_image.proofs.ImageLemmas.{allowed_shape}
 use Rattle.log_image.proofs.MadeImages.{by_bytes}
 use Rattle.log_image.specs.SameWords.{SameHeader}
 
-shape_by : ℕ → ℕ → Shape
-shape_by one two = record { data_blocks = field HEADER_DATA two; log_blocks = field HEADER_LOG two; block_bytes = 2 ^ field HEADER_BLOCK_POWER one }
+-- the shape that the second and the third word say
+shape_in_words : ℕ → ℕ → Shape
+shape_in_words one two = record { data_blocks = field HEADER_DATA two; log_blocks = field HEADER_LOG two; block_bytes = 2 ^ field HEADER_BLOCK_POWER one }
 
 pub header_shape : (old new : List ℕ) → SameHeader old new → shape_of new ≡ shape_of old
-unfolding shape_by
+unfolding shape_in_words
 header_shape old new same =
-    ap (λ (w : ℕ). shape_by w (get_or new 2 0)) (same.each 1 (omega arith)) ∙ ap (λ (w : ℕ). shape_by (get_or old 1 0) w) (same.each 2 (omega arith))
+    ap (λ (w : ℕ). shape_in_words w (get_or new 2 0)) (same.each 1 (omega arith)) ∙ ap (λ (w : ℕ). shape_in_words (get_or old 1 0) w) (same.each 2 (omega arith))
 
 pub header_same : (old new : List ℕ) → SameHeader old new → HasHeader old → HasHeader new
 header_same old new same header = record {

@@ -3,7 +3,7 @@
 
 pub mod header;
 pub mod laws;
-pub mod starts;
+mod starts;
 #[cfg(test)]
 mod tests;
 

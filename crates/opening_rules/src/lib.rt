@@ -2,6 +2,6 @@
 #![tactic(auto)]
 
 pub mod laws;
-pub mod refusals;
+mod refusals;
 
 pub use refusals::BadImage;

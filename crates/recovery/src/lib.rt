@@ -7,21 +7,21 @@ mod block_tests;
 mod blocks;
 mod clearing;
 mod headers;
-pub mod tails;
-pub mod opened;
-pub mod openings;
+mod opened;
+mod openings;
 mod passing;
 mod reading;
-pub mod refusals;
+mod refusals;
 mod rules;
 mod shares;
 mod slacks;
 mod slots;
+mod tails;
 #[cfg(test)]
 mod tests;
 mod walks;
 
-pub use tails::Tail;
 pub use opened::Opened;
 pub use openings::{open_bytes, open_words, open_words_with_rest};
 pub use refusals::OpenRefusal;
+pub use tails::Tail;

@@ -8,11 +8,11 @@ ghost use Rattle.recovery.specs.Openings.{as_tail};
 ghost use Rattle.recovery.specs.OpenAnswers.{OpensWords, OpensBytes};
 ghost use Rattle.recovery.specs.Passing.{PassesConditions};
 
-use crate::tails::{Tail, tail_in};
 use crate::opened::Opened;
 use crate::passing::{Passed, pass};
 use crate::reading::Reading;
 use crate::refusals::OpenRefusal;
+use crate::tails::{Tail, tail_in};
 use chain_reader::block_at;
 use log_entry::layouts::HEAD_GENERATION;
 use log_entry::{Geometry, of_bytes};

@@ -83,9 +83,5 @@ pub fn take_names(
     }
     let holder = INDIRECT_BLOCK.of(word);
     take_block(taken, holder as u16)?;
-    take_runs(
-        taken,
-        geometry,
-        runs_in(block_at(words, geometry, holder)),
-    )
+    take_runs(taken, geometry, runs_in(block_at(words, geometry, holder)))
 }

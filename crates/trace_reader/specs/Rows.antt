@@ -1,5 +1,5 @@
 -- Worked traces: what their bytes are read as.
-use Rattle.std.specs.Prelude.{ℕ, ◌≡◌, List, [], ◌∷◌, Ok, Err, codes}
+use Rattle.std.specs.Prelude.{◌≡◌, List, [], ◌∷◌, Ok, Err, codes}
 use Rattle.log_entry.specs.Rows.{asks}
 use Rattle.log_entry.specs.declared.calls.Op.TheVariants.{Pwrite, Append, Pread, Size, Sync, Collect}
 use Rattle.log_entry.specs.declared.calls.Job.{Job}

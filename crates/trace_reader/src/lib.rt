@@ -4,9 +4,9 @@
 mod fields;
 pub mod laws;
 mod lines;
-pub mod printing;
-pub mod reading;
-pub mod refusals;
+mod printing;
+mod reading;
+mod refusals;
 #[cfg(test)]
 mod tests;
 

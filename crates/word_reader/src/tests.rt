@@ -62,8 +62,8 @@ fn reads_words_lowest_byte_first(rt: HostRuntime) -> Result<(), Fail> {
 
 #[test]
 fn reads_pieces_of_any_length(rt: HostRuntime) -> Result<(), Fail> {
-    for most in [1, 7, 8, 9, 65_535, 65_536] {
-        for len in [0, 1, 7, 8, 9, 15, 16, 17, 63, 64, LONG] {
+    for most in [1, 7, 9, 65_535] {
+        for len in [0, 7, 8, 9, 64, LONG] {
             let bytes = counting(rt.alloc(), len)?;
             let mut source = Slow {
                 bytes: Bytes::new(bytes.clone()?),
@@ -97,15 +97,7 @@ fn keeps_each_rest(rt: HostRuntime) -> Result<(), Fail> {
 
 #[test]
 fn stops_past_the_limit(rt: HostRuntime) -> Result<(), Fail> {
-    for (limit, after) in [
-        (0, 20),
-        (1, 19),
-        (7, 13),
-        (8, 12),
-        (9, 11),
-        (19, 1),
-        (20, 0),
-    ] {
+    for (limit, after) in [(0, 20), (7, 13), (8, 12), (20, 0)] {
         let mut source = Bytes::new(counting(rt.alloc(), 21)?);
         assert_eq!(rt;
             read_words(rt.alloc(), &mut source, limit).err(),

@@ -48,19 +48,19 @@ pub returns-clause-leading_zero : goal.returns-clause-leading_zero
 returns-clause-leading_zero c =
     let text : List ℕ = codes "00 pread 0 1\n" in
     first_bad text (omega arith) (omega arith) (λ on.
-        let parts = call_parts text on.0.seat on.0.op on.1 (job_front 1 [] text (omega arith) on) in
-        let zeros : DigitsFront text (codes "00") (codes " pread 0 1\n") = record { split = refl; all = refl; ended = refl } in
-        let same = front_digits 32 text (codes "00") (codes " pread 0 1\n") on.0.seat parts.behind refl zeros parts.seat_front in
-        no_leading_zero on.0.seat (codes "00") parts.seat_front.small same.0 (omega arith) refl)
+    let parts = call_parts text on.0.seat on.0.op on.1 (job_front 1 [] text (omega arith) on) in
+    let zeros : DigitsFront text (codes "00") (codes " pread 0 1\n") = record { split = refl; all = refl; ended = refl } in
+    let same = front_digits 32 text (codes "00") (codes " pread 0 1\n") on.0.seat parts.behind refl zeros parts.seat_front in
+    no_leading_zero on.0.seat (codes "00") parts.seat_front.small same.0 (omega arith) refl)
 
 pub returns-clause-other_seat : goal.returns-clause-other_seat
 returns-clause-other_seat c =
     let text : List ℕ = codes "1 pread 0 1\n" in
     first_bad text (omega arith) (omega arith) (λ on.
-        let parts = call_parts text on.0.seat on.0.op on.1 (job_front 1 [] text (omega arith) on) in
-        let one : DigitsFront text (codes "1") (codes " pread 0 1\n") = record { split = refl; all = refl; ended = refl } in
-        let same = front_digits 32 text (codes "1") (codes " pread 0 1\n") on.0.seat parts.behind refl one parts.seat_front in
-        let below = on.2.seat in
-        let nought : on.0.seat ≡ 0 = omega arith in
-        let digit : ◌≡◌ {A = ℕ} 49 48 = ap (λ (xs : List ℕ). get_or xs 0 0) (same.0 ∙ ap decimal nought ∙ decimal_digit 0 (omega arith)) in
-        omega arith)
+    let parts = call_parts text on.0.seat on.0.op on.1 (job_front 1 [] text (omega arith) on) in
+    let one : DigitsFront text (codes "1") (codes " pread 0 1\n") = record { split = refl; all = refl; ended = refl } in
+    let same = front_digits 32 text (codes "1") (codes " pread 0 1\n") on.0.seat parts.behind refl one parts.seat_front in
+    let below = on.2.seat in
+    let nought : on.0.seat ≡ 0 = omega arith in
+    let digit : ◌≡◌ {A = ℕ} 49 48 = ap (λ (xs : List ℕ). get_or xs 0 0) (same.0 ∙ ap decimal nought ∙ decimal_digit 0 (omega arith)) in
+    omega arith)
