@@ -4,7 +4,7 @@ ghost use Rattle.std.specs.Prelude.{◌≡◌, ◌≢◌, ◌⊎◌, ℕ, List, 
 ghost use Rattle.io_ends.specs.Taking.{IsAtEnd};
 ghost use Rattle.chain_reader.specs.Tables.{shape_by};
 ghost use Rattle.madfs_cli.specs.Commands.{ShowFile, made_request, reads_image, reads_trace, writes_image};
-ghost use Rattle.madfs_cli.specs.Inputs.{IsNotOpened};
+ghost use Rattle.madfs_cli.specs.Inputs.{IsNotOpened, WasAccepted};
 ghost use Rattle.madfs_cli.specs.Images.{RefusesImage, IsDumpOf, made_text, IsNewImage};
 ghost use Rattle.madfs_cli.specs.Outcomes.{TakenFrom, GivenTo, IsOutcome, IsOutputOf, ImageRefused, TraceRefused, IsNotMade};
 ghost use Rattle.opening_rules.specs.declared.refusals.BadImage.{BadImage};
@@ -107,6 +107,8 @@ pub fn output_of<I: Source, T: Source>(
     ensures no_image { writes_image (made_request making) ≡ false → IfOk result (λ output. output.image.items ≡ []) }
     ensures image_good { OnOk result ((why : BadImage) → ImageRefused (made_request making) (record { left = I.left image.old; faults_before = I.faults image.old; faults_after = I.faults image.new }) why → ⊥) }
     ensures trace_good { OnOk result ((why : BadTrace) → TraceRefused (made_request making) (record { left = T.left trace.old; faults_before = T.faults trace.old; faults_after = T.faults trace.new }) why → ⊥) }
+    ensures trace_after_image { reads_image (made_request making) ≡ true → (trace.new ≡ trace.old) ⊎ WasAccepted (I.left image.old) (I.left image.new) }
+    ensures trace_kept_at { IfErr result (λ status. (why : BadImage) → status ≡ Status.BadImage why → trace.new ≡ trace.old) }
     ensures image_end { OnOk result (reads_image (made_request making) ≡ true → IsAtEnd (I.left image.new)) }
     ensures trace_end { OnOk result (reads_trace (made_request making) ≡ true → IsAtEnd (T.left trace.new)) }
     ensures image_kept { reads_image (made_request making) ≡ false → image.new ≡ image.old }

@@ -5,6 +5,7 @@ ghost use Rattle.io_ends.specs.Taking.{IsAtEnd};
 ghost use Rattle.opening_rules.specs.declared.refusals.BadImage.{BadImage};
 ghost use Rattle.trace_reader.specs.declared.refusals.BadTrace.{BadTrace};
 ghost use Rattle.madfs_cli.specs.Commands.{Request, Asks, IsCommand, request_of, reads_image, reads_trace, writes_image};
+ghost use Rattle.madfs_cli.specs.Inputs.{WasAccepted};
 ghost use Rattle.madfs_cli.specs.Outcomes.{IsOutcome};
 
 use crate::answers::{output_of, show_file};
@@ -28,6 +29,8 @@ fn run_command<I: Source, T: Source, O: Sink, N: Sink>(
     ensures image_kept { reads_image (request_of command) ≡ false → image.new ≡ image.old }
     ensures trace_kept { reads_trace (request_of command) ≡ false → trace.new ≡ trace.old }
     ensures fresh_kept { writes_image (request_of command) ≡ false → fresh.new ≡ fresh.old }
+    ensures trace_after_image { reads_image (request_of command) ≡ true → (trace.new ≡ trace.old) ⊎ WasAccepted (I.left image.old) (I.left image.new) }
+    ensures trace_kept_at { (why : BadImage) → result ≡ Status.BadImage why → trace.new ≡ trace.old }
     ensures order { ((report.new ≡ report.old) × (fresh.new ≡ fresh.old))
         ⊎ ((reads_image (request_of command) ≡ true → IsAtEnd (I.left image.new)) × (reads_trace (request_of command) ≡ true → IsAtEnd (T.left trace.new))) }
     ensures unwritten { (result ≡ Status.ReadFault) ⊎ ((why : BadImage) × (result ≡ Status.BadImage why)) ⊎ ((why : BadTrace) × (result ≡ Status.BadTrace why))
@@ -76,6 +79,10 @@ pub fn run<I: Source, T: Source, O: Sink, N: Sink>(
     ensures image_kept { (request : Request) → Asks words.now request → reads_image request ≡ false → image.new ≡ image.old }
     ensures trace_kept { (request : Request) → Asks words.now request → reads_trace request ≡ false → trace.new ≡ trace.old }
     ensures fresh_kept { (request : Request) → Asks words.now request → writes_image request ≡ false → fresh.new ≡ fresh.old }
+
+    // The trace is not touched before the image was read to its end and accepted.
+    ensures trace_after_image { (request : Request) → Asks words.now request → reads_image request ≡ true → (trace.new ≡ trace.old) ⊎ WasAccepted (I.left image.old) (I.left image.new) }
+    ensures trace_kept_at { (why : BadImage) → result ≡ Status.BadImage why → trace.new ≡ trace.old }
 
     // Nothing is written before what the command reads was read to its end.
     ensures order { (request : Request) → Asks words.now request → ((report.new ≡ report.old) × (fresh.new ≡ fresh.old))
