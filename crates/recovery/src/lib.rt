@@ -23,5 +23,6 @@ mod walks;
 
 pub use holes::Hole;
 pub use opened::Opened;
+pub use opening_rules::BadImage;
 pub use openings::{open_bytes, open_words, open_words_with_rest};
 pub use refusals::OpenRefusal;
