@@ -27,10 +27,7 @@ pub fn file_of(alloc: Global, start: &Start) -> Result<Vec<u8>, AllocError>
 {
     let mut gathered = Gathered::new(alloc);
     match write_file(alloc, start, &mut gathered) {
-        Ok(()) => {
-            let bytes = Vec::from_slice(alloc, gathered.bytes())?;
-            Ok(bytes)
-        }
+        Ok(()) => Ok(gathered.into_bytes()),
         Err(_) => Err(AllocError),
     }
 }

@@ -88,6 +88,13 @@ impl Gathered {
     {
         self.taken.as_slice()
     }
+
+    /// The bytes that it took, without a copy.
+    pub fn into_bytes(self) -> Vec<u8>
+        ensures { result.items ≡ self }
+    {
+        self.taken
+    }
 }
 
 impl Sink for Gathered {
