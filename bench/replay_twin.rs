@@ -21,11 +21,11 @@ struct Engine {
 }
 
 impl Engine {
-    /// Clears the tail of an image that was opened: where its hole is a slot, each word after it in its block, and the link.
+    /// Clears the tail of an image that was opened: where it is a slot, each word after it in its block, and the link.
     fn new(mut image: Image, walked: Walked) -> Engine {
         let tail = *walked.chain.last().expect("a chain has a block");
-        let hole = image.slots(tail).find(|(_, word)| *word == 0 || *word == 3);
-        let slot = match hole {
+        let found = image.slots(tail).find(|(_, word)| *word == 0 || *word == 3);
+        let slot = match found {
             Some((slot, 0)) => {
                 let own = image.block_mut(tail);
                 own[8 * slot..].fill(0);

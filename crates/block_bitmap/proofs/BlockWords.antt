@@ -3,7 +3,7 @@ use Rattle.std.proofs.Common.{ℕ, ◌≡◌, ◌*◌, ◌<◌, ◌≤◌, ◌/�
 use Rattle.std.proofs.lemmas.Bool.{eqb-true}
 use Rattle.std.proofs.Math.Nat.{mul-le-mul}
 use Rattle.log_entry.specs.declared.shapes.Geometry.{Geometry}
-use Rattle.seat_state.specs.Seats.{q_of}
+use Rattle.pmem_words.specs.Seats.{q_of}
 
 of_bytes : (bytes : ℕ) (a b c : Bool) → (bytes == 64) ≡ a → (bytes == 512) ≡ b → (bytes == 4096) ≡ c → (a || b || c) ≡ true → (8 ≤ bytes / 8) × (bytes / 8 ≤ 512)
 of_bytes bytes true b c e f g all = (let same : bytes ≡ 64 = eqb-true bytes 64 e in (omega (arith, same), omega (arith, same)))

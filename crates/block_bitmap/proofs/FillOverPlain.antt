@@ -2,12 +2,13 @@
 use Rattle.std.proofs.Common.{ℕ, zero, suc, ◌≡◌, ◌+◌, ◌-◌, ◌*◌, ◌<◌, ◌≤◌, nat_lt, true, false, List, length, slice_set, refl, sym, ap, subst, ◌∙◌, arith}
 use Rattle.std.proofs.lemmas.Bool.{lt-ltb, le-ltb}
 use Rattle.std.proofs.lemmas.List.{length-set}
-use Rattle.seat_parts.specs.Owned.{owned_at}
-use Rattle.seat_parts.specs.declared.owned.OwnedBlock.{OwnedBlock}
-use Rattle.seat_state.specs.Seats.{Seat, q_of}
+use Rattle.pmem_words.specs.Owned.{owned_at}
+use Rattle.pmem_words.specs.declared.owned.OwnedBlock.{OwnedBlock}
+use Rattle.pmem_words.specs.Seats.{Seat, q_of}
 use Rattle.pmem_words.specs.Courses.{over}
 use Rattle.pmem_words.specs.Leads.{Leads}
-use Rattle.pmem_words.specs.PlainWords.{PlainWords, plain}
+use Rattle.asks.specs.SharedWords.{SharedWords}
+use Rattle.pmem_words.specs.PlainWords.{plain}
 use Rattle.pmem_words.proofs.PlainLemmas.{leads_plain, leads_plain_kept}
 use Rattle.block_bitmap.specs.declared.fill.Fill.TheVariants.{Store, Mark, Fence}
 use Rattle.block_bitmap.specs.OwnedWords.{block_at, image_word, content_at, unfilled, counted, all_fenced}
@@ -23,9 +24,9 @@ more_words word n q left = lt-ltb (word + 1) q (omega (arith, left))
 last_word : (word q : ℕ) → word + 1 ≡ q → nat_lt (word + 1) q ≡ false
 last_word word q left = le-ltb (word + 1) q (omega (arith, left))
 
-module _ (Q : Unit {0} → Seat → PlainWords → Type 0) (p left : ℕ) where
+module _ (Q : Unit {0} → Seat → SharedWords → Type 0) (p left : ℕ) where
   -- the n last words of a block are marked, and the block counts as filled
-  marks_lead : (n word : ℕ) (s : Seat) (w : PlainWords) → word + n ≡ q_of s.geometry → 0 < n → 0 < left → p + left ≤ length s.blocks.owned → p + left ≤ 65536
+  marks_lead : (n word : ℕ) (s : Seat) (w : SharedWords) → word + n ≡ q_of s.geometry → 0 < n → 0 < left → p + left ≤ length s.blocks.owned → p + left ≤ 65536
       → block_at s p * q_of s.geometry + q_of s.geometry ≤ length w.words
       → Leads fill_script (over fill_script plain) Q (block_next (nat_lt 1 left) p left) (counted s p) w
       → Leads fill_script (over fill_script plain) Q (Mark p left word) s w
@@ -57,10 +58,10 @@ module _ (s : Seat) (owned : List OwnedBlock) (each : (k : ℕ) → (owned_at ow
       ap (λ (stored : List ℕ). with_blocks (owning s owned) (p + 1) n stored) (same_words p 0 (q_of s.geometry) words)
       ∙ same_stored (p + 1) n (with_words s p 0 (q_of s.geometry) words)
 
-module _ (Q : Unit {0} → Seat → PlainWords → Type 0) where
+module _ (Q : Unit {0} → Seat → SharedWords → Type 0) where
   module _ (p left : ℕ) where
     -- the n last words of a block are stored
-    stores_lead : (n word : ℕ) (s : Seat) (w : PlainWords) → unfilled s p ≡ s → word + n ≡ q_of s.geometry → 0 < n → 0 < left → p + left ≤ length s.blocks.owned → p + left ≤ 65536
+    stores_lead : (n word : ℕ) (s : Seat) (w : SharedWords) → unfilled s p ≡ s → word + n ≡ q_of s.geometry → 0 < n → 0 < left → p + left ≤ length s.blocks.owned → p + left ≤ 65536
         → block_at s p * q_of s.geometry + q_of s.geometry ≤ length w.words
         → Leads fill_script (over fill_script plain) Q (Mark p left 0) s (record w { words = with_words s p word n w.words })
         → Leads fill_script (over fill_script plain) Q (Store p left word) s w
@@ -78,7 +79,7 @@ module _ (Q : Unit {0} → Seat → PlainWords → Type 0) where
         (let long = length-set w.words (image_word s p word) (content_at s p word) in omega (arith, inside, long)) then)))
 
     -- a block is stored and marked, and the machine goes on
-    block_leads : (s : Seat) (w : PlainWords) → 0 < left → p + left ≤ length s.blocks.owned → p + left ≤ 65536
+    block_leads : (s : Seat) (w : SharedWords) → 0 < left → p + left ≤ length s.blocks.owned → p + left ≤ 65536
         → block_at s p * q_of s.geometry + q_of s.geometry ≤ length w.words
         → Leads fill_script (over fill_script plain) Q (block_next (nat_lt 1 left) p left) (filled_anew s p) (record w { words = with_words s p 0 (q_of s.geometry) w.words })
         → Leads fill_script (over fill_script plain) Q (Store p left 0) s w
@@ -93,16 +94,16 @@ module _ (Q : Unit {0} → Seat → PlainWords → Type 0) where
         many : length t.blocks.owned ≡ length s.blocks.owned
         many = unfilled_many s p
 
-        fits : (v : PlainWords) → length v.words ≡ length w.words → block_at t p * q_of s.geometry + q_of s.geometry ≤ length v.words
+        fits : (v : SharedWords) → length v.words ≡ length w.words → block_at t p * q_of s.geometry + q_of s.geometry ≤ length v.words
         fits v long = (let same : block_at t p * q_of s.geometry ≡ block_at s p * q_of s.geometry = ap (λ (b : ℕ). b * q_of s.geometry) (unfilled_each s p p) in omega (arith, inside, long, same))
 
-        v : PlainWords
+        v : SharedWords
         v = record w { words = with_words s p 0 (q_of s.geometry) w.words }
 
         marked : Leads fill_script (over fill_script plain) Q (Mark p left 0) t v
         marked = marks_lead Q p left (q_of s.geometry) 0 t v (omega arith) (let low = (q_range s.geometry).0 in omega (arith, low)) more (omega (arith, owned, many)) few (fits v (length_words s p 0 (q_of s.geometry) w.words)) then
 
-        w1 : PlainWords
+        w1 : SharedWords
         w1 = record w { words = slice_set w.words (image_word s p 0) (content_at s p 0) }
 
         first : (q : ℕ) → q_of s.geometry ≡ q → 8 ≤ q_of s.geometry → Leads fill_script (over fill_script plain) Q (Store p left 0) s w
@@ -116,11 +117,11 @@ module _ (Q : Unit {0} → Seat → PlainWords → Type 0) where
             (subst (λ (words : List ℕ). Leads fill_script (over fill_script plain) Q (Mark p left 0) t (record w { words = words }))
             (ap (λ (q : ℕ). with_words s p 0 q w.words) is ∙ sym (same_words s (stored_in s p) (unfilled_each s p) p 1 (suc n) w1.words)) marked)))
 
-  fence_leads : (s : Seat) (w : PlainWords) → Q tt (all_fenced s) w → Leads fill_script (over fill_script plain) Q Fence s w
+  fence_leads : (s : Seat) (w : SharedWords) → Q tt (all_fenced s) w → Leads fill_script (over fill_script plain) Q Fence s w
   fence_leads s w then = leads_plain fill_script Q Fence s w tt (λ small. tt) then
 
   -- n blocks are filled, and the fence comes
-  blocks_lead : (n p : ℕ) (s : Seat) (w : PlainWords) → 0 < n → p + n ≤ length s.blocks.owned → p + n ≤ 65536 → HasWordsOf s p n w.words
+  blocks_lead : (n p : ℕ) (s : Seat) (w : SharedWords) → 0 < n → p + n ≤ length s.blocks.owned → p + n ≤ 65536 → HasWordsOf s p n w.words
       → Q tt (filled_seat s p n) (record w { words = with_blocks s p n w.words }) → Leads fill_script (over fill_script plain) Q (Store p n 0) s w
   blocks_lead zero p s w some owned few has then = absurd (omega (arith, some))
   blocks_lead (suc zero) p s w some owned few has then =
@@ -138,14 +139,14 @@ module _ (Q : Unit {0} → Seat → PlainWords → Type 0) where
       here : p < length s.blocks.owned
       here = omega (arith, owned)
 
-      v : PlainWords
+      v : SharedWords
       v = record w { words = with_words s p 0 (q_of s.geometry) w.words }
 
 -- what is left after a fill alone
-pub record FilledAlone (first count : ℕ) (s : Seat) (w : PlainWords) (out : Unit {0}) (t : Seat) (v : PlainWords) : Type 0 where
+pub record FilledAlone (first count : ℕ) (s : Seat) (w : SharedWords) (out : Unit {0}) (t : Seat) (v : SharedWords) : Type 0 where
   pub seat : t ≡ filled_seat s first count
   pub memory : v ≡ record w { words = with_blocks s first count w.words }
 
-pub filled_alone : (first count : ℕ) (s : Seat) (w : PlainWords) → 0 < count → first + count ≤ length s.blocks.owned → first + count ≤ 65536 → HasWordsOf s first count w.words
+pub filled_alone : (first count : ℕ) (s : Seat) (w : SharedWords) → 0 < count → first + count ≤ length s.blocks.owned → first + count ≤ 65536 → HasWordsOf s first count w.words
     → Leads fill_script (over fill_script plain) (FilledAlone first count s w) (fill_of first count) s w
 filled_alone first count s w some owned few has = blocks_lead (FilledAlone first count s w) count first s w some owned few has (record { seat = refl; memory = refl })

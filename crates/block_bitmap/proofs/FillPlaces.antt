@@ -2,9 +2,9 @@
 use Rattle.std.proofs.Common.{◌≡◌, ◌≢◌, ◌<◌, ◌≤◌, ◌*◌, ◌/◌, ℕ, true, false, [], length, refl, sym, ap, ◌∙◌, subst, arith}
 use Rattle.std.proofs.Math.Nat.{mul-le-mul_right}
 use Rattle.log_image.specs.Chains.{all_different}
-use Rattle.seat_state.specs.Seats.{Seat, q_of}
-use Rattle.pmem_words.specs.declared.asks.Turn.{Turn}
-use Rattle.pmem_words.specs.declared.asks.Turn.TheVariants.{Go, Done}
+use Rattle.pmem_words.specs.Seats.{Seat, q_of}
+use Rattle.pmem_words.specs.declared.machine.Turn.{Turn}
+use Rattle.pmem_words.specs.declared.machine.Turn.TheVariants.{Go, Done}
 use Rattle.log_core.specs.Entries.{has}
 use Rattle.log_core.specs.Views.{Ghost}
 use Rattle.log_core.specs.Origin.{Origin, Header, OwnedBy}
@@ -15,7 +15,7 @@ use Rattle.log_core.specs.Steps.{StoresWord, effect, owned_with}
 use Rattle.log_core.specs.Invariant.{Invariant}
 use Rattle.log_core.specs.Knows.{Knows}
 use Rattle.log_core.specs.Within.{no_record, adds_at, EntersOffered}
-use Rattle.log_core.proofs.OwnedLists.{block_of}
+use Rattle.log_core.proofs.clauses.OwnedLists.{block_of}
 use Rattle.block_bitmap.specs.OwnedWords.{block_at, image_word, content_at, unfilled}
 use Rattle.block_bitmap.specs.Filling.{HasBlocks}
 use Rattle.block_bitmap.specs.FillWithin.{IsAtBlock}

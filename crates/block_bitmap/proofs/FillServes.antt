@@ -1,13 +1,13 @@
 -- Filling owned blocks is lawful within a core.
 use Rattle.std.proofs.Common.{◌≡◌, ◌<◌, ◌||◌, ℕ, Bool, true, false, length, refl, sym, ap, subst}
-use Rattle.seat_parts.specs.Owned.{owned_at}
-use Rattle.seat_state.specs.Seats.{Seat}
-use Rattle.pmem_words.specs.declared.asks.Turn.TheVariants.{Done}
+use Rattle.pmem_words.specs.Owned.{owned_at}
+use Rattle.pmem_words.specs.Seats.{Seat}
+use Rattle.pmem_words.specs.declared.machine.Turn.TheVariants.{Done}
 use Rattle.log_core.specs.Views.{Ghost}
 use Rattle.log_core.specs.Origin.{Origin}
 use Rattle.log_core.specs.Steps.{Fences, effect, is_head_marked}
 use Rattle.log_core.specs.Within.{no_record, Lawful, Serves}
-use Rattle.log_core.proofs.Fences.{no_sync_fenced}
+use Rattle.log_core.proofs.kinds.Fences.{no_sync_fenced}
 use Rattle.block_bitmap.specs.declared.fill.Fill.TheVariants.{Store, Mark, Fence}
 use Rattle.block_bitmap.specs.OwnedWords.{all_fenced}
 use Rattle.block_bitmap.specs.Filling.{fill_script}

@@ -1,11 +1,12 @@
 -- How many steps a fill makes.
 use Rattle.std.proofs.Common.{ℕ, ◌≡◌, ◌+◌, ◌-◌, ◌*◌, ◌<◌, nat_lt, Bool, true, false, length, refl, ap, ◌∙◌, arith}
-use Rattle.seat_state.specs.Seats.{Seat, q_of}
+use Rattle.pmem_words.specs.Seats.{Seat, q_of}
 use Rattle.pmem_words.specs.Courses.{over}
 use Rattle.pmem_words.specs.Drives.{Ends}
 use Rattle.pmem_words.specs.Leads.{Leads}
-use Rattle.pmem_words.specs.PlainWords.{PlainWords, plain}
-use Rattle.pmem_words.specs.declared.asks.Turn.TheVariants.{Done}
+use Rattle.asks.specs.SharedWords.{SharedWords}
+use Rattle.pmem_words.specs.PlainWords.{plain}
+use Rattle.pmem_words.specs.declared.machine.Turn.TheVariants.{Done}
 use Rattle.pmem_words.proofs.StepCounts.{steps_by}
 use Rattle.block_bitmap.specs.declared.fill.Fill.{Fill}
 use Rattle.block_bitmap.specs.declared.fill.Fill.TheVariants.{Store, Mark, Fence}
@@ -23,7 +24,7 @@ ends_at (Store place left word) s a out admits done = cc
 ends_at (Mark place left word) s a out admits done = ends_last (nat_lt (word + 1) (q_of s.geometry)) place left word s out done
 ends_at Fence s a out admits done = refl
 
-module _ (Q : Unit {0} → Seat → PlainWords → Type 0) (first count : ℕ) (s : Seat) (w : PlainWords) (out : Unit {0}) (t : Seat) (v : PlainWords) (some : 0 < count) where
+module _ (Q : Unit {0} → Seat → SharedWords → Type 0) (first count : ℕ) (s : Seat) (w : SharedWords) (out : Unit {0}) (t : Seat) (v : SharedWords) (some : 0 < count) where
   pub fill_steps : Leads fill_script (over fill_script plain) Q (fill_of first count) s w → (e : Ends fill_script (over fill_script plain) (fill_of first count) s w out t v) → length e.answers + 1 ≡ 2 * q_of s.geometry * count + 1
   fill_steps leads e =
       (let steps = steps_by fill_script (over fill_script plain) Q (λ m s w a v ready step. ready.admitted a v step) fill_exact ends_at (fill_of first count) s w out t v leads e in

@@ -2,14 +2,14 @@
 use Rattle.std.proofs.Common.{◌≡◌, ◌≢◌, ◌<◌, ◌+◌, ◌*◌, ◌⊎◌, inl, inr, nat_lt, ℕ, zero, suc, Bool, true, false, length, refl, sym, ap, ◌∙◌, subst, arith}
 use Rattle.std.specs.Prelude.{Some}
 use Rattle.std.proofs.lemmas.Bool.{cases_eq, le-ltb, ltb-true, ltb-false}
-use Rattle.seat_state.specs.Seats.{Seat, q_of}
-use Rattle.pmem_words.specs.declared.asks.Turn.TheVariants.{Go}
+use Rattle.pmem_words.specs.Seats.{Seat, q_of}
+use Rattle.pmem_words.specs.declared.machine.Turn.TheVariants.{Go}
 use Rattle.log_core.specs.Views.{Ghost}
 use Rattle.log_core.specs.Origin.{Origin}
 use Rattle.log_core.specs.Works.{stored_at}
 use Rattle.log_core.specs.Steps.{StoresWord, effect, ghost_after, stored_with}
 use Rattle.log_core.specs.Within.{no_record, Lawful}
-use Rattle.log_core.proofs.OwnedLists.{stored_at_other}
+use Rattle.log_core.proofs.clauses.OwnedLists.{stored_at_other}
 use Rattle.block_bitmap.specs.declared.fill.Fill.TheVariants.{Store}
 use Rattle.block_bitmap.specs.OwnedWords.{image_word, content_at, unfilled}
 use Rattle.block_bitmap.specs.Filling.{fill_script, stored_next}

@@ -1,15 +1,15 @@
 -- Filling owned blocks within a core, from every start; and what a fill leaves has one possible value in each word.
 use Rattle.std.proofs.Common.{◌≡◌, ◌<◌, ℕ, true, List, length, refl, ap, ◌∙◌, subst, arith}
-use Rattle.seat_parts.specs.Owned.{owned_at}
-use Rattle.seat_state.specs.Seats.{Seat, q_of}
+use Rattle.pmem_words.specs.Owned.{owned_at}
+use Rattle.pmem_words.specs.Seats.{Seat, q_of}
 use Rattle.persistence.specs.Memory.{Cell, Replaced, Noted, cell}
 use Rattle.log_core.specs.Views.{View, Ghost}
 use Rattle.log_core.specs.Owned.{OwnedHold}
 use Rattle.log_core.specs.Certain.{IsCertain}
 use Rattle.log_core.specs.Within.{no_record, IsLeft}
-use Rattle.log_core.proofs.Serving.{leads_within, reached_keeps}
-use Rattle.log_core.proofs.OverPlain.{over_plain}
-use Rattle.log_core.proofs.StartMeets.{start_meets}
+use Rattle.log_core.proofs.machines.Serving.{leads_within, reached_keeps}
+use Rattle.log_core.proofs.machines.OverPlain.{over_plain}
+use Rattle.log_core.proofs.starts.StartMeets.{start_meets}
 use Rattle.block_bitmap.specs.OwnedWords.{image_word, content_at}
 use Rattle.block_bitmap.specs.Filling.{fill_of, fill_script, fill_lowers}
 use Rattle.block_bitmap.specs.Filled.{filled_seat}

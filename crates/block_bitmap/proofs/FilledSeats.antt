@@ -2,9 +2,9 @@
 use Rattle.std.proofs.Common.{ℕ, zero, suc, ◌≡◌, ◌≢◌, ◌+◌, ◌*◌, ◌<◌, ◌≤◌, ◌||◌, ◌⊎◌, inl, inr, true, false, length, slice_index, refl, ap, ◌∙◌, arith}
 use Rattle.std.proofs.lemmas.Bool.{cases_eq, or_right}
 use Rattle.std.proofs.lemmas.List.{get_or-set_same, get_or-set_other, get_or-map, length-map}
-use Rattle.seat_parts.specs.Owned.{owned_at, with_filled}
-use Rattle.seat_parts.specs.declared.owned.OwnedBlock.{OwnedBlock}
-use Rattle.seat_state.specs.Seats.{Seat, q_of}
+use Rattle.pmem_words.specs.Owned.{owned_at, with_filled}
+use Rattle.pmem_words.specs.declared.owned.OwnedBlock.{OwnedBlock}
+use Rattle.pmem_words.specs.Seats.{Seat, q_of}
 use Rattle.block_bitmap.specs.OwnedWords.{block_at, image_word, content_at, unfilled}
 use Rattle.block_bitmap.specs.Filled.{filled_anew, filled_from, filled_seat}
 use Rattle.block_bitmap.specs.FillWithin.{stored_to}

@@ -3,7 +3,7 @@ use Rattle.std.proofs.Common.{ℕ, zero, suc, ◌≡◌, ◌≢◌, ◌+◌, ◌
 use Rattle.std.proofs.lemmas.Bool.{cases_eq}
 use Rattle.std.proofs.lemmas.Nat.{div-mul-add}
 use Rattle.std.proofs.lemmas.List.{get_or-set_same, get_or-set_other, length-set}
-use Rattle.seat_state.specs.Seats.{Seat, q_of}
+use Rattle.pmem_words.specs.Seats.{Seat, q_of}
 use Rattle.block_bitmap.specs.OwnedWords.{block_at, image_word, content_at}
 use Rattle.block_bitmap.specs.Filled.{with_words, with_blocks, HasWordsOf, AreApart, HoldsBlocks, KeepsOthers}
 use Rattle.block_bitmap.proofs.FillOverPlain.{length_words}

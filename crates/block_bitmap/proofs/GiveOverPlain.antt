@@ -2,12 +2,14 @@
 use Rattle.std.proofs.Common.{ℕ, zero, suc, ◌≡◌, ◌+◌, ◌<◌, ◌≤◌, ◌^◌, ◌==◌, Bool, true, false, List, [], length, slice_index, slice_set, refl, sym, ap, subst, ◌∙◌, arith}
 use Rattle.std.proofs.lemmas.Bool.{eqb-true, eqb-false}
 use Rattle.std.proofs.lemmas.List.{length-set, nil_from_length}
-use Rattle.seat_parts.specs.Owned.{is_among}
-use Rattle.seat_parts.specs.declared.owned.OwnedBlock.{OwnedBlock}
-use Rattle.seat_state.specs.Seats.{Seat, q_of, without_bits}
+use Rattle.pmem_words.specs.Owned.{is_among}
+use Rattle.pmem_words.specs.declared.owned.OwnedBlock.{OwnedBlock}
+use Rattle.pmem_words.specs.Seats.{Seat, q_of}
+use Rattle.asks.specs.Asks.{without_bits}
 use Rattle.pmem_words.specs.Courses.{over}
 use Rattle.pmem_words.specs.Leads.{Leads, LeadsAt}
-use Rattle.pmem_words.specs.PlainWords.{PlainWords, plain}
+use Rattle.asks.specs.SharedWords.{SharedWords}
+use Rattle.pmem_words.specs.PlainWords.{plain}
 use Rattle.pmem_words.proofs.PlainLemmas.{leads_plain}
 use Rattle.block_bitmap.specs.declared.give.Give.{Give}
 use Rattle.block_bitmap.specs.declared.give.GiveFrom.{GiveFrom}
@@ -46,8 +48,8 @@ module _ (s : Seat) (some : 0 < length s.blocks.owned) where
   step_inside : (words : ℕ) → AreInside words s.blocks.owned → AreInside words (given_seat s).blocks.owned
   step_inside words inside = subst (AreInside words) (sym (left_is s)) (inside_others words (next_word s) s.blocks.owned inside)
 
-module _ (Q : ℕ → Seat → PlainWords → Type 0) (from : GiveFrom) where
-  gives_lead : (n given : ℕ) (s : Seat) (w : PlainWords) → length s.blocks.owned ≤ n → 0 < length s.blocks.owned → given + length s.blocks.owned < 2 ^ 32
+module _ (Q : ℕ → Seat → SharedWords → Type 0) (from : GiveFrom) where
+  gives_lead : (n given : ℕ) (s : Seat) (w : SharedWords) → length s.blocks.owned ≤ n → 0 < length s.blocks.owned → given + length s.blocks.owned < 2 ^ 32
       → AreInside (length s.blocks.found) s.blocks.owned → AreInside (length w.taken) s.blocks.owned
       → Q (given + length s.blocks.owned) (emptied s) (record w { taken = cleared s.blocks.owned w.taken })
       → Leads give_script (over give_script plain) Q (record { from = from; given = given }) s w
@@ -68,7 +70,7 @@ module _ (Q : ℕ → Seat → PlainWords → Type 0) (from : GiveFrom) where
       count : ℕ
       count = given_count m s
 
-      v : PlainWords
+      v : SharedWords
       v = record w { taken = step_words s w.taken }
 
       counted : count + length (given_seat s).blocks.owned ≡ given + length s.blocks.owned
@@ -87,11 +89,11 @@ module _ (Q : ℕ → Seat → PlainWords → Type 0) (from : GiveFrom) where
       by false is rest = rest (let some = eqb-false (length (given_seat s).blocks.owned) 0 is in omega (arith, some))
 
 -- what is left after a giving alone
-pub record GivenAlone (s : Seat) (w : PlainWords) (out : ℕ) (t : Seat) (v : PlainWords) : Type 0 where
+pub record GivenAlone (s : Seat) (w : SharedWords) (out : ℕ) (t : Seat) (v : SharedWords) : Type 0 where
   pub count : out ≡ length s.blocks.owned
   pub seat : t ≡ emptied s
   pub memory : v ≡ record w { taken = cleared s.blocks.owned w.taken }
 
-pub given_alone : (from : GiveFrom) (s : Seat) (w : PlainWords) → 0 < length s.blocks.owned → length s.blocks.owned < 2 ^ 32 → AreInside (length s.blocks.found) s.blocks.owned → AreInside (length w.taken) s.blocks.owned
+pub given_alone : (from : GiveFrom) (s : Seat) (w : SharedWords) → 0 < length s.blocks.owned → length s.blocks.owned < 2 ^ 32 → AreInside (length s.blocks.found) s.blocks.owned → AreInside (length w.taken) s.blocks.owned
     → Leads give_script (over give_script plain) (GivenAlone s w) (give_of from) s w
 given_alone from s w some few found taken = gives_lead (GivenAlone s w) from (length s.blocks.owned) 0 s w (omega arith) some (omega (arith, few)) found taken (record { count = (let same : 0 + length s.blocks.owned ≡ length s.blocks.owned = omega arith in same); seat = refl; memory = refl })

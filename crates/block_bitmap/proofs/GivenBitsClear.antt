@@ -4,8 +4,8 @@ use Rattle.std.specs.Int.{bit_at}
 use Rattle.std.proofs.lemmas.Bool.{eqb-true, eqb-false, eq-eqb, false_from_ne_true, false≢true, or_right}
 use Rattle.std.proofs.lemmas.Nat.Bits.{bit_at_and, bit_at_not, bit_at-lt}
 use Rattle.log_image.specs.Taken.{bit_of}
-use Rattle.seat_parts.specs.declared.owned.OwnedBlock.{OwnedBlock}
-use Rattle.seat_state.specs.Seats.{without_bits}
+use Rattle.pmem_words.specs.declared.owned.OwnedBlock.{OwnedBlock}
+use Rattle.asks.specs.Asks.{without_bits}
 use Rattle.block_bitmap.specs.GivenBits.{bits_in}
 use Rattle.block_bitmap.specs.BitsIn.{is_in, has_block, among_in}
 use Rattle.block_bitmap.specs.Given.{cleared, IsCleared}

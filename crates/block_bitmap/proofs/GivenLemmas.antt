@@ -5,9 +5,9 @@ use Rattle.std.proofs.lemmas.List.{get_or-set_same, get_or-set_other, length-set
 use Rattle.std.specs.Prelude.{bit_or}
 use Rattle.std.proofs.Math.Pow.{pow_mono}
 use Rattle.std.proofs.lemmas.Nat.{or_lt}
-use Rattle.seat_parts.specs.Owned.{owned_but, contents_but}
-use Rattle.seat_parts.specs.declared.owned.OwnedBlock.{OwnedBlock}
-use Rattle.seat_state.specs.Seats.{without_bits}
+use Rattle.pmem_words.specs.Owned.{owned_but, contents_but}
+use Rattle.pmem_words.specs.declared.owned.OwnedBlock.{OwnedBlock}
+use Rattle.asks.specs.Asks.{without_bits}
 use Rattle.block_bitmap.specs.GivenBits.{with_bit, bits_from, bits_in}
 use Rattle.block_bitmap.specs.BitsIn.{is_in, others_of}
 use Rattle.block_bitmap.specs.Given.{word_without, cleared_from, cleared, AreInside}

@@ -21,7 +21,6 @@ pub mod FillOverPlain
 pub mod FillSteps
 pub mod GivenLemmas
 pub mod GiveOverPlain
-pub mod WorldLemmas
 pub mod FillOwned
 pub mod FilledSeats
 pub mod FillPlaces
@@ -29,12 +28,9 @@ pub mod FillStores
 pub mod FillMarks
 pub mod FillServes
 pub mod FillWithinCore
-pub mod WorldTakes
-pub mod WorldFills
 pub mod FewBlocks
 pub mod GiveServes
 pub mod OwnedInCore
 pub mod GiveWithinCore
-pub mod WorldGives
 pub mod FilledWords
 pub mod GivenBitsClear

@@ -3,9 +3,9 @@ use Rattle.std.proofs.Common.{ℕ, ◌≡◌, ◌≢◌, ◌<◌, ◌≤◌, ◌
 use Rattle.std.proofs.lemmas.Bool.{cases_eq, cases_lt}
 use Rattle.std.proofs.lemmas.List.{get_or-set_same, get_or-set_other, set-set, set_past, length-set}
 use Rattle.log_entry.specs.declared.shapes.Area.TheVariants.{Data}
-use Rattle.seat_parts.specs.Owned.{owned_at, with_filled, with_fenced}
-use Rattle.seat_parts.specs.declared.owned.OwnedBlock.{OwnedBlock}
-use Rattle.seat_state.specs.Seats.{Seat}
+use Rattle.pmem_words.specs.Owned.{owned_at, with_filled, with_fenced}
+use Rattle.pmem_words.specs.declared.owned.OwnedBlock.{OwnedBlock}
+use Rattle.pmem_words.specs.Seats.{Seat}
 use Rattle.block_bitmap.specs.OwnedWords.{block_at, unfilled, counted}
 use Rattle.block_bitmap.specs.Filled.{filled_anew}
 

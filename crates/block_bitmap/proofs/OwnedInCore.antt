@@ -2,8 +2,8 @@
 use Rattle.std.proofs.Common.{◌≡◌, ◌<◌, ◌≤◌, ℕ, true, length, sym, ◌∙◌, arith}
 use Rattle.std.proofs.lemmas.List.{length-map}
 use Rattle.log_image.specs.Image.{total}
-use Rattle.seat_parts.specs.declared.owned.OwnedBlock.{OwnedBlock}
-use Rattle.seat_state.specs.Seats.{Seat}
+use Rattle.pmem_words.specs.declared.owned.OwnedBlock.{OwnedBlock}
+use Rattle.pmem_words.specs.Seats.{Seat}
 use Rattle.log_core.specs.Entries.{has}
 use Rattle.log_core.specs.Views.{Ghost}
 use Rattle.log_core.specs.Origin.{Origin, shape, OwnedBy, Free}

@@ -8,9 +8,9 @@ use Rattle.log_entry.specs.Geometry.{count_of, first_of}
 use Rattle.log_entry.specs.declared.shapes.Area.{Area}
 use Rattle.log_entry.specs.declared.shapes.Geometry.{Geometry}
 use Rattle.log_image.specs.Taken.{bit_of}
-use Rattle.seat_parts.specs.declared.owned.OwnedBlock.{OwnedBlock}
-use Rattle.seat_state.specs.Seats.{Seat, q_of}
-use Rattle.pmem_words.specs.PlainWords.{PlainWords}
+use Rattle.pmem_words.specs.declared.owned.OwnedBlock.{OwnedBlock}
+use Rattle.pmem_words.specs.Seats.{Seat, q_of}
+use Rattle.asks.specs.SharedWords.{SharedWords}
 use Rattle.block_bitmap.specs.declared.take.Taken.{Taken}
 use Rattle.block_bitmap.specs.declared.take.Taken.TheVariants.{Taken as HasTaken, NoSpace}
 use Rattle.block_bitmap.specs.TakeScript.{last_word, fresh, with_taken}
@@ -41,7 +41,7 @@ taken_both area xs ys s =
     sum a b q n is = (let same = ap (λ (k : ℕ). k * q) is in omega (arith, same))
 
 -- what a pass from a word on comes to
-pub record RestAlone (area : Area) (count word : ℕ) (s : Seat) (p : PlainWords) (out : Taken) (t : Seat) (q : PlainWords) : Type 0 where
+pub record RestAlone (area : Area) (count word : ℕ) (s : Seat) (p : SharedWords) (out : Taken) (t : Seat) (q : SharedWords) : Type 0 where
   pub outcome_is : out ≡ outcome area count (length (rest_from s.geometry area p.taken word))
   pub seat : t ≡ found_as t.blocks.found (with_taken area (take count (rest_from s.geometry area p.taken word)) s)
   pub last : ℕ
@@ -59,7 +59,7 @@ pub record Passes (word : ℕ) (blocks taken next found seen : List ℕ) : Type 
   pub set : AreSet blocks taken next
   pub kept : (v : ℕ) → v ≢ word → slice_index next v ≡ slice_index taken v
 
-module _ (area : Area) (count word : ℕ) (s : Seat) (p : PlainWords) (next seen : List ℕ) where
+module _ (area : Area) (count word : ℕ) (s : Seat) (p : SharedWords) (next seen : List ℕ) where
   abbrev g : Geometry
   g = s.geometry
 
@@ -73,7 +73,7 @@ module _ (area : Area) (count word : ℕ) (s : Seat) (p : PlainWords) (next seen
   abbrev left : List ℕ → Seat
   left blocks = found_as seen (with_taken area blocks s)
 
-  abbrev leaves : PlainWords
+  abbrev leaves : SharedWords
   leaves = record p { taken = next }
 
   module _ (from : first_of s.geometry area < word * 64 + 64) (to : word * 64 < first_of s.geometry area + count_of s.geometry area) where
@@ -120,7 +120,7 @@ module _ (area : Area) (count word : ℕ) (s : Seat) (p : PlainWords) (next seen
         same = ap (take count) all ∙ take_all count here (omega (arith, short))
 
     -- all of the word are taken, and the pass goes on
-    pub goes_on : Passes word here p.taken next s.blocks.found seen → length here < count → (out : Taken) (t : Seat) (q : PlainWords) → RestAlone area (count - length here) (word + 1) (left here) leaves out t q → RestAlone area count word s p out t q
+    pub goes_on : Passes word here p.taken next s.blocks.found seen → length here < count → (out : Taken) (t : Seat) (q : SharedWords) → RestAlone area (count - length here) (word + 1) (left here) leaves out t q → RestAlone area count word s p out t q
     goes_on passes short out t q r = record {
       outcome_is = r.outcome_is ∙ ap (λ (b : Bool). outcome_by b area) many;
       seat = r.seat ∙ ap (λ (x : Seat). found_as t.blocks.found x) (taken_both area here (take (count - length here) rest_then) s ∙ ap (λ (blocks : List ℕ). with_taken area blocks s) (sym all));

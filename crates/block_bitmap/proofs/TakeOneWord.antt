@@ -6,10 +6,11 @@ use Rattle.std.proofs.lemmas.List.{length-set, get_or-set_same, get_or-set_other
 use Rattle.std.proofs.lemmas.Nat.Bits.{bit_at_or, same_from_bits}
 use Rattle.log_entry.specs.Geometry.{count_of, first_of}
 use Rattle.log_entry.specs.declared.shapes.Area.{Area}
-use Rattle.seat_state.specs.Seats.{Seat, owned_room, bitmap_words}
+use Rattle.pmem_words.specs.Seats.{Seat, owned_room, bitmap_words}
 use Rattle.pmem_words.specs.Courses.{over}
 use Rattle.pmem_words.specs.Leads.{Leads, LeadsAfter}
-use Rattle.pmem_words.specs.PlainWords.{PlainWords, plain}
+use Rattle.asks.specs.SharedWords.{SharedWords}
+use Rattle.pmem_words.specs.PlainWords.{plain}
 use Rattle.pmem_words.proofs.LeadsLemmas.{leads_weaker}
 use Rattle.log_core.specs.Works.{shape_of}
 use Rattle.block_bitmap.specs.declared.take.Take.{Take}
@@ -29,7 +30,7 @@ abbrev pub pass_at : Area → ℕ → ℕ → Take
 pass_at area count passed = record { area = area; count = count; passed = passed; known = None }
 
 -- there is room in the list of owned blocks, and a bit for each block of the image
-pub record CanPass (area : Area) (count : ℕ) (s : Seat) (p : PlainWords) : Type 0 where
+pub record CanPass (area : Area) (count : ℕ) (s : Seat) (p : SharedWords) : Type 0 where
   pub room : length s.blocks.owned + count ≤ owned_room s.geometry
   pub found : length s.blocks.found ≡ bitmap_words s.geometry
   pub bitmap : last_word area s < length p.taken
@@ -41,7 +42,7 @@ twice f a b = same_from_bits (bit_or (bit_or f a) (bit_or a b)) (bit_or f (bit_o
 pub last_inside : (area : Area) (s : Seat) → last_word area s < bitmap_words s.geometry
 last_inside area s = (let inside = within_total s.geometry area in let some = some_in s.geometry area in omega (arith, inside, some))
 
-module _ (area : Area) (passed count : ℕ) (s : Seat) (p : PlainWords) (can : CanPass area count s p) (some : 0 < count) (to : first_of s.geometry area / 64 + passed ≤ last_word area s) where
+module _ (area : Area) (passed count : ℕ) (s : Seat) (p : SharedWords) (can : CanPass area count s p) (some : 0 < count) (to : first_of s.geometry area / 64 + passed ≤ last_word area s) where
   abbrev pub word : ℕ
   word = first_of s.geometry area / 64 + passed
 
@@ -63,7 +64,7 @@ module _ (area : Area) (passed count : ℕ) (s : Seat) (p : PlainWords) (can : C
   abbrev pub next : List ℕ
   next = slice_set p.taken word (bit_or found bits)
 
-  abbrev pub Ends : Taken → Seat → PlainWords → Type 0
+  abbrev pub Ends : Taken → Seat → SharedWords → Type 0
   Ends out t q = RestAlone area count word s p out t q
 
   pub inside : word < length p.taken
@@ -120,7 +121,7 @@ module _ (area : Area) (passed count : ℕ) (s : Seat) (p : PlainWords) (can : C
   module _ (after seen : List ℕ) (n : ℕ) (t : Seat) (known : Option ℕ) (passes : Passes word here p.taken after s.blocks.found seen) (short : length here < count)
       (is : found_as seen (with_taken area here s) ≡ t) (left : count - length here ≡ n)
       (later : word < last_word area s → Leads take_script (over take_script plain) (λ out u q. RestAlone area n (first_of s.geometry area / 64 + (passed + 1)) t (record p { taken = after }) out u q) (pass_at area n (passed + 1)) t (record p { taken = after })) where
-    pub continues : (out : Taken) (u : Seat) (q : PlainWords) → RestAlone area n (first_of s.geometry area / 64 + (passed + 1)) t (record p { taken = after }) out u q → Ends out u q
+    pub continues : (out : Taken) (u : Seat) (q : SharedWords) → RestAlone area n (first_of s.geometry area / 64 + (passed + 1)) t (record p { taken = after }) out u q → Ends out u q
     continues out u q r = goes_on area count word s p after seen from_first to_end passes short out u q
         (subst (λ (x : Seat). RestAlone area (count - length here) (word + 1) x (record p { taken = after }) out u q) (sym is)
         (subst (λ (k : ℕ). RestAlone area k (word + 1) t (record p { taken = after }) out u q) (sym left)

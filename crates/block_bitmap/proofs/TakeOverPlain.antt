@@ -1,8 +1,7 @@
 -- Taking blocks over a plain memory.
 use Rattle.std.proofs.Common.{◌≡◌, ◌≢◌, ◌<◌, ◌≤◌, ◌+◌, ◌-◌, ◌*◌, ◌/◌, ◌==◌, nat_lt, ℕ, zero, suc, Bool, true, false, List, [], ◌∷◌, length, take, slice_index, slice_set, refl, sym, ap, ◌∙◌, subst, arith}
-use Rattle.std.specs.Prelude.{filter, bit_or, Option, Some, None}
+use Rattle.std.specs.Prelude.{filter, bit_or, Option, Some, None, map}
 use Rattle.std.specs.Int.{bit_at}
-use Rattle.std.specs.Prelude.{map}
 use Rattle.log_entry.specs.declared.shapes.Geometry.{Geometry}
 use Rattle.std.specs.List.{All, AllByRecursion}
 use Rattle.std.proofs.lemmas.Bool.{eqb-true, eqb-false}
@@ -10,10 +9,11 @@ use Rattle.std.proofs.lemmas.List.{length-set, length-append, length-map, length
 use Rattle.log_entry.specs.Geometry.{count_of, first_of}
 use Rattle.log_entry.specs.Shape.{total_of}
 use Rattle.log_entry.specs.declared.shapes.Area.{Area}
-use Rattle.seat_state.specs.Seats.{Seat, owned_room, bitmap_words}
+use Rattle.pmem_words.specs.Seats.{Seat, owned_room, bitmap_words}
 use Rattle.pmem_words.specs.Courses.{over}
 use Rattle.pmem_words.specs.Leads.{Leads, LeadsAfter}
-use Rattle.pmem_words.specs.PlainWords.{PlainWords, plain}
+use Rattle.asks.specs.SharedWords.{SharedWords}
+use Rattle.pmem_words.specs.PlainWords.{plain}
 use Rattle.pmem_words.proofs.LeadsLemmas.{leads_weaker}
 use Rattle.pmem_words.proofs.PlainLemmas.{leads_plain, leads_plain_kept}
 use Rattle.log_core.specs.Works.{shape_of}
@@ -29,8 +29,8 @@ use Rattle.block_bitmap.proofs.TakeCompose.{RestAlone, Passes, ends_here}
 use Rattle.block_bitmap.proofs.TakeCovered.{clear_still, covered}
 use Rattle.block_bitmap.proofs.TakeOneWord.{pass_at, CanPass, inside, inside_found, from_first, to_end, seen_once, seen_twice, next, passes_none, passes_some, moves_by}
 
-module _ (area : Area) (passed count : ℕ) (s : Seat) (p : PlainWords) (can : CanPass area count s p) (some : 0 < count) (to : first_of s.geometry area / 64 + passed ≤ last_word area s)
-    (rec : first_of s.geometry area / 64 + passed < last_word area s → (n : ℕ) (t : Seat) (q : PlainWords) → t.geometry ≡ s.geometry → 0 < n → CanPass area n t q →
+module _ (area : Area) (passed count : ℕ) (s : Seat) (p : SharedWords) (can : CanPass area count s p) (some : 0 < count) (to : first_of s.geometry area / 64 + passed ≤ last_word area s)
+    (rec : first_of s.geometry area / 64 + passed < last_word area s → (n : ℕ) (t : Seat) (q : SharedWords) → t.geometry ≡ s.geometry → 0 < n → CanPass area n t q →
     Leads take_script (over take_script plain) (λ out u r. RestAlone area n (first_of t.geometry area / 64 + (passed + 1)) t q out u r) (pass_at area n (passed + 1)) t q) where
   abbrev word : ℕ
   word = first_of s.geometry area / 64 + passed
@@ -44,14 +44,14 @@ module _ (area : Area) (passed count : ℕ) (s : Seat) (p : PlainWords) (can : C
   abbrev wanted : List ℕ
   wanted = take count here
 
-  abbrev Ends : Taken → Seat → PlainWords → Type 0
+  abbrev Ends : Taken → Seat → SharedWords → Type 0
   Ends out t q = RestAlone area count word s p out t q
 
   -- the seat after the load, and the memory after the set
   abbrev loaded : Seat
   loaded = with_found word found s
 
-  abbrev set_there : PlainWords
+  abbrev set_there : SharedWords
   set_there = record p { taken = slice_set p.taken word (bit_or found (bits_of wanted)) }
 
   abbrev taken_there : List ℕ → Seat
@@ -125,7 +125,7 @@ module _ (area : Area) (passed count : ℕ) (s : Seat) (p : PlainWords) (can : C
       (λ small. record { to = to; inside = inside_found area passed count s p can some to; room = can.room }) (load_on here refl)
 
 -- word by word to the last one
-alone_from : (area : Area) (left passed count : ℕ) (s : Seat) (p : PlainWords) → CanPass area count s p → 0 < count → last_word area s ≡ first_of s.geometry area / 64 + passed + left →
+alone_from : (area : Area) (left passed count : ℕ) (s : Seat) (p : SharedWords) → CanPass area count s p → 0 < count → last_word area s ≡ first_of s.geometry area / 64 + passed + left →
     Leads take_script (over take_script plain) (λ out t q. RestAlone area count (first_of s.geometry area / 64 + passed) s p out t q) (pass_at area count passed) s p
 alone_from area zero passed count s p can some last = one_word area passed count s p can some (omega (arith, last)) (λ less. absurd (omega (arith, less, last)))
 alone_from area (suc left) passed count s p can some last = one_word area passed count s p can some (omega (arith, last))
@@ -133,14 +133,14 @@ alone_from area (suc left) passed count s p can some last = one_word area passed
     (ap (λ (g : Geometry). (first_of g area + count_of g area - 1) / 64) same ∙ (omega (arith, last)) ∙ ap (λ (g : Geometry). first_of g area / 64 + (passed + 1) + left) (sym same)))
 
 -- what is left after taking blocks alone
-pub record TakenAlone (area : Area) (count : ℕ) (s : Seat) (p : PlainWords) (out : Taken) (t : Seat) (q : PlainWords) : Type 0 where
+pub record TakenAlone (area : Area) (count : ℕ) (s : Seat) (p : SharedWords) (out : Taken) (t : Seat) (q : SharedWords) : Type 0 where
   pub outcome_is : out ≡ outcome area count (length (free_blocks s.geometry area p.taken))
   pub seat : t ≡ found_as t.blocks.found (with_taken area (take count (free_blocks s.geometry area p.taken)) s)
   pub found : HasPassed area out s q.taken t
   pub set : AreSet (take count (free_blocks s.geometry area p.taken)) p.taken q.taken
   pub memory : q ≡ record p { taken = q.taken }
 
-whole : (area : Area) (count word : ℕ) (s : Seat) (p : PlainWords) (out : Taken) (t : Seat) (q : PlainWords) → word ≡ first_of s.geometry area / 64 → RestAlone area count word s p out t q → TakenAlone area count s p out t q
+whole : (area : Area) (count word : ℕ) (s : Seat) (p : SharedWords) (out : Taken) (t : Seat) (q : SharedWords) → word ≡ first_of s.geometry area / 64 → RestAlone area count word s p out t q → TakenAlone area count s p out t q
 whole area count word s p out t q first r = record {
   outcome_is = r.outcome_is ∙ ap (λ (blocks : List ℕ). outcome area count (length blocks)) all;
   seat = r.seat ∙ ap (λ (blocks : List ℕ). found_as t.blocks.found (with_taken area (take count blocks) s)) all;
@@ -152,12 +152,12 @@ whole area count word s p out t q first r = record {
     all : rest_from s.geometry area p.taken word ≡ free_blocks s.geometry area p.taken
     all = ap (rest_from s.geometry area p.taken) first ∙ rest_first s.geometry area p.taken
 
-pub taken_alone : (area : Area) (count : ℕ) (s : Seat) (p : PlainWords) → CanPass area count s p → 0 < count → Leads take_script (over take_script plain) (TakenAlone area count s p) (take_of area count) s p
+pub taken_alone : (area : Area) (count : ℕ) (s : Seat) (p : SharedWords) → CanPass area count s p → 0 < count → Leads take_script (over take_script plain) (TakenAlone area count s p) (take_of area count) s p
 taken_alone area count s p can some =
     leads_weaker take_script (over take_script plain) (λ out t q. RestAlone area count (first_of s.geometry area / 64 + 0) s p out t q) (TakenAlone area count s p)
     (λ out t q r. whole area count (first_of s.geometry area / 64 + 0) s p out t q (omega arith) r)
     (alone_from area (last_word area s - first_of s.geometry area / 64) 0 count s p can some (let some = some_in s.geometry area in omega (arith, some)))
 
 -- a memory with a bit for each block has each of the area's words
-pub bits_for : (area : Area) (s : Seat) (p : PlainWords) → total_of s.geometry.data_blocks s.geometry.log_blocks s.geometry.block_bytes ≤ 64 * length p.taken → last_word area s < length p.taken
+pub bits_for : (area : Area) (s : Seat) (p : SharedWords) → total_of s.geometry.data_blocks s.geometry.log_blocks s.geometry.block_bytes ≤ 64 * length p.taken → last_word area s < length p.taken
 bits_for area s p enough = (let inside = within_total s.geometry area in let some = some_in s.geometry area in omega (arith, inside, some, enough))

@@ -5,15 +5,15 @@ use Rattle.std.specs.Prelude.{bit_or, Option, Some, None, slice_index}
 use Rattle.std.proofs.lemmas.Bool.{ltb-true}
 use Rattle.std.proofs.lemmas.List.{length-append, length-map, length-set}
 use Rattle.log_entry.specs.declared.shapes.Area.{Area}
-use Rattle.seat_state.specs.Seats.{Seat, owned_room, bitmap_words}
+use Rattle.pmem_words.specs.Seats.{Seat, owned_room, bitmap_words}
 use Rattle.pmem_words.specs.Conducts.{Conduct}
 use Rattle.pmem_words.specs.Courses.{over}
 use Rattle.pmem_words.specs.Leads.{Keeps}
 use Rattle.pmem_words.specs.Drives.{IsSafe}
-use Rattle.pmem_words.specs.declared.asks.Turn.TheVariants.{Go}
-use Rattle.pmem_words.specs.declared.asks.Place.TheVariants.{Map}
-use Rattle.pmem_words.specs.declared.asks.Ask.{Ask}
-use Rattle.pmem_words.specs.declared.asks.Ask.TheVariants.{Load, SetBits}
+use Rattle.pmem_words.specs.declared.machine.Turn.TheVariants.{Go}
+use Rattle.asks.specs.declared.ask.Place.TheVariants.{Map}
+use Rattle.asks.specs.declared.ask.Ask.{Ask}
+use Rattle.asks.specs.declared.ask.Ask.TheVariants.{Load, SetBits}
 use Rattle.pmem_words.proofs.LeadsLemmas.{leads_by, safe_by}
 use Rattle.block_bitmap.specs.declared.take.Take.{Take}
 use Rattle.block_bitmap.specs.TakeScript.{take_of, word_of, last_word, MayTake, open_at, gained_at, seat_set, known_set, with_found, fresh, less, moved_on, settled_by, ended_or, after_at, take_script}

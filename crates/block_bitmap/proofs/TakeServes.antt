@@ -11,12 +11,12 @@ use Rattle.log_entry.specs.declared.calls.Call.{Call}
 use Rattle.log_entry.specs.Geometry.{first_of}
 use Rattle.log_image.specs.Chains.{all_different}
 use Rattle.log_image.specs.Taken.{bit_of}
-use Rattle.seat_parts.specs.Owned.{is_among}
-use Rattle.seat_state.specs.Seats.{Seat, bitmap_words}
-use Rattle.pmem_words.specs.declared.asks.Turn.{Turn}
-use Rattle.pmem_words.specs.declared.asks.Turn.TheVariants.{Go, Done}
-use Rattle.pmem_words.specs.declared.asks.Place.TheVariants.{Map}
-use Rattle.pmem_words.specs.declared.asks.Ask.TheVariants.{SetBits}
+use Rattle.pmem_words.specs.Owned.{is_among}
+use Rattle.pmem_words.specs.Seats.{Seat, bitmap_words}
+use Rattle.pmem_words.specs.declared.machine.Turn.{Turn}
+use Rattle.pmem_words.specs.declared.machine.Turn.TheVariants.{Go, Done}
+use Rattle.asks.specs.declared.ask.Place.TheVariants.{Map}
+use Rattle.asks.specs.declared.ask.Ask.TheVariants.{SetBits}
 use Rattle.log_core.specs.Entries.{has}
 use Rattle.log_core.specs.Views.{Ghost, view_of}
 use Rattle.log_core.specs.Origin.{Origin}
@@ -28,7 +28,7 @@ use Rattle.log_core.specs.Answers.{HasLacked}
 use Rattle.log_core.specs.Within.{no_record, adds_at, EntersOffered, IsFound, Lawful, Serves}
 use Rattle.log_core.specs.Knows.{Knows}
 use Rattle.log_core.proofs.BlockLists.{has_filter, among_range}
-use Rattle.log_core.proofs.SetsBits.{sets_facts}
+use Rattle.log_core.proofs.kinds.SetsBits.{sets_facts}
 use Rattle.block_bitmap.specs.declared.take.Take.{Take}
 use Rattle.block_bitmap.specs.declared.take.Taken.{Taken}
 use Rattle.block_bitmap.specs.declared.take.Taken.TheVariants.{Taken as HasTaken, NoSpace}

@@ -12,8 +12,8 @@ use Rattle.log_entry.specs.Geometry.{first_of}
 use Rattle.log_image.specs.Image.{total}
 use Rattle.log_image.specs.Chains.{all_different}
 use Rattle.log_image.specs.Taken.{bit_of}
-use Rattle.seat_state.specs.Seats.{Seat}
-use Rattle.pmem_words.specs.declared.asks.Turn.TheVariants.{Go, Done}
+use Rattle.pmem_words.specs.Seats.{Seat}
+use Rattle.pmem_words.specs.declared.machine.Turn.TheVariants.{Go, Done}
 use Rattle.log_core.specs.Entries.{has}
 use Rattle.log_core.specs.Views.{Ghost}
 use Rattle.log_core.specs.Works.{shape_of}

@@ -1,19 +1,17 @@
 -- What the steps of taking make of a seat.
-use Rattle.std.proofs.Common.{◌≡◌, ◌<◌, ◌≤◌, ◌+◌, ◌-◌, ◌*◌, ◌/◌, ◌%◌, ◌^◌, ◌==◌, ℕ, zero, suc, Bool, true, false, List, [], ◌∷◌, ◌++◌, length, nat_lt, refl, sym, ap, ◌∙◌, arith, append-nil, append_assoc}
-use Rattle.std.specs.Prelude.{take, map, replicate, bit_and, bit_or}
+use Rattle.std.proofs.Common.{◌≡◌, ◌<◌, ◌≤◌, ◌+◌, ◌-◌, ◌*◌, ◌/◌, ◌%◌, ◌^◌, ◌==◌, ℕ, zero, suc, Bool, true, false, List, [], ◌∷◌, ◌++◌, length, nat_lt, refl, sym, ap, ◌∙◌, arith, append-nil, append_assoc, ◌≢◌}
+use Rattle.std.specs.Prelude.{take, map, replicate, bit_and, bit_or, Option, Some, None}
 use Rattle.std.proofs.lemmas.List.{replicate-append-replicate, length-take}
-use Rattle.std.specs.Prelude.{Option, Some, None}
 use Rattle.std.proofs.lemmas.Bool.{lt-ltb, le-ltb, eq-eqb, ne_eqb}
 use Rattle.std.specs.Int.{bit_at}
-use Rattle.std.proofs.Common.{◌≢◌}
 use Rattle.log_entry.specs.Geometry.{count_of, first_of}
 use Rattle.log_entry.specs.declared.shapes.Geometry.{Geometry}
-use Rattle.pmem_words.specs.declared.asks.Turn.TheVariants.{Go, Done}
+use Rattle.pmem_words.specs.declared.machine.Turn.TheVariants.{Go, Done}
 use Rattle.log_core.specs.Works.{shape_of}
 use Rattle.block_bitmap.specs.declared.take.Take.{Take}
 use Rattle.block_bitmap.specs.declared.take.Taken.TheVariants.{Taken as HasTaken, NoSpace}
-use Rattle.seat_parts.specs.declared.owned.OwnedBlock.{OwnedBlock}
-use Rattle.seat_state.specs.Seats.{Seat, q_of}
+use Rattle.pmem_words.specs.declared.owned.OwnedBlock.{OwnedBlock}
+use Rattle.pmem_words.specs.Seats.{Seat, q_of}
 use Rattle.log_entry.specs.declared.shapes.Area.{Area}
 use Rattle.block_bitmap.specs.TakeBits.{image_of, blocks_in, bits_of, clear_in, open_blocks}
 use Rattle.block_bitmap.specs.TakeScript.{word_of, last_word, open_at, fresh, with_taken, moved_on, settled_by, settled, wanted_at, gained_at, less, with_found, seat_set, known_set, ended_or, after_at}

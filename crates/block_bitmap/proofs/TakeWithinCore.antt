@@ -2,13 +2,13 @@
 use Rattle.std.proofs.Common.{◌≡◌, ◌<◌, ◌+◌, ◌/◌, ℕ, true, [], refl, sym, ap, arith, append-nil}
 use Rattle.log_entry.specs.declared.shapes.Area.{Area}
 use Rattle.log_entry.specs.Geometry.{first_of}
-use Rattle.seat_state.specs.Seats.{Seat}
+use Rattle.pmem_words.specs.Seats.{Seat}
 use Rattle.log_core.specs.Views.{Ghost}
 use Rattle.log_core.specs.Works.{shape_of}
 use Rattle.log_core.specs.Needs.{is_in_area, owned_in}
 use Rattle.log_core.specs.Within.{no_record}
-use Rattle.log_core.proofs.Serving.{leads_within}
-use Rattle.log_core.proofs.StartMeets.{start_meets}
+use Rattle.log_core.proofs.machines.Serving.{leads_within}
+use Rattle.log_core.proofs.starts.StartMeets.{start_meets}
 use Rattle.block_bitmap.specs.TakeScript.{take_of, take_script}
 use Rattle.block_bitmap.specs.TakeLowering.{take_lowers}
 use Rattle.block_bitmap.specs.TakeAlone.{found_as}

@@ -5,8 +5,8 @@ use Rattle.std.specs.Int.{bit_at}
 use Rattle.std.specs.List.{list_any}
 use Rattle.std.proofs.lemmas.Bool.{eqb-true, eq-eqb, ne_eqb, cases_eq, or_left, or_right, and_from, and_parts, false_from_ne_true, cases_lt}
 use Rattle.std.proofs.lemmas.Nat.Bits.{bit_at_or, bit_at-pow_same, bit_at-pow_other, bit_at-lt, bit_at-zero}
-use Rattle.seat_parts.specs.Owned.{is_among, owned_but}
-use Rattle.seat_parts.specs.declared.owned.OwnedBlock.{OwnedBlock}
+use Rattle.pmem_words.specs.Owned.{is_among, owned_but}
+use Rattle.pmem_words.specs.declared.owned.OwnedBlock.{OwnedBlock}
 use Rattle.block_bitmap.specs.GivenBits.{least_from, least_word, with_bit, bits_from, bits_in}
 
 -- whether one of these blocks has its bit at this place of the word

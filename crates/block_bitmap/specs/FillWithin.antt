@@ -1,13 +1,14 @@
 -- Filling owned blocks within a core: when a seat may, and what it has in the end, whatever other seats do meanwhile.
 use Rattle.std.specs.Prelude.{ℕ, zero, suc, ◌+◌, ◌^◌, ◌<◌, ◌≤◌, ◌≡◌, ◌≢◌, nat_lt, Bool, true, false, List, [], length, slice_index, Some}
 use Rattle.log_entry.specs.declared.calls.Call.{Call}
-use Rattle.seat_parts.specs.Owned.{owned_at}
-use Rattle.seat_parts.specs.declared.keeps.Task.TheVariants.{Sync}
-use Rattle.seat_state.specs.Seats.{Seat, q_of}
+use Rattle.pmem_words.specs.Owned.{owned_at}
+use Rattle.pmem_words.specs.declared.keeps.Task.TheVariants.{Sync}
+use Rattle.pmem_words.specs.Seats.{Seat, q_of}
 use Rattle.persistence.specs.Memory.{cell}
 use Rattle.pmem_words.specs.Courses.{over}
 use Rattle.pmem_words.specs.Leads.{Leads}
-use Rattle.pmem_words.specs.PlainWords.{PlainWords, plain}
+use Rattle.asks.specs.SharedWords.{SharedWords}
+use Rattle.pmem_words.specs.PlainWords.{plain}
 use Rattle.log_core.specs.Views.{View, Ghost, view_of}
 use Rattle.log_core.specs.Origin.{Origin}
 use Rattle.log_core.specs.Cores.{Core}
@@ -100,5 +101,5 @@ FilledAreCertain = (o : Origin) → IsStart o → (seat first count : ℕ) (rest
 -- over a plain memory that has the words of such a core, the seat alone comes to the same in a core that a run reaches
 abbrev pub FillsAlone : Type 0
 FillsAlone = (o : Origin) → IsStart o → (seat number first count : ℕ) (rest : List Call) (s : Seat) (v : View) → IsLinked number rest (MayFill first count) s v →
-    (c : Core) (p : PlainWords) → IsReached o c → seat < length c.views → view_of c.views seat ≡ v → Agrees p c.memory →
+    (c : Core) (p : SharedWords) → IsReached o c → seat < length c.views → view_of c.views seat ≡ v → Agrees p c.memory →
     Leads fill_script (over fill_script plain) (EndsAlone o seat (IsLeft rest no_record (IsFilled first count s))) (fill_of first count) s p

@@ -1,6 +1,6 @@
 -- What a fill that ran alone leaves.
 use Rattle.std.specs.Prelude.{ℕ, zero, suc, ◌+◌, ◌*◌, ◌/◌, ◌<◌, ◌≤◌, ◌≡◌, ◌≢◌, List, length, slice_index, slice_set}
-use Rattle.seat_state.specs.Seats.{Seat, q_of}
+use Rattle.pmem_words.specs.Seats.{Seat, q_of}
 use Rattle.block_bitmap.specs.OwnedWords.{block_at, image_word, content_at, unfilled, counted, all_fenced}
 
 -- the image's words with n words of the block at a place of the list, from this word of it on

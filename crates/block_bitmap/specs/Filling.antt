@@ -2,12 +2,12 @@
 use Rattle.std.specs.Prelude.{ℕ, ◌+◌, ◌-◌, ◌*◌, ◌<◌, ◌≤◌, ◌≡◌, nat_lt, Bool, true, false, length, refl}
 use Rattle.std.proofs.Common.{ap, ◌∙◌, arith}
 use Rattle.std.proofs.lemmas.Bool.{ltb-true, ltb-false}
-use Rattle.seat_state.specs.Seats.{Seat, q_of}
+use Rattle.pmem_words.specs.Seats.{Seat, q_of}
 use Rattle.pmem_words.specs.Scripts.{After, Script, Lowers}
-use Rattle.pmem_words.specs.declared.asks.Ask.{Ask}
-use Rattle.pmem_words.specs.declared.asks.Ask.TheVariants.{Store as StoreWord, Mark as MarkWord, Fence as FenceAll}
-use Rattle.pmem_words.specs.declared.asks.Place.TheVariants.{Image}
-use Rattle.pmem_words.specs.declared.asks.Turn.TheVariants.{Go, Done}
+use Rattle.asks.specs.declared.ask.Ask.{Ask}
+use Rattle.asks.specs.declared.ask.Ask.TheVariants.{Store as StoreWord, Mark as MarkWord, Fence as FenceAll}
+use Rattle.asks.specs.declared.ask.Place.TheVariants.{Image}
+use Rattle.pmem_words.specs.declared.machine.Turn.TheVariants.{Go, Done}
 use Rattle.block_bitmap.specs.declared.fill.Fill.{Fill}
 use Rattle.block_bitmap.specs.declared.fill.Fill.TheVariants.{Store, Mark, Fence}
 use Rattle.block_bitmap.specs.OwnedWords.{image_word, content_at, unfilled, counted, all_fenced}

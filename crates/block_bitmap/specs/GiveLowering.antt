@@ -1,8 +1,8 @@
 -- Each step of a giving takes a block at least from the list.
 use Rattle.std.specs.Prelude.{◌<◌, ◌≤◌, length}
 use Rattle.std.proofs.Common.{ap, ◌≡◌, List, arith}
-use Rattle.seat_parts.specs.declared.owned.OwnedBlock.{OwnedBlock}
-use Rattle.seat_state.specs.Seats.{Seat}
+use Rattle.pmem_words.specs.declared.owned.OwnedBlock.{OwnedBlock}
+use Rattle.pmem_words.specs.Seats.{Seat}
 use Rattle.pmem_words.specs.Scripts.{Lowers}
 use Rattle.block_bitmap.specs.BitsIn.{others_of, others_left, no_more, fewer, least_is}
 use Rattle.block_bitmap.specs.Giving.{next_word, given_seat, give_script}

@@ -1,10 +1,11 @@
 -- Giving owned blocks back within a core: when a seat may, and what it has in the end, whatever other seats do meanwhile.
 use Rattle.std.specs.Prelude.{ℕ, ◌+◌, ◌<◌, ◌≤◌, ◌≡◌, ◌⊎◌, List, length}
 use Rattle.log_entry.specs.declared.calls.Call.{Call}
-use Rattle.seat_state.specs.Seats.{Seat}
+use Rattle.pmem_words.specs.Seats.{Seat}
 use Rattle.pmem_words.specs.Courses.{over}
 use Rattle.pmem_words.specs.Leads.{Leads}
-use Rattle.pmem_words.specs.PlainWords.{PlainWords, plain}
+use Rattle.asks.specs.SharedWords.{SharedWords}
+use Rattle.pmem_words.specs.PlainWords.{plain}
 use Rattle.log_core.specs.Views.{View, Ghost, view_of}
 use Rattle.log_core.specs.Origin.{Origin}
 use Rattle.log_core.specs.Cores.{Core}
@@ -42,5 +43,5 @@ GivesWithin = (o : Origin) → IsStart o → (seat number : ℕ) (from : GiveFro
 -- over a plain memory that has the words of such a core, the seat alone comes to the same in a core that a run reaches
 abbrev pub GivesAlone : Type 0
 GivesAlone = (o : Origin) → IsStart o → (seat number : ℕ) (from : GiveFrom) (rest : List Call) (s : Seat) (v : View) → IsLinked number rest MayGive s v →
-    (c : Core) (p : PlainWords) → IsReached o c → seat < length c.views → view_of c.views seat ≡ v → Agrees p c.memory →
+    (c : Core) (p : SharedWords) → IsReached o c → seat < length c.views → view_of c.views seat ≡ v → Agrees p c.memory →
     Leads give_script (over give_script plain) (EndsAlone o seat (IsLeft rest no_record (IsGiven s))) (give_of from) s p

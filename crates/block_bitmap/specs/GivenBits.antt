@@ -1,7 +1,7 @@
 -- The bits of owned blocks in the words of the bitmap: bit b of word m is block 64 * m + b.
 use Rattle.std.specs.Prelude.{ℕ, ◌/◌, ◌%◌, ◌^◌, ◌==◌, min, List, [], ◌∷◌, drop, bit_or, if◌then◌else◌}
-use Rattle.seat_parts.specs.Owned.{owned_at}
-use Rattle.seat_parts.specs.declared.owned.OwnedBlock.{OwnedBlock}
+use Rattle.pmem_words.specs.Owned.{owned_at}
+use Rattle.pmem_words.specs.declared.owned.OwnedBlock.{OwnedBlock}
 
 -- the least of a word and those with the bits of these blocks
 abbrev pub least_from : ℕ → List OwnedBlock → ℕ

@@ -1,13 +1,14 @@
 -- What giving blocks back means.
 use Rattle.std.specs.Prelude.{ℕ, ◌+◌, ◌-◌, ◌^◌, ◌<◌, ◌==◌, Bool, true, false, length, slice_index, slice_set}
-use Rattle.seat_parts.specs.Owned.{is_among, owned_but, contents_but}
-use Rattle.seat_state.specs.Seats.{Seat, q_of, without_bits}
+use Rattle.pmem_words.specs.Owned.{is_among, owned_but, contents_but}
+use Rattle.pmem_words.specs.Seats.{Seat, q_of}
+use Rattle.asks.specs.Asks.{without_bits}
 use Rattle.pmem_words.specs.Scripts.{After, Script}
-use Rattle.pmem_words.specs.declared.asks.Ask.{Ask}
-use Rattle.pmem_words.specs.declared.asks.Ask.TheVariants.{ClearBits}
-use Rattle.pmem_words.specs.declared.asks.Place.TheVariants.{Map}
-use Rattle.pmem_words.specs.declared.asks.Turn.{Turn}
-use Rattle.pmem_words.specs.declared.asks.Turn.TheVariants.{Go, Done}
+use Rattle.asks.specs.declared.ask.Ask.{Ask}
+use Rattle.asks.specs.declared.ask.Ask.TheVariants.{ClearBits}
+use Rattle.asks.specs.declared.ask.Place.TheVariants.{Map}
+use Rattle.pmem_words.specs.declared.machine.Turn.{Turn}
+use Rattle.pmem_words.specs.declared.machine.Turn.TheVariants.{Go, Done}
 use Rattle.block_bitmap.specs.declared.give.Give.{Give}
 use Rattle.block_bitmap.specs.declared.give.GiveFrom.{GiveFrom}
 use Rattle.block_bitmap.specs.GivenBits.{least_word, bits_in}

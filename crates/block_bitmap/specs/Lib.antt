@@ -12,6 +12,5 @@ pub mod Giving
 pub mod GiveLowering
 pub mod Filled
 pub mod Given
-pub mod Seated
 pub mod FillWithin
 pub mod GiveWithin

@@ -1,7 +1,7 @@
 -- Words of owned blocks, by the places of the blocks in their list.
 use Rattle.std.specs.Prelude.{ℕ, ◌+◌, ◌*◌, true, false, slice_index}
-use Rattle.seat_parts.specs.Owned.{owned_at, with_filled, with_fenced, fenced_all}
-use Rattle.seat_state.specs.Seats.{Seat, q_of}
+use Rattle.pmem_words.specs.Owned.{owned_at, with_filled, with_fenced, fenced_all}
+use Rattle.pmem_words.specs.Seats.{Seat, q_of}
 
 -- the block at a place of the list
 abbrev pub block_at : Seat → ℕ → ℕ

@@ -5,7 +5,7 @@ use Rattle.log_entry.specs.Geometry.{count_of, first_of}
 use Rattle.log_entry.specs.declared.shapes.Area.{Area}
 use Rattle.log_entry.specs.declared.shapes.Geometry.{Geometry}
 use Rattle.log_image.specs.Taken.{bit_of}
-use Rattle.seat_state.specs.Seats.{Seat}
+use Rattle.pmem_words.specs.Seats.{Seat}
 use Rattle.log_core.specs.Entries.{has}
 use Rattle.block_bitmap.specs.declared.take.Taken.{Taken}
 use Rattle.block_bitmap.specs.declared.take.Taken.TheVariants.{Taken as HasTaken, NoSpace}

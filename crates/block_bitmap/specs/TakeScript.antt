@@ -2,13 +2,13 @@
 use Rattle.std.specs.Prelude.{ℕ, ◌+◌, ◌-◌, ◌*◌, ◌/◌, ◌<◌, ◌≤◌, ◌==◌, nat_lt, Bool, true, false, List, [], ◌∷◌, ◌++◌, length, map, take, replicate, slice_index, slice_set, bit_or, Option, Some, None}
 use Rattle.log_entry.specs.Geometry.{count_of, first_of}
 use Rattle.log_entry.specs.declared.shapes.Area.{Area}
-use Rattle.seat_parts.specs.declared.owned.OwnedBlock.{OwnedBlock}
-use Rattle.seat_state.specs.Seats.{Seat, q_of, owned_room}
+use Rattle.pmem_words.specs.declared.owned.OwnedBlock.{OwnedBlock}
+use Rattle.pmem_words.specs.Seats.{Seat, q_of, owned_room}
 use Rattle.pmem_words.specs.Scripts.{After, Script}
-use Rattle.pmem_words.specs.declared.asks.Ask.{Ask}
-use Rattle.pmem_words.specs.declared.asks.Ask.TheVariants.{Load, SetBits}
-use Rattle.pmem_words.specs.declared.asks.Place.TheVariants.{Map}
-use Rattle.pmem_words.specs.declared.asks.Turn.TheVariants.{Go, Done}
+use Rattle.asks.specs.declared.ask.Ask.{Ask}
+use Rattle.asks.specs.declared.ask.Ask.TheVariants.{Load, SetBits}
+use Rattle.asks.specs.declared.ask.Place.TheVariants.{Map}
+use Rattle.pmem_words.specs.declared.machine.Turn.TheVariants.{Go, Done}
 use Rattle.log_core.specs.Works.{shape_of}
 use Rattle.block_bitmap.specs.declared.take.Take.{Take}
 use Rattle.block_bitmap.specs.declared.take.Taken.{Taken}

@@ -5,7 +5,7 @@ use Rattle.log_entry.specs.declared.shapes.Area.{Area}
 use Rattle.log_entry.specs.declared.calls.Call.{Call}
 use Rattle.log_image.specs.Chains.{all_different}
 use Rattle.log_image.specs.Taken.{bit_of}
-use Rattle.seat_state.specs.Seats.{Seat, owned_room}
+use Rattle.pmem_words.specs.Seats.{Seat, owned_room}
 use Rattle.pmem_words.specs.Leads.{Leads}
 use Rattle.log_core.specs.Entries.{has}
 use Rattle.log_core.specs.Views.{View, Ghost}

@@ -2,7 +2,7 @@
 
 ghost use Rattle.std.specs.Prelude.{◌≡◌, ◌+◌, ◌*◌, ◌<◌, ◌≤◌, ◌^◌, length, take};
 ghost use Rattle.log_entry.specs.Shape.{total_of};
-ghost use Rattle.seat_state.specs.Seats.{q_of, owned_room};
+ghost use Rattle.pmem_words.specs.Seats.{q_of, owned_room};
 ghost use Rattle.pmem_words.specs.Courses.{over};
 ghost use Rattle.pmem_words.specs.Drives.{EndsIn};
 ghost use Rattle.pmem_words.specs.PlainWords.{plain};

@@ -16,8 +16,6 @@ pub mod take_bits;
 #[cfg(test)]
 mod take_tests;
 pub mod words;
-#[cfg(test)]
-mod world_tests;
 
 pub use alone::{fill_alone, give_alone, take_alone};
 pub use begin::begin_alone;

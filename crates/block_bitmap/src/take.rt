@@ -33,8 +33,7 @@ pub struct Take {
 impl Take {
     ghost use Rattle.std.specs.Prelude.{◌≡◌, ◌≤◌};
     ghost use Rattle.block_bitmap.specs.TakeBits.{bits_of};
-    ghost use Rattle.block_bitmap.specs.TakeScript.{take_of, wanted_at, settled};
-    ghost use Rattle.block_bitmap.specs.TakeScript.{word_of as word_of_take, last_word as last_word_of};
+    ghost use Rattle.block_bitmap.specs.TakeScript.{take_of, wanted_at, settled, word_of as word_of_take, last_word as last_word_of};
 
     /// A pass that has not begun, for `count` blocks of the area.
     pub fn new(area: Area, count: u16) -> Take

@@ -2,7 +2,7 @@
 
 ghost use Rattle.std.specs.Prelude.{◌≡◌, ℕ, ◌+◌, ◌-◌, ◌*◌, ◌/◌, ◌^◌, ◌<◌, ◌≤◌, length, min, take};
 ghost use Rattle.log_entry.specs.Geometry.{count_of, first_of};
-ghost use Rattle.seat_state.specs.Seats.{owned_room};
+ghost use Rattle.pmem_words.specs.Seats.{owned_room};
 ghost use Rattle.block_bitmap.specs.TakeBits.{image_of, blocks_in, bits_of, open_blocks};
 ghost use Rattle.block_bitmap.specs.TakeScript.{with_taken};
 

@@ -2,7 +2,7 @@
 use Rattle.std.proofs.Common.{◌≡◌, ℕ, ◌+◌, ◌-◌, Bool, true, false, if◌then◌else◌, List, [], ◌∷◌, ◌++◌, reverse, All, Some, append_assoc, ap, ◌∙◌, refl}
 use Rattle.std.proofs.lemmas.List.{reverse-append}
 use Rattle.std.proofs.lemmas.List.Elements.{All-nil, All-head, All-tail, All-push}
-use Rattle.block_table.specs.FileMap.{is_named}
+use Rattle.block_table.specs.FileMap.{is_in_range}
 use Rattle.block_table.specs.Calls.{TableCall, Reset, Apply, Grow, latest_block, LeavesAlone, IsHeldSince}
 
 -- the first element of a list is the last from the last back
@@ -37,7 +37,7 @@ held_on calls call v held alone was = record {
 }
 
 -- the latest call is an apply: it holds v, or what held v before does
-held_after_apply : (before : List TableCall) (virt block count v held : ℕ) (named : Bool) → is_named virt count v ≡ named → (if named then Some (block + (v - virt)) else latest_block before v) ≡ Some held → (latest_block before v ≡ Some held → IsHeldSince (reverse before) v held) → IsHeldSince (reverse before ++ Apply virt block count ∷ []) v held
+held_after_apply : (before : List TableCall) (virt block count v held : ℕ) (named : Bool) → is_in_range virt count v ≡ named → (if named then Some (block + (v - virt)) else latest_block before v) ≡ Some held → (latest_block before v ≡ Some held → IsHeldSince (reverse before) v held) → IsHeldSince (reverse before ++ Apply virt block count ∷ []) v held
 held_after_apply before virt block count v held true is holds earlier = record {
   before = reverse before;
   virt = virt;
@@ -55,7 +55,7 @@ held_after_apply before virt block count v held false is holds earlier = held_on
 pub held_since : (latest : List TableCall) (v held : ℕ) → latest_block latest v ≡ Some held → IsHeldSince (reverse latest) v held
 held_since [] v held holds = cc
 held_since (Reset size ∷ before) v held holds = cc
-held_since (Apply virt block count ∷ before) v held holds = rw (reverse-cons (Apply virt block count) before) (held_after_apply before virt block count v held (is_named virt count v) refl holds (held_since before v held))
+held_since (Apply virt block count ∷ before) v held holds = rw (reverse-cons (Apply virt block count) before) (held_after_apply before virt block count v held (is_in_range virt count v) refl holds (held_since before v held))
 held_since (Grow end ∷ before) v held holds = rw (reverse-cons (Grow end) before) (held_on (reverse before) (Grow end) v held tt (held_since before v held holds))
 
 -- the apply that names v last, with calls after it that leave v alone, gives its block

@@ -20,5 +20,5 @@ abbrev pub mapped_count : FileMap → ℕ
 mapped_count map = count_by (λ place. is_some (held_by place)) map.blocks
 
 -- whether v is one of the count virtual blocks from virt on
-abbrev pub is_named : ℕ → ℕ → ℕ → Bool
-is_named virt count v = nat_le virt v && nat_lt v (virt + count)
+abbrev pub is_in_range : ℕ → ℕ → ℕ → Bool
+is_in_range virt count v = nat_le virt v && nat_lt v (virt + count)

@@ -9,7 +9,7 @@ abbrev pub IsUnmappedFrom : FileMap → ℕ → Type 0
 IsUnmappedFrom map from = (v : ℕ) → from ≤ v → block_at map v ≡ None
 
 -- a run of the map: consecutive virtual blocks that consecutive physical blocks hold, at least one and at most LONGEST_RUN
-pub record IsRun (map : FileMap) (run : MapRun) : Type 0 where
+pub record IsMapRun (map : FileMap) (run : MapRun) : Type 0 where
   pub some : 1 ≤ run.count
   pub cut : run.count ≤ LONGEST_RUN
   pub held : (k : ℕ) → k < run.count → block_at map (run.virt + k) ≡ Some (run.block + k)
@@ -18,7 +18,7 @@ pub record IsRun (map : FileMap) (run : MapRun) : Type 0 where
 pub record IsNextRun (map : FileMap) (start : ℕ) (next : MapRun) : Type 0 where
   pub after : start ≤ next.virt
   pub first : (v : ℕ) → start ≤ v → v < next.virt → block_at map v ≡ None
-  pub run : IsRun map next
+  pub run : IsMapRun map next
   pub longest : next.count < LONGEST_RUN → block_at map (next.virt + next.count) ≢ Some (next.block + next.count)
   pub in_file : next.virt + next.count ≤ VIRTUAL_BLOCKS
   pub taken : 1 ≤ next.block

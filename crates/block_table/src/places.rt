@@ -1,7 +1,7 @@
 //! A map as a slice: the place of a virtual block has the physical block that holds it, or 0 where it is unmapped.
 
 ghost use Rattle.std.specs.Prelude.{◌≡◌, ◌≢◌, ℕ, ◌+◌, ◌-◌, ◌<◌, ◌≤◌, if◌then◌else◌, length, slice_index, MatchOption, IfOk, vec_len, count_by, not, ◌==◌};
-ghost use Rattle.block_table.specs.FileMap.{is_named};
+ghost use Rattle.block_table.specs.FileMap.{is_in_range};
 ghost use Rattle.block_table.specs.declared.TheConstants.{PHYSICAL_BLOCKS};
 
 use super::LONGEST_RUN;
@@ -24,7 +24,7 @@ pub fn unmap_all(places: &mut [u16])
 pub fn map_blocks(places: &mut [u16], virt: u16, block: u16, count: u16)
     requires in_file { virt + count ≤ length places.old }
     requires in_image { block + count ≤ PHYSICAL_BLOCKS }
-    ensures { (v : ℕ) → slice_index places.new v ≡ (if is_named virt count v then block + (v - virt) else slice_index places.old v) }
+    ensures { (v : ℕ) → slice_index places.new v ≡ (if is_in_range virt count v then block + (v - virt) else slice_index places.old v) }
 {
     for k in 0..count {
         places[virt as usize + k as usize] = block + k;

@@ -29,7 +29,7 @@ impl Model for Table {
 }
 
 impl Table {
-    ghost use Rattle.block_table.specs.FileMap.{FileMap, block_at, mapped_count, is_named};
+    ghost use Rattle.block_table.specs.FileMap.{FileMap, block_at, mapped_count, is_in_range};
     ghost use Rattle.block_table.specs.Calls.{TableCall, Reset, Apply, Grow, IsTableOf};
     ghost use Rattle.block_table.specs.Runs.{IsUnmappedFrom, IsNextRun};
 
@@ -66,7 +66,7 @@ impl Table {
         requires taken { 1 ≤ block }
         requires in_file { virt + count ≤ VIRTUAL_BLOCKS }
         requires in_image { block + count ≤ PHYSICAL_BLOCKS }
-        ensures blocks { (v : ℕ) → block_at self.new v ≡ (if is_named virt count v then Some (block + (v - virt)) else block_at self.old v) }
+        ensures blocks { (v : ℕ) → block_at self.new v ≡ (if is_in_range virt count v then Some (block + (v - virt)) else block_at self.old v) }
         ensures size { self.new.size ≡ self.old.size }
         ensures unit { self.new.block_bytes ≡ self.old.block_bytes }
         ensures meaning { (calls : List TableCall) → IsTableOf calls self.old → IsTableOf (calls ++ Apply virt block count ∷ []) self.new }

@@ -11,12 +11,12 @@ use Rattle.log_entry.specs.declared.layouts.TheConstants.{LOG, SNAPSHOT}
 use Rattle.log_image.specs.Image.{Shape, total, is_in_log, block_words}
 use Rattle.log_image.specs.Entries.{Meaning, direct_meaning, meaning}
 use Rattle.log_image.specs.Maps.{size_after}
-use Rattle.log_image.specs.Blocks.{kind_of, is_snapshot, base_of, file_size, slots_of, entry_words}
+use Rattle.log_image.specs.Blocks.{kind_of, is_snapshot, base_of, file_size, slots_of, entry_words, kept_words}
 use Rattle.log_image.specs.Chains.{all_different, snapshots_of, logs_of, first_size, snapshot_base, snapshot_size, HaveOneBase, AreLogsFrom, IsChain}
-use Rattle.log_image.specs.Positions.{snapshot_entries, log_entries, entries_of, position_of, size_at_end}
+use Rattle.log_image.specs.Positions.{snapshot_entries, log_entries, entries_of, position_of, size_at_end, block_entries}
 use Rattle.log_image.specs.Format.{is_snapshot_block, is_log_block, HasFormat}
 use Rattle.log_image.proofs.HoldingLemmas.{both_left, both_right}
-use Rattle.chain_reader.specs.ChainBlocks.{kept_words, is_sound, block_entries, size_past}
+use Rattle.chain_reader.specs.ChainBlocks.{is_sound, size_past}
 use Rattle.chain_reader.proofs.MapLemmas.{size_after_append}
 
 -- an element of a list of which something holds of each

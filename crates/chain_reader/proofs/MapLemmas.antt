@@ -6,10 +6,10 @@ use Rattle.std.proofs.lemmas.Bool.{ltb-true, ltb-false, leb-true, leb-false}
 use Rattle.std.proofs.lemmas.Bool.Decides.{nat_tests}
 use Rattle.std.proofs.lemmas.List.FromFn.{length-range_with_len, get_or-range_with_len}
 use Rattle.std.proofs.lemmas.Option.{slice_get-get_or, slice_get_past}
-use Rattle.block_table.specs.FileMap.{FileMap, held_by, block_at, is_named}
+use Rattle.block_table.specs.FileMap.{FileMap, held_by, block_at, is_in_range}
 use Rattle.log_image.specs.Image.{Shape}
 use Rattle.log_image.specs.Entries.{Meaning}
-use Rattle.log_image.specs.Maps.{block_in, map_of, end_of, size_after}
+use Rattle.log_image.specs.Maps.{block_in, map_of, entry_end, size_after}
 use Rattle.chain_reader.specs.Tables.{HasMap, HasSize}
 
 or_none : {X : Type 0} (o : Option X) → option_or o None ≡ o
@@ -28,13 +28,13 @@ map_of_push (first ∷ entries) entry virt =
     ∙ or_or (block_in entry virt) (map_of entries virt) (block_in first virt)
 
 -- the size after one more entry
-pub size_after_push : (shape : Shape) (size : ℕ) (entries : List Meaning) (entry : Meaning) → size_after shape size (entries ++ entry ∷ []) ≡ max (size_after shape size entries) (end_of shape entry)
+pub size_after_push : (shape : Shape) (size : ℕ) (entries : List Meaning) (entry : Meaning) → size_after shape size (entries ++ entry ∷ []) ≡ max (size_after shape size entries) (entry_end shape entry)
 size_after_push shape size [] entry = refl
-size_after_push shape size (first ∷ entries) entry = size_after_push shape (max size (end_of shape first)) entries entry
+size_after_push shape size (first ∷ entries) entry = size_after_push shape (max size (entry_end shape first)) entries entry
 
 pub size_after_append : (shape : Shape) (size : ℕ) (entries more : List Meaning) → size_after shape size (entries ++ more) ≡ size_after shape (size_after shape size entries) more
 size_after_append shape size [] more = refl
-size_after_append shape size (first ∷ entries) more = size_after_append shape (max size (end_of shape first)) entries more
+size_after_append shape size (first ∷ entries) more = size_after_append shape (max size (entry_end shape first)) entries more
 
 -- a place of numbers in a row
 range_at : (first count place : ℕ) (inside : Bool) → nat_lt place count ≡ inside → slice_get (range_with_len first count) place ≡ (if inside then Some (first + place) else None)
@@ -48,21 +48,21 @@ get_range first count place = range_at first count place (nat_lt place count) re
 
 -- what a run of blocks gives a virtual block, before something else does
 run_first : (virt block count v : ℕ) (rest : Option ℕ) (from to : Bool) → nat_le virt v ≡ from → nat_lt (v - virt) count ≡ to →
-    option_or (if from then (if to then Some (block + (v - virt)) else None) else None) rest ≡ (if is_named virt count v then Some (block + (v - virt)) else rest)
+    option_or (if from then (if to then Some (block + (v - virt)) else None) else None) rest ≡ (if is_in_range virt count v then Some (block + (v - virt)) else rest)
 run_first virt block count v rest true true is also =
-    let named : is_named virt count v ≡ true = grind (arith, nat_tests) in
+    let named : is_in_range virt count v ≡ true = grind (arith, nat_tests) in
     rw named refl
 run_first virt block count v rest true false is also =
-    let named : is_named virt count v ≡ false = grind (arith, nat_tests) in
+    let named : is_in_range virt count v ≡ false = grind (arith, nat_tests) in
     rw named refl
 run_first virt block count v rest false to is also =
-    let named : is_named virt count v ≡ false = grind (arith, nat_tests) in
+    let named : is_in_range virt count v ≡ false = grind (arith, nat_tests) in
     rw named refl
 
 -- what an entry of one run gives a virtual block, before something else does
 pub run_gives : (holder : List ℕ) (virt block count leftover v : ℕ) (rest : Option ℕ) →
     option_or (block_in (record { holder = holder; virt = virt; blocks = range_with_len block count; leftover = leftover }) v) rest
-    ≡ (if is_named virt count v then Some (block + (v - virt)) else rest)
+    ≡ (if is_in_range virt count v then Some (block + (v - virt)) else rest)
 run_gives holder virt block count leftover v rest =
     ap (λ (o : Option ℕ). option_or (if nat_le virt v then o else None) rest) (get_range block count (v - virt))
     ∙ run_first virt block count v rest (nat_le virt v) (nat_lt (v - virt) count) refl refl
@@ -101,7 +101,7 @@ longer_gives holder other virt v leftover last front back rest =
 
 -- a table after a run is mapped, by what it maps each virtual block to
 abbrev pub IsMapped : FileMap → FileMap → ℕ → ℕ → ℕ → Type 0
-IsMapped old new virt block count = (v : ℕ) → block_at new v ≡ (if is_named virt count v then Some (block + (v - virt)) else block_at old v)
+IsMapped old new virt block count = (v : ℕ) → block_at new v ≡ (if is_in_range virt count v then Some (block + (v - virt)) else block_at old v)
 
 -- an entry of one run is taken in when its run is mapped
 pub one_run : (old new : FileMap) (holder : List ℕ) (virt block count leftover : ℕ) → IsMapped old new virt block count → (entries : List Meaning) → HasMap old entries →
@@ -118,7 +118,7 @@ pub more_run : (old new : FileMap) (holder : List ℕ) (virt leftover block coun
     (entries : List Meaning) → HasMap old (entries ++ (record { holder = holder; virt = virt; blocks = blocks; leftover = leftover }) ∷ []) →
     HasMap new (entries ++ (record { holder = holder; virt = virt; blocks = blocks ++ range_with_len block count; leftover = leftover }) ∷ [])
 more_run old new holder virt leftover block count at blocks is mapped entries has = record {
-  each = λ v. subst (λ (n : ℕ). block_at new v ≡ (if is_named n count v then Some (block + (v - n)) else block_at old v)) is (mapped v)
+  each = λ v. subst (λ (n : ℕ). block_at new v ≡ (if is_in_range n count v then Some (block + (v - n)) else block_at old v)) is (mapped v)
       ∙ sym (run_gives [] (virt + length blocks) block count 0 v (block_at old v))
       ∙ ap (λ (o : Option ℕ). option_or (block_in (record { holder = []; virt = virt + length blocks; blocks = range_with_len block count; leftover = 0 }) v) o) (has.each v ∙ map_of_push entries (record { holder = holder; virt = virt; blocks = blocks; leftover = leftover }) v)
       ∙ sym (longer_gives holder [] virt v leftover 0 blocks (range_with_len block count) (map_of entries v))
@@ -138,10 +138,10 @@ no_run table holder virt leftover entries has = record {
     nothing v false = refl
 
 -- a size grown to an entry's end
-pub grown_by : (old new : FileMap) (shape : Shape) (entry : Meaning) → new.size ≡ max old.size (end_of shape entry) → (before : ℕ) (entries : List Meaning) →
+pub grown_by : (old new : FileMap) (shape : Shape) (entry : Meaning) → new.size ≡ max old.size (entry_end shape entry) → (before : ℕ) (entries : List Meaning) →
     HasSize old shape before entries → HasSize new shape before (entries ++ entry ∷ [])
 grown_by old new shape entry grown before entries has = record {
-  same = grown ∙ ap (λ (n : ℕ). max n (end_of shape entry)) has.same ∙ sym (size_after_push shape before entries entry);
+  same = grown ∙ ap (λ (n : ℕ). max n (entry_end shape entry)) has.same ∙ sym (size_after_push shape before entries entry);
 }
 
 -- numbers that are equal are mapped alike

@@ -9,27 +9,27 @@ use Rattle.std.proofs.Math.Bool.{Bool-set}
 use Rattle.block_table.specs.FileMap.{FileMap, block_at}
 use Rattle.log_entry.specs.Geometry.{HasShape}
 use Rattle.log_entry.specs.declared.shapes.Geometry.{Geometry}
-use Rattle.log_image.specs.Image.{Shape, words_in, total, block_words}
+use Rattle.log_image.specs.Image.{Shape, words_in, total, block_words, shape_by}
 use Rattle.log_image.specs.Entries.{Meaning}
 use Rattle.log_image.specs.Header.{shape_of, head_block, HasHeader}
 use Rattle.log_image.specs.Blocks.{link_of, is_snapshot, base_of, slots_of, entry_words, is_closed, leads_on}
-use Rattle.log_image.specs.Chains.{Leads, IsLinked, IsChain}
-use Rattle.log_image.specs.Positions.{entries_of, position_of, size_at_end}
-use Rattle.log_image.specs.Holes.{last_block}
+use Rattle.log_image.specs.Chains.{LeadsAlong, IsLinked, IsChain}
+use Rattle.log_image.specs.Positions.{entries_of, position_of, size_at_end, block_entries}
+use Rattle.log_image.specs.Tails.{last_block}
 use Rattle.log_image.specs.Format.{HasFormat}
 use Rattle.log_image.proofs.OneChain.{one_chain}
-use Rattle.chain_reader.specs.Tables.{shape_by, HasMap}
+use Rattle.chain_reader.specs.Tables.{HasMap}
 use Rattle.chain_reader.specs.Reads.{StandForSome, IsReadOf}
 use Rattle.chain_reader.specs.Ends.{end_slot}
 use Rattle.chain_reader.specs.declared.reading.ChainRead.{ChainRead}
-use Rattle.chain_reader.specs.ChainBlocks.{is_sound, block_entries, size_past}
+use Rattle.chain_reader.specs.ChainBlocks.{is_sound, size_past}
 use Rattle.chain_reader.proofs.ChainLemmas.{Good, sound_at, inside_at, few_blocks, entries_push, size_push, ends_at}
 
 -- a block comes next: the blocks before it are taken in
 pub record Ready (words : List ℕ) (shape : Shape) (passed : List ℕ) (block : ℕ) (table : FileMap) (chain : List ℕ) : Type 0 where
   pub rest : List ℕ
   pub parts : chain ≡ passed ++ block ∷ rest
-  pub leads : Leads words shape block rest
+  pub leads : LeadsAlong words shape block rest
   pub map : HasMap table (entries_of words shape passed)
   pub size : table.size ≡ size_at_end words shape passed
 
@@ -39,7 +39,7 @@ pub record WalkedTo (words : List ℕ) (shape : Shape) (passed : List ℕ) (bloc
   pub rest : List ℕ
   pub ends : passed ≡ front ++ block ∷ []
   pub parts : chain ≡ passed ++ rest
-  pub leads : Leads words shape block rest
+  pub leads : LeadsAlong words shape block rest
   pub map : HasMap table (entries_of words shape passed)
   pub size : table.size ≡ size_at_end words shape passed
 
@@ -59,7 +59,7 @@ first_ready words shape table block head unmapped empty = record { each = λ cha
     go (first ∷ rest) linked = record {
       rest = rest;
       parts = ap (λ (b : ℕ). b ∷ rest) (sym linked.0 ∙ sym head);
-      leads = subst (λ (b : ℕ). Leads words shape b rest) (sym linked.0 ∙ sym head) linked.1;
+      leads = subst (λ (b : ℕ). LeadsAlong words shape b rest) (sym linked.0 ∙ sym head) linked.1;
       map = record { each = unmapped };
       size = empty;
     }
@@ -94,14 +94,14 @@ next_ready words shape passed block next table found walked = record { each = λ
     on : (leads_on (block_words words shape block) ≡ true) × (link_of (block_words words shape block) ≡ next)
     on = leads_some words shape block next (leads_on (block_words words shape block)) refl found
 
-    go : (chain rest : List ℕ) → chain ≡ passed ++ rest → Leads words shape block rest → HasMap table (entries_of words shape passed) → table.size ≡ size_at_end words shape passed → Ready words shape passed next table chain
+    go : (chain rest : List ℕ) → chain ≡ passed ++ rest → LeadsAlong words shape block rest → HasMap table (entries_of words shape passed) → table.size ≡ size_at_end words shape passed → Ready words shape passed next table chain
     go chain [] parts leads map size = cc
     go chain (other ∷ rest) parts leads map size =
         let same : other ≡ next = sym leads.1 ∙ on.1 in
         record {
           rest = rest;
           parts = parts ∙ ap (λ (b : ℕ). passed ++ b ∷ rest) same;
-          leads = subst (λ (b : ℕ). Leads words shape b rest) same leads.2;
+          leads = subst (λ (b : ℕ). LeadsAlong words shape b rest) same leads.2;
           map = map;
           size = size;
         }
@@ -138,7 +138,7 @@ whole_chain words shape passed block table none walked chain good =
     front : List ℕ
     front = (walked.each chain good).front
 
-    go : (rest : List ℕ) → Leads words shape block rest → chain ≡ passed ++ rest → passed ≡ front ++ block ∷ [] → HasMap table (entries_of words shape passed) → table.size ≡ size_at_end words shape passed → Whole words shape passed block table chain
+    go : (rest : List ℕ) → LeadsAlong words shape block rest → chain ≡ passed ++ rest → passed ≡ front ++ block ∷ [] → HasMap table (entries_of words shape passed) → table.size ≡ size_at_end words shape passed → Whole words shape passed block table chain
     go [] leads parts ends map size =
         let all : passed ≡ chain = sym (append-nil passed) ∙ sym parts in
         record {

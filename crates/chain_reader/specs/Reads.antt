@@ -4,7 +4,7 @@ use Rattle.log_image.specs.Image.{Shape, block_words}
 use Rattle.log_image.specs.Blocks.{base_of}
 use Rattle.log_image.specs.Positions.{entries_of, position_of, size_at_end}
 use Rattle.log_image.specs.Stands.{StandsBy}
-use Rattle.log_image.specs.Holes.{last_block}
+use Rattle.log_image.specs.Tails.{last_block}
 use Rattle.chain_reader.specs.Tables.{HasMap}
 use Rattle.chain_reader.specs.Ends.{end_slot}
 use Rattle.chain_reader.specs.declared.reading.ChainRead.{ChainRead}

@@ -1,14 +1,9 @@
 -- What entries make of a table: its map and, apart from that, its size.
 use Rattle.std.specs.Prelude.{ℕ, ◌≡◌, List}
 use Rattle.block_table.specs.FileMap.{FileMap, block_at}
-use Rattle.log_entry.specs.declared.shapes.Geometry.{Geometry}
 use Rattle.log_image.specs.Image.{Shape}
 use Rattle.log_image.specs.Entries.{Meaning}
 use Rattle.log_image.specs.Maps.{map_of, size_after}
-
--- the shape of an image of this geometry
-abbrev pub shape_by : Geometry → Shape
-shape_by geometry = record { data_blocks = geometry.data_blocks; log_blocks = geometry.log_blocks; block_bytes = geometry.block_bytes }
 
 -- the table gives each virtual block what these entries give it: a physical block, or none
 pub record HasMap (table : FileMap) (entries : List Meaning) : Type 0 where

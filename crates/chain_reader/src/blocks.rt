@@ -3,13 +3,14 @@
 ghost use Rattle.std.specs.Prelude.{◌≡◌, ◌<◌, ◌≤◌, ◌+◌, ◌*◌, ◌==◌, ◌&&◌, not, ◌++◌, List, ℕ, IsTrue, length, map, max, take, if◌then◌else◌, Some, None};
 ghost use Rattle.std.specs.List.{list_all};
 ghost use Rattle.log_entry.specs.declared.layouts.TheConstants.{EMPTY, SEAL};
-ghost use Rattle.log_image.specs.Image.{total, words_in, block_words};
+ghost use Rattle.log_image.specs.Image.{total, words_in, block_words, shape_by};
 ghost use Rattle.log_image.specs.Entries.{Meaning, direct_meaning, meaning};
-ghost use Rattle.log_image.specs.Blocks.{link_of, is_snapshot, entry_count, slots_of, entry_words, is_closed, leads_on};
+ghost use Rattle.log_image.specs.Blocks.{link_of, is_snapshot, entry_count, slots_of, entry_words, is_closed, leads_on, kept_words};
 ghost use Rattle.log_image.specs.Format.{is_log_entry, is_snapshot_entry};
-ghost use Rattle.chain_reader.specs.Tables.{shape_by, HasMap, HasSize};
+ghost use Rattle.chain_reader.specs.Tables.{HasMap, HasSize};
 ghost use Rattle.chain_reader.specs.Ends.{end_slot};
-ghost use Rattle.chain_reader.specs.ChainBlocks.{kept_words, is_sound, block_entries, size_past};
+ghost use Rattle.log_image.specs.Positions.{block_entries};
+ghost use Rattle.chain_reader.specs.ChainBlocks.{is_sound, size_past};
 
 use crate::taking::{take_in, take_in_snapshot};
 use block_table::Table;

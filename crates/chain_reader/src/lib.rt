@@ -8,4 +8,4 @@ pub mod taking;
 mod tests;
 
 pub use reading::{ChainRead, read_chain};
-pub use taking::{block_at, take_in, take_in_snapshot};
+pub use taking::{block_at, runs_in, take_in, take_in_snapshot};

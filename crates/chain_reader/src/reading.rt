@@ -4,7 +4,7 @@ ghost use Rattle.std.specs.Prelude.{◌≡◌, ◌*◌, List, ℕ, length, IfOk}
 ghost use Rattle.log_entry.specs.Geometry.{HasShape};
 ghost use Rattle.log_image.specs.Header.{shape_of};
 ghost use Rattle.log_image.specs.Chains.{IsChain};
-ghost use Rattle.chain_reader.specs.Tables.{shape_by};
+ghost use Rattle.log_image.specs.Image.{shape_by};
 ghost use Rattle.chain_reader.specs.Reads.{StandForSome, IsReadOf};
 
 use crate::blocks::{end_slot_in, entries_in, next_block, take_in_block};

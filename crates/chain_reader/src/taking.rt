@@ -2,10 +2,10 @@
 
 ghost use Rattle.std.specs.Prelude.{◌≡◌, ◌≤◌, ◌<◌, ◌+◌, ◌-◌, ◌*◌, ◌++◌, ◌∷◌, [], List, ℕ, IsTrue, length, slice_index};
 ghost use Rattle.log_entry.specs.Fields.{field};
-ghost use Rattle.log_image.specs.Image.{total, words_in, block_words};
+ghost use Rattle.log_image.specs.Image.{total, words_in, block_words, shape_by};
 ghost use Rattle.log_image.specs.Entries.{Meaning, direct_meaning, indirect_meaning, meaning, run_words, run_blocks};
 ghost use Rattle.log_image.specs.Format.{fits, is_indirect_block, is_log_entry, is_snapshot_entry};
-ghost use Rattle.chain_reader.specs.Tables.{shape_by, HasMap, HasSize};
+ghost use Rattle.chain_reader.specs.Tables.{HasMap, HasSize};
 
 use block_table::Table;
 use log_entry::Geometry;

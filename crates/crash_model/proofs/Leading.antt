@@ -4,12 +4,12 @@ use Rattle.std.proofs.Math.Logic.{∥∥₁_elim, ∥∥₁_map}
 use Rattle.std.proofs.Math.Bridge.{le_prop}
 use Rattle.std.proofs.lemmas.List.{get_or-set_same, get_or-set_other, length-set}
 use Rattle.log_entry.specs.declared.calls.Call.{Call}
-use Rattle.seat_state.specs.Seats.{Seat, new_seat}
+use Rattle.pmem_words.specs.Seats.{Seat, new_seat}
 use Rattle.pmem_words.specs.Scripts.{Script}
 use Rattle.pmem_words.specs.Leads.{Leads}
-use Rattle.pmem_words.specs.declared.asks.Ask.{Ask}
-use Rattle.pmem_words.specs.declared.asks.Ask.TheVariants.{Load, Store, Exchange, SetBits, ClearBits, Mark, Fence}
-use Rattle.pmem_words.specs.declared.asks.Turn.TheVariants.{Go, Done}
+use Rattle.asks.specs.declared.ask.Ask.{Ask}
+use Rattle.asks.specs.declared.ask.Ask.TheVariants.{Load, Store, Exchange, SetBits, ClearBits, Mark, Fence}
+use Rattle.pmem_words.specs.declared.machine.Turn.TheVariants.{Go, Done}
 use Rattle.pmem_words.proofs.LeadsLemmas.{ready_now, go_now, end_now, leads_weaker}
 use Rattle.persistence.specs.Memory.{Memory, found_answer, memory_after, notes_of}
 use Rattle.persistence.proofs.FenceLaws.{fences_forget_own_marks, notes_of-push_other}
@@ -21,7 +21,7 @@ use Rattle.log_core.specs.After.{after}
 use Rattle.log_core.specs.Runs.{Allowed}
 use Rattle.log_core.specs.Within.{no_record, note_of, Did, IsReadyIn, within, IsLinked, IsLeft}
 use Rattle.log_core.specs.Starts.{IsStart}
-use Rattle.log_core.proofs.OneView.{same_or_other}
+use Rattle.log_core.proofs.clauses.OneView.{same_or_other}
 use Rattle.crash_model.specs.Worlds.{WorldNow, Stands, FitsCore, HasFitting, seat_of, world_after, answer_in, told_in, turned}
 use Rattle.crash_model.specs.Led.{IsComputed, IsAtRest, LeadsIn, IsLed, EndsIn, HasEnded, RestsIn, IsResting, HasLeft, IsTurnOf}
 use Rattle.crash_model.proofs.Standing.{stands_after, stands_with}

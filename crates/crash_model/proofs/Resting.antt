@@ -5,10 +5,10 @@ use Rattle.std.specs.List.{range_with_len}
 use Rattle.std.proofs.lemmas.List.{get_or-set_same, get_or-set_other, length-set}
 use Rattle.std.proofs.lemmas.List.FromFn.{get_or-map-range_with_len, length-map-range_with_len}
 use Rattle.log_entry.specs.declared.shapes.Geometry.{Geometry}
-use Rattle.log_image.specs.Keeps.{Keeps}
-use Rattle.seat_parts.specs.declared.keeps.Task.{Task}
-use Rattle.seat_state.specs.Seats.{Seat, new_seat}
-use Rattle.seat_state.specs.declared.TheConstants.{SEATS}
+use Rattle.log_image.specs.MayStart.{MayStart}
+use Rattle.pmem_words.specs.declared.keeps.Task.{Task}
+use Rattle.pmem_words.specs.Seats.{Seat, new_seat}
+use Rattle.pmem_words.specs.declared.TheConstants.{SEATS}
 use Rattle.persistence.specs.Memory.{Memory, Noted, cell, notes_of}
 use Rattle.persistence.specs.Cells.{CellsNow, fresh_memory}
 use Rattle.log_core.specs.Views.{View, Ghost, view_of, spent_view, new_view, no_geometry, op_in}
@@ -23,11 +23,11 @@ use Rattle.log_core.specs.Runs.{MayNumber, is_offered_work}
 use Rattle.log_core.specs.Invariant.{Invariant}
 use Rattle.log_core.specs.Knows.{Knows}
 use Rattle.log_core.specs.Starts.{origin_of}
-use Rattle.log_core.proofs.OneView.{same_or_other}
-use Rattle.log_core.proofs.Parts.{worked_more, may_more, all_more}
-use Rattle.log_core.proofs.Serving.{knows_here, reached_keeps}
-use Rattle.log_core.proofs.StartKept.{same_position}
-use Rattle.log_core.proofs.StartMeets.{start_meets}
+use Rattle.log_core.proofs.clauses.OneView.{same_or_other}
+use Rattle.log_core.proofs.machines.Parts.{worked_more, may_more, all_more}
+use Rattle.log_core.proofs.machines.Serving.{knows_here, reached_keeps}
+use Rattle.log_core.proofs.starts.StartKept.{same_position}
+use Rattle.log_core.proofs.starts.StartMeets.{start_meets}
 use Rattle.crash_model.specs.Worlds.{WorldNow, Stands, seat_of, set_seat, new_world}
 use Rattle.crash_model.specs.Led.{IsComputed, IsAtRest, RestsIn, IsResting, HasNoMarks, MayBeginAt}
 use Rattle.crash_model.proofs.Standing.{stands_with, new_stands_by}
@@ -163,13 +163,13 @@ rests_room w room resting = ∥∥₁_map resting (λ r. (
 
 -- a world in which nothing was done is at rest
 pub new_rests : (geometry : Geometry) (words taken : List ℕ) (generation position size seats : ℕ) → ((place : ℕ) → get_or words place 0 < 2 ^ 64) → 0 < seats → seats ≤ SEATS →
-    ∥ Keeps geometry words taken generation position size ∥₁ → IsResting (new_world geometry words taken position seats)
+    ∥ MayStart geometry words taken generation position size ∥₁ → IsResting (new_world geometry words taken position seats)
 new_rests geometry words taken generation position size seats small some few kept = ∥∥₁_map kept (λ k. (origin k, first_core (origin k), rests k))
   where
-    origin : Keeps geometry words taken generation position size → Origin
+    origin : MayStart geometry words taken generation position size → Origin
     origin k = origin_of geometry seats seats words taken k.chain k.file
 
-    rests : (k : Keeps geometry words taken generation position size) → RestsIn (new_world geometry words taken position seats) (origin k) (first_core (origin k))
+    rests : (k : MayStart geometry words taken generation position size) → RestsIn (new_world geometry words taken position seats) (origin k) (first_core (origin k))
     rests k = (let st = new_stands_by geometry words taken generation position size seats small some few k in
         let same = same_position geometry words taken generation position size seats seats k in record {
           stands = st;
@@ -185,7 +185,7 @@ new_rests geometry words taken generation position size seats small some few kep
         })
 
 pub made_rests : (geometry : Geometry) (words taken : List ℕ) (generation position size seats : ℕ) → ((place : ℕ) → get_or words place 0 < 2 ^ 64) → 0 < seats → seats ≤ SEATS →
-    ∥ Keeps geometry words taken generation position size ∥₁ → (g : Geometry) (p : ℕ) (cells : CellsNow) (states : List Seat) → g ≡ geometry → p ≡ position →
+    ∥ MayStart geometry words taken generation position size ∥₁ → (g : Geometry) (p : ℕ) (cells : CellsNow) (states : List Seat) → g ≡ geometry → p ≡ position →
     cells ≡ record { memory = fresh_memory words taken seats; room = 0 } → states ≡ map (λ (n : ℕ). new_seat g n seats p) (range_with_len 0 seats) →
     IsResting (record { geometry = g; cells = cells; seats = states; position = p; synced = p })
 made_rests geometry words taken generation position size seats small some few kept g p cells states g_is p_is cells_is states_is =

@@ -3,8 +3,8 @@ use Rattle.std.specs.Prelude.{ℕ, ◌<◌, ◌+◌, ◌≡◌, ◌≢◌, true,
 use Rattle.std.specs.List.{list_all}
 use Rattle.log_entry.specs.declared.calls.Op.{Op}
 use Rattle.log_entry.specs.declared.calls.Call.{Call}
-use Rattle.seat_parts.specs.declared.keeps.Task.{Task}
-use Rattle.seat_state.specs.Seats.{Seat}
+use Rattle.pmem_words.specs.declared.keeps.Task.{Task}
+use Rattle.pmem_words.specs.Seats.{Seat}
 use Rattle.pmem_words.specs.Scripts.{Script}
 use Rattle.pmem_words.specs.Leads.{Leads}
 use Rattle.persistence.specs.Memory.{notes_of}

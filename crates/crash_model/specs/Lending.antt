@@ -1,8 +1,8 @@
 -- A seat's state that a world lends.
 use Rattle.std.specs.Prelude.{ℕ}
 use Rattle.std.specs.Borrow.{Lends, MutBor, Fml}
-use Rattle.seat_state.specs.Seats.{Seat}
-use Rattle.seat_state.specs.contracts.seat.SeatState.{the_row as seat_row}
+use Rattle.pmem_words.specs.Seats.{Seat}
+use Rattle.pmem_words.specs.contracts.seat.SeatState.{the_row as seat_row}
 use Rattle.crash_model.specs.Worlds.{WorldNow, set_seat}
 use Rattle.crash_model.specs.contracts.world.World.{the_row}
 

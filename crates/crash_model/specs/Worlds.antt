@@ -3,9 +3,9 @@ use Rattle.std.specs.Prelude.{ℕ, ◌+◌, ◌≡◌, ◌==◌, ◌&&◌, not, 
 use Rattle.std.specs.List.{range_with_len}
 use Rattle.log_entry.specs.declared.layouts.TheConstants.{SEAL}
 use Rattle.log_entry.specs.declared.shapes.Geometry.{Geometry}
-use Rattle.seat_state.specs.Seats.{Seat, new_seat, q_of}
+use Rattle.pmem_words.specs.Seats.{Seat, new_seat, q_of}
 use Rattle.pmem_words.specs.Scripts.{After, Script}
-use Rattle.pmem_words.specs.declared.asks.Ask.{Ask}
+use Rattle.asks.specs.declared.ask.Ask.{Ask}
 use Rattle.persistence.specs.Memory.{found_answer}
 use Rattle.persistence.specs.Cells.{CellsNow, cells_after, fresh_memory}
 use Rattle.log_core.specs.Views.{no_geometry}

@@ -2,7 +2,7 @@
 
 ghost use Rattle.std.specs.Prelude.{◌≡◌, ◌<◌, ◌≤◌, ◌^◌, ℕ, slice_index, max, length, IfOk, IsErr, map};
 ghost use Rattle.std.specs.List.{range_with_len};
-ghost use Rattle.seat_state.specs.Seats.{new_seat};
+ghost use Rattle.pmem_words.specs.Seats.{new_seat};
 ghost use Rattle.log_core.specs.Steps.{kind_of};
 ghost use Rattle.crash_model.specs.Worlds.{rises, synced_by};
 
@@ -41,7 +41,7 @@ impl Model for World {
 impl World {
     ghost use Rattle.persistence.specs.Choices.{chosen};
     ghost use Rattle.persistence.specs.Survivors.{Survives};
-    ghost use Rattle.seat_state.specs.declared.TheConstants.{SEATS};
+    ghost use Rattle.pmem_words.specs.declared.TheConstants.{SEATS};
     ghost use Rattle.std.specs.Borrow.{sem};
     ghost use Rattle.persistence.specs.Memory.{found_answer};
     ghost use Rattle.crash_model.specs.Worlds.{new_world, world_after, HasFitting, StandsAfter, seat_of, set_seat, answer_in, told_in, turned};

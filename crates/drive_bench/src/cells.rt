@@ -6,7 +6,7 @@ ghost use Rattle.persistence.specs.Cells.{TakesAsk};
 ghost use Rattle.drive_bench.specs.declared.cells.TheConstants.{WORDS};
 
 use persistence::Cells;
-use pmem_words::{Ask, Place};
+use asks::{Ask, Place};
 use std::alloc::{AllocError, Global};
 
 /// The words of an image of 16,384 data blocks and 64 log blocks of 4096 bytes: 16,533 blocks of 512 words.

@@ -13,9 +13,9 @@ pub struct Closed {
 }
 
 impl Model for Closed {
-    ghost use Rattle.pmem_words.specs.PlainWords.{PlainWords};
+    ghost use Rattle.asks.specs.SharedWords.{SharedWords};
 
-    ghost Value = { PlainWords };
+    ghost Value = { SharedWords };
 
     ghost view = { λ c. c.plain };
 }

@@ -1,23 +1,16 @@
 //! Sixteen seats of a world take pins and give them up.
 
 ghost use Rattle.std.specs.Prelude.{◌≡◌, ◌≢◌, ◌<◌, ◌≤◌, ◌+◌, ◌*◌, ℕ, length, IfOk};
-ghost use Rattle.log_core.specs.Within.{no_record};
 ghost use Rattle.crash_model.specs.Worlds.{WorldNow, seat_of};
 ghost use Rattle.crash_model.specs.Led.{IsResting, IsLed, HasLeft, IsTurnOf};
-ghost use Rattle.pmem_words.specs.declared.asks.Turn.TheVariants.{Go, Done};
-ghost use Rattle.pins.specs.Pinning.{pin_script};
-ghost use Rattle.pins.specs.Seated.{MayTurn};
+ghost use Rattle.world_tests.specs.PinSeats.{MayTurn};
 
 use crash_model::World;
 use image_tools::mkfs;
 use log_entry::{Geometry, Head};
-use pins::{Pin, Unpin};
-use pmem_words::Turn;
 use std::alloc::{AllocError, Global};
-
-/// A machine has not ended in the turns that it was given.
-#[derive(Clone, Copy, Debug)]
-pub struct Unfinished;
+use world_tests::Unfinished;
+use world_tests::pin_turns::{pin_in, unpin_in};
 
 /// A world of sixteen seats on a just-made image, with room for so many steps.
 fn sixteen_seats(alloc: Global, geometry: Geometry, steps: u32) -> Result<World, AllocError>
@@ -30,55 +23,6 @@ fn sixteen_seats(alloc: Global, geometry: Geometry, steps: u32) -> Result<World,
     let mut world = World::new(alloc, start, 16)?;
     world.reserve(steps as u64)?;
     Ok(world)
-}
-
-/// One turn of a seat that takes a pin.
-fn turn_pin(world: &mut World, seat: u8, pin: &mut Pin) -> Turn<Head>
-    requires room { 0 < world.old.cells.room }
-    requires led { IsLed seat pin_script no_record (λ out t v. HasLeft out t v) pin.old world.old }
-    ensures keeps { IsTurnOf MayTurn world.old world.new seat }
-    ensures go { result ≡ Go → IsLed seat pin_script no_record (λ out t v. HasLeft out t v) pin.new world.new }
-    ensures done { (head : Head) → result ≡ Done head → IsResting world.new }
-{
-    world.turn(seat, pin)
-}
-
-/// Takes a pin in three turns.
-fn pin_in(world: &mut World, seat: u8) -> Result<Head, Unfinished>
-    requires room { 3 ≤ world.old.cells.room }
-    requires inside { seat < length world.old.seats }
-    requires resting { IsResting world.old }
-    requires may { MayTurn seat (seat_of world.old seat) }
-    ensures resting { IfOk result (λ _. IsResting world.new) }
-    ensures may { IfOk result (λ _. MayTurn seat (seat_of world.new seat)) }
-    ensures others { IfOk result (λ _. (other : ℕ) → other ≢ seat → seat_of world.new other ≡ seat_of world.old other) }
-    ensures many { IfOk result (λ _. length world.new.seats ≡ length world.old.seats) }
-    ensures room { IfOk result (λ _. world.new.cells.room + 3 ≡ world.old.cells.room) }
-{
-    let mut pin = Pin::new();
-    let Turn::Go = turn_pin(world, seat, &mut pin) else {
-        return Err(Unfinished);
-    };
-    let Turn::Go = turn_pin(world, seat, &mut pin) else {
-        return Err(Unfinished);
-    };
-    match turn_pin(world, seat, &mut pin) {
-        Turn::Go => Err(Unfinished),
-        Turn::Done(head) => Ok(head),
-    }
-}
-
-/// Gives a pin up in one turn.
-fn unpin_in(world: &mut World, seat: u8)
-    requires room { 1 ≤ world.old.cells.room }
-    requires inside { seat < length world.old.seats }
-    requires resting { IsResting world.old }
-    requires may { MayTurn seat (seat_of world.old seat) }
-    ensures resting { IsResting world.new }
-    ensures keeps { IsTurnOf MayTurn world.old world.new seat }
-{
-    let mut unpin = Unpin::new();
-    world.turn(seat, &mut unpin);
 }
 
 /// A seat takes a pin and gives it up: four steps.

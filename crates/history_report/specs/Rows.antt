@@ -1,17 +1,11 @@
 -- Worked lines: a call, and what is printed of it.
 use Rattle.std.specs.Prelude.{ℕ, ◌≡◌, [], ◌∷◌, replicate, Some, None, codes}
 use Rattle.log_entry.specs.declared.shapes.Area.TheVariants.{Data}
-use Rattle.log_entry.specs.declared.calls.Op.{Op}
+use Rattle.log_entry.specs.Rows.{at}
 use Rattle.log_entry.specs.declared.calls.Op.TheVariants.{Pwrite, Append, Pread, Size, Sync, Collect}
 use Rattle.log_entry.specs.declared.calls.WriteRefusal.TheVariants.{TooLong, TooLarge, NoSpace}
-use Rattle.log_entry.specs.declared.calls.Reply.{Reply}
 use Rattle.log_entry.specs.declared.calls.Reply.TheVariants.{Wrote, Appended, NotWritten, Bytes, Size as FileSize, Synced, Collected}
-use Rattle.log_entry.specs.declared.calls.Call.{Call}
 use Rattle.history_report.specs.Report.{call_text, end_text, report_text}
-
--- a call of seat 0
-abbrev pub at : ℕ → ℕ → Op → Reply → Call
-at position number op reply = record { position = position; seat = 0; number = number; op = op; reply = reply }
 
 -- three bytes are written, and their number is printed on both sides
 abbrev pub Written : Type 0
@@ -26,12 +20,12 @@ abbrev pub ReadNoBytes : Type 0
 ReadNoBytes = call_text (at 0 2 (Pread 0 4) (Bytes [])) ≡ codes "0 0 2 pread 0 4 = -\n"
 
 -- a write of too many blocks
-abbrev pub TooManyBlocks : Type 0
-TooManyBlocks = call_text (at 1 2 (Pwrite 0 (replicate 449 0)) (NotWritten (TooLong 8))) ≡ codes "1 0 2 pwrite 0 449 = TooLong 8\n"
+abbrev pub TooManyBlocksLine : Type 0
+TooManyBlocksLine = call_text (at 1 2 (Pwrite 0 (replicate 449 0)) (NotWritten (TooLong 8))) ≡ codes "1 0 2 pwrite 0 449 = TooLong 8\n"
 
 -- a write past the limit of the file
-abbrev pub PastLimit : Type 0
-PastLimit = call_text (at 1 2 (Pwrite 4194303 (170 ∷ 187 ∷ [])) (NotWritten (TooLarge 4194305))) ≡ codes "1 0 2 pwrite 4194303 2 = TooLarge 4194305\n"
+abbrev pub PastLimitLine : Type 0
+PastLimitLine = call_text (at 1 2 (Pwrite 4194303 (170 ∷ 187 ∷ [])) (NotWritten (TooLarge 4194305))) ≡ codes "1 0 2 pwrite 4194303 2 = TooLarge 4194305\n"
 
 -- a write for which too few data blocks were free
 abbrev pub NoSpaceForData : Type 0

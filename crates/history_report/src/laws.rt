@@ -1,6 +1,6 @@
 //! Laws of the definitions, each the contract of a function that does nothing, and worked rows that they compute.
 
-ghost use Rattle.history_report.specs.Rows.{Written, ReadBytes, ReadNoBytes, TooManyBlocks, PastLimit, NoSpaceForData, AppendedAt, KeptNothing, KeptForPin, LastLine, TwoCalls};
+ghost use Rattle.history_report.specs.Rows.{Written, ReadBytes, ReadNoBytes, TooManyBlocksLine, PastLimitLine, NoSpaceForData, AppendedAt, KeptNothing, KeptForPin, LastLine, TwoCalls};
 ghost use Rattle.history_report.specs.TextFixes.{TextFixesCalls};
 
 /// Worked lines of calls, and a worked report.
@@ -8,8 +8,8 @@ pub fn law_rows()
     ensures written { Written }
     ensures read_bytes { ReadBytes }
     ensures read_no_bytes { ReadNoBytes }
-    ensures too_many_blocks { TooManyBlocks }
-    ensures past_limit { PastLimit }
+    ensures too_many_blocks { TooManyBlocksLine }
+    ensures past_limit { PastLimitLine }
     ensures no_space_for_data { NoSpaceForData }
     ensures appended_at { AppendedAt }
     ensures kept_nothing { KeptNothing }

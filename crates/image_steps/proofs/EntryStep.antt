@@ -1,4 +1,4 @@
--- An entry in the slot that is the hole is a write.
+-- An entry in the slot that is the tail is a write.
 use Rattle.std.proofs.Common.{◌≡◌, ◌≢◌, ◌<◌, ◌≤◌, ◌+◌, ◌-◌, ◌*◌, ◌==◌, ◌&&◌, ◌||◌, ◌^◌, not, max, nat_lt, ℕ, Bool, true, false, List, [], ◌∷◌, ◌++◌, length, get_or, set, Option, Some, None, if◌then◌else◌, refl, sym, ap, ◌∙◌, subst, arith, length-drop, length-append}
 use Rattle.std.proofs.lemmas.Bool.{eq-eqb, ne_eqb, eqb-true, lt-ltb, ltb-true, ltb-false}
 use Rattle.std.proofs.lemmas.Bool.Decides.{nat_tests}
@@ -13,40 +13,41 @@ use Rattle.log_image.specs.Image.{Shape, words_in, is_in_data, is_in_log, block_
 use Rattle.log_image.specs.Header.{shape_of}
 use Rattle.log_image.specs.Entries.{Meaning, direct_meaning, names, all_names}
 use Rattle.log_image.specs.Blocks.{is_snapshot, link_of, slots_of, entry_words, is_closed}
-use Rattle.log_image.specs.Maps.{block_in, map_of, end_of}
-use Rattle.log_image.specs.Chains.{all_different}
+use Rattle.log_image.specs.Maps.{block_in, map_of, entry_end}
+use Rattle.log_image.specs.Chains.{all_different, is_in}
 use Rattle.log_image.specs.Positions.{entries_of}
 use Rattle.log_image.specs.Format.{fits, is_direct, is_seal_placed, HasFormat}
 use Rattle.log_image.specs.Stands.{HoldsFile, StandsIn}
-use Rattle.log_image.specs.Holes.{Hole, AtSlot, AtLink, last_block, hole_in, hole_of, is_after, IsClear}
+use Rattle.log_image.specs.Tails.{Tail, AtSlot, AtLink, last_block, tail_in, tail_of, is_after, IsClear}
 use Rattle.log_image.specs.Taken.{is_taken}
 use Rattle.log_image.proofs.HoldingLemmas.{both_left, both_right}
 use Rattle.log_image.proofs.ImageLemmas.{in_block, length_range}
 use Rattle.log_image.specs.SameWords.{SameHeader}
-use Rattle.image_steps.specs.Steps.{StandsClear, IsEntryOf, next_hole, TakesEntry, EntriesAreWrites}
+use Rattle.image_steps.specs.Steps.{StandsClear, IsEntryOf, next_tail, TakesEntry, EntriesAreWrites}
 use Rattle.log_image.proofs.ChainSteps.{log_entry_words}
 use Rattle.image_steps.proofs.Extension.{Extends, Extended, extended}
 use Rattle.log_image.proofs.BlockLemmas.{set_here}
-use Rattle.image_steps.proofs.SlotLemmas.{IsUsed, IsOpen, words_set, placed_set, closed_set, hole_inside}
+use Rattle.log_image.proofs.Clearing.{open_inside}
+use Rattle.image_steps.proofs.SlotLemmas.{IsUsed, IsOpen, words_set, placed_set, closed_set}
 use Rattle.log_image.proofs.HeaderSteps.{header_shape, header_same, long_words}
 use Rattle.image_steps.proofs.KeptHeaders.{keeps_header}
-use Rattle.log_image.proofs.NameLemmas.{is_in, test_in, fits_blocks, different_join, range_different}
+use Rattle.log_image.proofs.NameLemmas.{test_in, fits_blocks, different_join, range_different}
 use Rattle.image_steps.proofs.TailLemmas.{split_chain, last_of, AtTail, at_tail, no_lead, name_taken, block_in_blocks, map_in_names, map_new, map_rest}
 use Rattle.log_image.proofs.SetWordLemmas.{drop_set, set_header, set_front, set_data, set_named, set_names, tail_inside}
 use Rattle.image_steps.proofs.StoreStep.{nothing_after}
 
--- what a hole that is a slot says
+-- what a tail that is a slot says
 pub record IsSlot (words : List ℕ) (tail block slot : ℕ) : Type 0 where
   pub opens : is_closed (slots_of words) ≡ false
   pub same_block : tail ≡ block
   pub same_slot : 3 + length (entry_words (slots_of words)) ≡ slot
 
-pub slot_hole : (words : List ℕ) (tail block slot : ℕ) → hole_in tail words ≡ AtSlot block slot → IsSlot words tail block slot
-slot_hole words tail block slot is = go (is_closed (slots_of words)) refl is
+pub slot_tail : (words : List ℕ) (tail block slot : ℕ) → tail_in tail words ≡ AtSlot block slot → IsSlot words tail block slot
+slot_tail words tail block slot is = go (is_closed (slots_of words)) refl is
   where
     go : (closed : Bool) → is_closed (slots_of words) ≡ closed → (if closed then AtLink tail else AtSlot tail (3 + length (entry_words (slots_of words)))) ≡ AtSlot block slot → IsSlot words tail block slot
-    go true closes hole = cc
-    go false opens hole = record { opens = opens; same_block = cc; same_slot = cc }
+    go true closes tail = cc
+    go false opens tail = record { opens = opens; same_block = cc; same_slot = cc }
 
 -- the tail, open, with its first empty slot
 pub record OpenTail (shape : Shape) (old : List ℕ) (tail slot : ℕ) : Type 0 where
@@ -66,7 +67,7 @@ slots_long : (shape : Shape) (old : List ℕ) (tail slot : ℕ) → OpenTail sha
 slots_long shape old tail slot is = length-drop 3 (block_words old shape tail) ∙ ap (λ (n : ℕ). n - 3) (tail_long shape old tail slot is)
 
 pub slot_small : (shape : Shape) (old : List ℕ) (tail slot : ℕ) → OpenTail shape old tail slot → slot < words_in shape
-slot_small shape old tail slot is = omega (arith, is.same_slot, slots_long shape old tail slot is, hole_inside (slots_of (block_words old shape tail)) is.opens, is.long)
+slot_small shape old tail slot is = omega (arith, is.same_slot, slots_long shape old tail slot is, open_inside (slots_of (block_words old shape tail)) is.opens, is.long)
 
 -- a place after the slot in the block
 after_slot : (shape : Shape) (block slot index : ℕ) → slot < index → index < words_in shape → is_after shape (AtSlot block slot) (block * words_in shape + index) ≡ true
@@ -119,9 +120,9 @@ link_still : (shape : Shape) (old : List ℕ) (tail slot word : ℕ) → OpenTai
 link_still shape old tail slot word is =
     front_word shape old tail slot word 0 is (omega arith) ∙ in_block old shape tail 0 (omega (arith, is.long)) ∙ ap (λ (n : ℕ). get_or old n 0) (omega arith) ∙ link_clear shape old tail slot is
 
--- the hole moves on
-hole_moves : (shape : Shape) (old : List ℕ) (tail slot word : ℕ) → OpenTail shape old tail slot → IsUsed word → hole_in tail (block_words (set old (tail * words_in shape + slot) word) shape tail) ≡ next_hole shape tail slot
-hole_moves shape old tail slot word is used =
+-- the tail moves on
+tail_moves : (shape : Shape) (old : List ℕ) (tail slot word : ℕ) → OpenTail shape old tail slot → IsUsed word → tail_in tail (block_words (set old (tail * words_in shape + slot) word) shape tail) ≡ next_tail shape tail slot
+tail_moves shape old tail slot word is used =
     ap (λ (l : List ℕ). if is_closed l then AtLink tail else AtSlot tail (3 + length (entry_words l))) (slots_set shape old tail slot word is)
     ∙ ap (λ (l : List ℕ). if is_closed (set (slots_of (block_words old shape tail)) (length (log_entry_words old shape tail)) word) then AtLink tail else AtSlot tail (3 + length l)) (words_set (slots_of (block_words old shape tail)) word (slots_open shape old tail slot is) used)
     ∙ ap (λ (b : Bool). if b then AtLink tail else AtSlot tail (3 + length (log_entry_words old shape tail ++ word ∷ []))) (closed_set (slots_of (block_words old shape tail)) word (slots_open shape old tail slot is) used ∙ last)
@@ -134,7 +135,7 @@ hole_moves shape old tail slot word is used =
     last = test (length (log_entry_words old shape tail)) (length (slots_of (block_words old shape tail))) (words_in shape) slot is.same_slot (slots_long shape old tail slot is) is.long
 
 -- and nothing stands after it
-clear_after : (shape : Shape) (old : List ℕ) (tail slot word : ℕ) → OpenTail shape old tail slot → IsClear (set old (tail * words_in shape + slot) word) shape (next_hole shape tail slot)
+clear_after : (shape : Shape) (old : List ℕ) (tail slot word : ℕ) → OpenTail shape old tail slot → IsClear (set old (tail * words_in shape + slot) word) shape (next_tail shape tail slot)
 clear_after shape old tail slot word is = go (slot + 1 == words_in shape)
   where
     later : (place : ℕ) → (link : Bool) → (place == tail * words_in shape) ≡ link → (link || (nat_lt (tail * words_in shape + (slot + 1)) place && nat_lt place (tail * words_in shape + words_in shape))) ≡ true →
@@ -222,15 +223,15 @@ entry_extends shape old front tail file new_file position slot word is stands ro
       below_limit = omega (arith, stands.ends_at, room);
     }
 
-entry_at : (old front : List ℕ) (tail : ℕ) (file new_file : List ℕ) (position slot word : ℕ) → StandsClear old (front ++ tail ∷ []) file position → hole_in tail (block_words old (shape_of old) tail) ≡ AtSlot tail slot → position + 1 < 2 ^ 40 →
+entry_at : (old front : List ℕ) (tail : ℕ) (file new_file : List ℕ) (position slot word : ℕ) → StandsClear old (front ++ tail ∷ []) file position → tail_in tail (block_words old (shape_of old) tail) ≡ AtSlot tail slot → position + 1 < 2 ^ 40 →
     IsEntryOf old (shape_of old) (front ++ tail ∷ []) file new_file word → TakesEntry old (set old (tail * words_in (shape_of old) + slot) word) (front ++ tail ∷ []) new_file position tail slot word
-entry_at old front tail file new_file position slot word clear hole room entry =
+entry_at old front tail file new_file position slot word clear tail_there room entry =
     let shape : Shape = shape_of old in
     let new : List ℕ = set old (tail * words_in (shape_of old) + slot) word in
     let at : AtTail (shape_of old) old front tail = at_tail (shape_of old) old front tail file position clear.stands.stands in
-    let open_at : IsSlot (block_words old (shape_of old) tail) tail tail slot = slot_hole (block_words old (shape_of old) tail) tail tail slot hole in
+    let open_at : IsSlot (block_words old (shape_of old) tail) tail tail slot = slot_tail (block_words old (shape_of old) tail) tail tail slot tail_there in
     let last : last_block 0 (front ++ tail ∷ []) ≡ tail = last_of 0 front tail in
-    let old_hole : hole_of old (shape_of old) (front ++ tail ∷ []) ≡ AtSlot tail slot = ap (λ (b : ℕ). hole_in b (block_words old (shape_of old) b)) last ∙ hole in
+    let old_tail : tail_of old (shape_of old) (front ++ tail ∷ []) ≡ AtSlot tail slot = ap (λ (b : ℕ). tail_in b (block_words old (shape_of old) b)) last ∙ tail_there in
     let is : OpenTail (shape_of old) old tail slot = record {
       long = long_words old clear.stands.header;
       area = at.area;
@@ -238,14 +239,14 @@ entry_at old front tail file new_file position slot word clear hole room entry =
       is_log = at.is_log;
       opens = open_at.opens;
       same_slot = open_at.same_slot;
-      clear = subst (λ (h : Hole). IsClear old (shape_of old) h) old_hole clear.clear;
+      clear = subst (λ (h : Tail). IsClear old (shape_of old) h) old_tail clear.clear;
     } in
     let used : IsUsed word = is_used word (both_left (is_direct word) (fits (shape_of old) (longest_of (shape_of old).block_bytes) (direct_meaning word)) entry.fitting) in
     let header : SameHeader old (set old (tail * words_in (shape_of old) + slot) word) = set_header (shape_of old) old tail slot word (omega (arith, is.long)) is.area in
     let done : Extended (shape_of old) old (set old (tail * words_in (shape_of old) + slot) word) front tail [] (word ∷ []) =
     extended (shape_of old) old (set old (tail * words_in (shape_of old) + slot) word) front tail [] (word ∷ []) at.began (entry_extends (shape_of old) old front tail file new_file position slot word is clear.stands.stands room entry) in
-    let new_hole : hole_of (set old (tail * words_in (shape_of old) + slot) word) (shape_of old) (front ++ tail ∷ []) ≡ next_hole (shape_of old) tail slot =
-    ap (λ (b : ℕ). hole_in b (block_words (set old (tail * words_in (shape_of old) + slot) word) (shape_of old) b)) last ∙ hole_moves (shape_of old) old tail slot word is used in
+    let new_tail : tail_of (set old (tail * words_in (shape_of old) + slot) word) (shape_of old) (front ++ tail ∷ []) ≡ next_tail (shape_of old) tail slot =
+    ap (λ (b : ℕ). tail_in b (block_words (set old (tail * words_in (shape_of old) + slot) word) (shape_of old) b)) last ∙ tail_moves (shape_of old) old tail slot word is used in
     record {
       header = keeps_header old (set old (tail * words_in (shape_of old) + slot) word) header;
       stands = record {
@@ -255,25 +256,25 @@ entry_at old front tail file new_file position slot word clear hole room entry =
             is_chain = done.is_chain;
             format = done.format;
             ends_at = done.position ∙ ap (λ (n : ℕ). n + 1) clear.stands.stands.ends_at;
-            ends_with = done.size ∙ ap (λ (n : ℕ). max n (end_of (shape_of old) (direct_meaning word))) clear.stands.stands.ends_with ∙ sym entry.size;
+            ends_with = done.size ∙ ap (λ (n : ℕ). max n (entry_end (shape_of old) (direct_meaning word))) clear.stands.stands.ends_with ∙ sym entry.size;
             holds = subst (λ (l : List Meaning). HoldsFile (set old (tail * words_in (shape_of old) + slot) word) (shape_of old) l new_file) (sym done.entries)
                 (holds_new (shape_of old) old (front ++ tail ∷ []) file new_file tail slot word is clear.stands.stands.format entry clear.stands.stands.holds);
           });
         };
-        clear = subst (λ (s : Shape). IsClear (set old (tail * words_in (shape_of old) + slot) word) s (hole_of (set old (tail * words_in (shape_of old) + slot) word) s (front ++ tail ∷ []))) (sym (header_shape old (set old (tail * words_in (shape_of old) + slot) word) header))
-            (subst (λ (h : Hole). IsClear (set old (tail * words_in (shape_of old) + slot) word) (shape_of old) h) (sym new_hole) (clear_after (shape_of old) old tail slot word is));
+        clear = subst (λ (s : Shape). IsClear (set old (tail * words_in (shape_of old) + slot) word) s (tail_of (set old (tail * words_in (shape_of old) + slot) word) s (front ++ tail ∷ []))) (sym (header_shape old (set old (tail * words_in (shape_of old) + slot) word) header))
+            (subst (λ (h : Tail). IsClear (set old (tail * words_in (shape_of old) + slot) word) (shape_of old) h) (sym new_tail) (clear_after (shape_of old) old tail slot word is));
       };
       entries = done.entries;
-      hole = new_hole;
+      tail = new_tail;
     }
 
 pub entries_are_writes : EntriesAreWrites
-entries_are_writes old [] file new_file position block slot word clear hole room entry = absurd clear.stands.stands.is_chain.linked
-entries_are_writes old (first ∷ rest) file new_file position block slot word clear hole room entry =
+entries_are_writes old [] file new_file position block slot word clear tail_there room entry = absurd clear.stands.stands.is_chain.linked
+entries_are_writes old (first ∷ rest) file new_file position block slot word clear tail_there room entry =
     let split : (front : List ℕ) × (first ∷ rest ≡ front ++ last_block first rest ∷ []) = split_chain first rest in
-    let same : last_block first rest ≡ block = (slot_hole (block_words old (shape_of old) (last_block first rest)) (last_block first rest) block slot hole).same_block in
+    let same : last_block first rest ≡ block = (slot_tail (block_words old (shape_of old) (last_block first rest)) (last_block first rest) block slot tail_there).same_block in
     subst (λ (l : List ℕ). TakesEntry old (set old (block * words_in (shape_of old) + slot) word) l new_file position block slot word) (sym split.1)
     (subst (λ (b : ℕ). TakesEntry old (set old (b * words_in (shape_of old) + slot) word) (split.0 ++ last_block first rest ∷ []) new_file position b slot word) same
     (entry_at old split.0 (last_block first rest) file new_file position slot word (subst (λ (l : List ℕ). StandsClear old l file position) split.1 clear)
-    (hole ∙ ap (λ (b : ℕ). AtSlot b slot) (sym same)) room
+    (tail_there ∙ ap (λ (b : ℕ). AtSlot b slot) (sym same)) room
     (subst (λ (l : List ℕ). IsEntryOf old (shape_of old) l file new_file word) split.1 entry)))

@@ -9,9 +9,9 @@ use Rattle.log_image.specs.Image.{Shape, is_in_log, block_words}
 use Rattle.log_image.specs.Header.{head_block}
 use Rattle.log_image.specs.Entries.{Meaning, direct_meaning, meaning, all_names}
 use Rattle.log_image.specs.Blocks.{is_snapshot, slots_of}
-use Rattle.log_image.specs.Chains.{all_different, snapshots_of, logs_of, Leads, first_base, first_size, snapshot_base, snapshot_size, HaveOneBase, AreLogsFrom, IsChain}
+use Rattle.log_image.specs.Chains.{all_different, snapshots_of, logs_of, LeadsAlong, first_base, first_size, snapshot_base, snapshot_size, HaveOneBase, AreLogsFrom, IsChain}
 use Rattle.log_image.specs.Positions.{snapshot_entries, log_words, log_entries, entries_of, position_of, size_at_end}
-use Rattle.log_image.specs.Maps.{size_after, end_of}
+use Rattle.log_image.specs.Maps.{size_after, entry_end}
 use Rattle.log_image.specs.Format.{is_log_entry, is_log_block, is_seal_placed, is_snapshot_block, is_kind_word, HasFormat}
 use Rattle.log_image.proofs.HoldingLemmas.{both_left}
 use Rattle.log_image.proofs.ClearedChains.{both}
@@ -32,7 +32,7 @@ pub record Extends (shape : Shape) (old new front : List ℕ) (tail : ℕ) (more
   pub is_log : is_snapshot (block_words old shape tail) ≡ false
   pub placed : is_seal_placed (slots_of (block_words new shape tail)) ≡ true
   pub tail_words : log_entry_words new shape tail ≡ log_entry_words old shape tail ++ added
-  pub onward : Leads new shape tail more
+  pub onward : LeadsAlong new shape tail more
   pub more_logs : AreLogsFrom new shape (position_of old shape (front ++ tail ∷ []) + length added) more
   pub more_empty : flat_map (log_entry_words new shape) more ≡ []
   pub more_areas : list_all (is_in_log shape) more ≡ true
@@ -59,7 +59,7 @@ pub record Extended (shape : Shape) (old new front : List ℕ) (tail : ℕ) (mor
 -- the size after entries that are put together
 pub size_join : (shape : Shape) (size : ℕ) (first second : List Meaning) → size_after shape size (first ++ second) ≡ size_after shape (size_after shape size first) second
 size_join shape size [] second = refl
-size_join shape size (entry ∷ first) second = size_join shape (max size (end_of shape entry)) first second
+size_join shape size (entry ∷ first) second = size_join shape (max size (entry_end shape entry)) first second
 
 new_log : (shape : Shape) (old new front : List ℕ) (tail : ℕ) (more added : List ℕ) → Extends shape old new front tail more added → is_snapshot (block_words new shape tail) ≡ false
 new_log shape old new front tail more added is = ap (λ (w : ℕ). field BLOCK_KIND w == SNAPSHOT) is.word ∙ is.is_log

@@ -1,4 +1,4 @@
--- The link that is the hole, set to a fresh log block, makes the chain longer and changes no more.
+-- The link that is the tail, set to a fresh log block, makes the chain longer and changes no more.
 use Rattle.std.proofs.Common.{◌≡◌, ◌≢◌, ◌<◌, ◌≤◌, ◌+◌, ◌-◌, ◌*◌, ◌==◌, ◌&&◌, ◌||◌, not, nat_lt, ℕ, Bool, true, false, List, [], ◌∷◌, ◌++◌, length, get_or, set, if◌then◌else◌, refl, sym, ap, ◌∙◌, subst, arith, append_assoc, length-drop}
 use Rattle.std.specs.List.{list_all}
 use Rattle.std.proofs.lemmas.Bool.{eq-eqb, ne_eqb, eqb-true, ltb-true}
@@ -9,12 +9,12 @@ use Rattle.log_image.specs.Image.{Shape, words_in, total, is_in_log, block_words
 use Rattle.log_image.specs.Header.{shape_of}
 use Rattle.log_image.specs.Entries.{Meaning, all_names}
 use Rattle.log_image.specs.Blocks.{is_snapshot, link_of, slots_of, entry_words, is_closed, leads_on, kind_of, base_of}
-use Rattle.log_image.specs.Chains.{all_different}
+use Rattle.log_image.specs.Chains.{all_different, is_in}
 use Rattle.log_image.specs.Positions.{entries_of}
 use Rattle.log_image.specs.Format.{is_log_entry, is_log_block, is_seal_placed, is_seal_last, is_kind_word}
 use Rattle.log_image.proofs.ClearedChains.{both}
 use Rattle.log_image.specs.Stands.{HoldsFile, StandsIn}
-use Rattle.log_image.specs.Holes.{Hole, AtSlot, AtLink, last_block, hole_in, hole_of, IsClear}
+use Rattle.log_image.specs.Tails.{Tail, AtSlot, AtLink, last_block, tail_in, tail_of, IsClear}
 use Rattle.log_image.specs.Taken.{is_taken}
 use Rattle.log_image.proofs.HoldingLemmas.{both_left}
 use Rattle.log_image.proofs.ImageLemmas.{length_range}
@@ -27,22 +27,22 @@ use Rattle.log_image.proofs.BlockLemmas.{set_here, set_elsewhere}
 use Rattle.image_steps.proofs.SlotLemmas.{no_words, no_seal}
 use Rattle.log_image.proofs.HeaderSteps.{header_shape, header_same, long_words}
 use Rattle.image_steps.proofs.KeptHeaders.{keeps_header}
-use Rattle.log_image.proofs.NameLemmas.{is_in, or_left, different_join}
+use Rattle.log_image.proofs.NameLemmas.{or_left, different_join}
 use Rattle.image_steps.proofs.TailLemmas.{split_chain, last_of, AtTail, at_tail, no_lead, chain_taken, in_right, InBlock, after_in_block, by_block}
 use Rattle.log_image.proofs.SetWordLemmas.{drop_first, set_header, set_front, set_named, set_names, tail_inside}
 use Rattle.image_steps.proofs.StoreStep.{nothing_after, holds_kept}
 
--- what a hole that is a link says
+-- what a tail that is a link says
 pub record IsEnd (words : List ℕ) (tail block : ℕ) : Type 0 where
   pub closed : is_closed (slots_of words) ≡ true
   pub same_block : tail ≡ block
 
-link_hole : (words : List ℕ) (tail block : ℕ) → hole_in tail words ≡ AtLink block → IsEnd words tail block
-link_hole words tail block is = go (is_closed (slots_of words)) refl is
+link_tail : (words : List ℕ) (tail block : ℕ) → tail_in tail words ≡ AtLink block → IsEnd words tail block
+link_tail words tail block is = go (is_closed (slots_of words)) refl is
   where
     go : (closed : Bool) → is_closed (slots_of words) ≡ closed → (if closed then AtLink tail else AtSlot tail (3 + length (entry_words (slots_of words)))) ≡ AtLink block → IsEnd words tail block
-    go true closes hole = record { closed = closes; same_block = cc }
-    go false opens hole = cc
+    go true closes tail = record { closed = closes; same_block = cc }
+    go false opens tail = cc
 
 -- the tail, closed, and a fresh log block
 pub record ClosedTail (shape : Shape) (old front : List ℕ) (tail next : ℕ) (position : ℕ) : Type 0 where
@@ -152,12 +152,12 @@ link_extends shape old front tail next file position is stands =
       below_limit = omega (arith, stands.format.below_limit);
     }
 
--- the hole is the new block's first slot
-fresh_hole : (shape : Shape) (old front : List ℕ) (tail next position : ℕ) → ClosedTail shape old front tail next position → hole_in next (block_words (linked shape old tail next) shape next) ≡ AtSlot next 3
-fresh_hole shape old front tail next position is =
+-- the tail is the new block's first slot
+fresh_tail : (shape : Shape) (old front : List ℕ) (tail next position : ℕ) → ClosedTail shape old front tail next position → tail_in next (block_words (linked shape old tail next) shape next) ≡ AtSlot next 3
+fresh_tail shape old front tail next position is =
     let first : get_or (slots_of (block_words old shape next)) 0 0 ≡ 0 = fresh_first position (block_words old shape next) is.fresh in
     let some : 0 < length (slots_of (block_words old shape next)) = omega (arith, length-drop 3 (block_words old shape next), length_range old (next * words_in shape) (words_in shape) is.next_whole, is.long) in
-    ap (λ (l : List ℕ). hole_in next l) (next_same shape old front tail next position is)
+    ap (λ (l : List ℕ). tail_in next l) (next_same shape old front tail next position is)
     ∙ rw (is_open (slots_of (block_words old shape next)) first some, no_words (slots_of (block_words old shape next)) first) refl
 
 -- and nothing stands after it
@@ -173,16 +173,16 @@ fresh_clear shape old front tail next position is place after =
     go false at holds = is.fresh.rest (place - next * words_in shape)
         (omega (arith, ltb-true (next * words_in shape + 3) place (both_left (nat_lt (next * words_in shape + 3) place) (nat_lt place (next * words_in shape + words_in shape)) holds)))
 
-link_at : (old front : List ℕ) (tail : ℕ) (file : List ℕ) (position next : ℕ) → StandsClear old (front ++ tail ∷ []) file position → hole_in tail (block_words old (shape_of old) tail) ≡ AtLink tail → is_in_log (shape_of old) next ≡ true →
+link_at : (old front : List ℕ) (tail : ℕ) (file : List ℕ) (position next : ℕ) → StandsClear old (front ++ tail ∷ []) file position → tail_in tail (block_words old (shape_of old) tail) ≡ AtLink tail → is_in_log (shape_of old) next ≡ true →
     is_taken old (shape_of old) (front ++ tail ∷ []) next ≡ false → IsFreshLog position (block_words old (shape_of old) next) → TakesBlock old (linked (shape_of old) old tail next) (front ++ tail ∷ []) file position next
-link_at old front tail file position next clear hole area untaken fresh =
+link_at old front tail file position next clear tail_there area untaken fresh =
     let at : AtTail (shape_of old) old front tail = at_tail (shape_of old) old front tail file position clear.stands.stands in
     let is : ClosedTail (shape_of old) old front tail next position = record {
       long = long_words old clear.stands.header;
       at = at;
       whole = tail_inside old tail clear.stands.header at.area;
       next_whole = tail_inside old next clear.stands.header area;
-      closed = (link_hole (block_words old (shape_of old) tail) tail tail hole).closed;
+      closed = (link_tail (block_words old (shape_of old) tail) tail tail tail_there).closed;
       next_area = area;
       untaken = untaken;
       fresh = fresh;
@@ -192,8 +192,8 @@ link_at old front tail file position next clear hole area untaken fresh =
     extended (shape_of old) old (linked (shape_of old) old tail next) front tail (next ∷ []) [] at.began (link_extends (shape_of old) old front tail next file position is clear.stands.stands) in
     let same_entries : entries_of (linked (shape_of old) old tail next) (shape_of old) (front ++ tail ∷ next ∷ []) ≡ entries_of old (shape_of old) (front ++ tail ∷ []) = done.entries ∙ nothing_after (entries_of old (shape_of old) (front ++ tail ∷ [])) in
     let joined : front ++ tail ∷ next ∷ [] ≡ (front ++ tail ∷ []) ++ next ∷ [] = sym (append_assoc front (tail ∷ []) (next ∷ [])) in
-    let new_hole : hole_of (linked (shape_of old) old tail next) (shape_of old) ((front ++ tail ∷ []) ++ next ∷ []) ≡ AtSlot next 3 =
-    ap (λ (b : ℕ). hole_in b (block_words (linked (shape_of old) old tail next) (shape_of old) b)) (last_of 0 (front ++ tail ∷ []) next) ∙ fresh_hole (shape_of old) old front tail next position is in
+    let new_tail : tail_of (linked (shape_of old) old tail next) (shape_of old) ((front ++ tail ∷ []) ++ next ∷ []) ≡ AtSlot next 3 =
+    ap (λ (b : ℕ). tail_in b (block_words (linked (shape_of old) old tail next) (shape_of old) b)) (last_of 0 (front ++ tail ∷ []) next) ∙ fresh_tail (shape_of old) old front tail next position is in
     record {
       header = keeps_header old (linked (shape_of old) old tail next) header;
       stands = record {
@@ -210,21 +210,21 @@ link_at old front tail file position next clear hole area untaken fresh =
                     (set_named (shape_of old) old (front ++ tail ∷ []) tail 0 next (omega (arith, is.long)) at.area clear.stands.stands.format) clear.stands.stands.holds);
               }));
         };
-        clear = subst (λ (s : Shape). IsClear (linked (shape_of old) old tail next) s (hole_of (linked (shape_of old) old tail next) s ((front ++ tail ∷ []) ++ next ∷ []))) (sym (header_shape old (linked (shape_of old) old tail next) header))
-            (subst (λ (h : Hole). IsClear (linked (shape_of old) old tail next) (shape_of old) h) (sym new_hole) (fresh_clear (shape_of old) old front tail next position is));
+        clear = subst (λ (s : Shape). IsClear (linked (shape_of old) old tail next) s (tail_of (linked (shape_of old) old tail next) s ((front ++ tail ∷ []) ++ next ∷ []))) (sym (header_shape old (linked (shape_of old) old tail next) header))
+            (subst (λ (h : Tail). IsClear (linked (shape_of old) old tail next) (shape_of old) h) (sym new_tail) (fresh_clear (shape_of old) old front tail next position is));
       };
       entries = subst (λ (l : List ℕ). entries_of (linked (shape_of old) old tail next) (shape_of old) l ≡ entries_of old (shape_of old) (front ++ tail ∷ [])) joined same_entries;
-      hole = new_hole;
+      tail = new_tail;
     }
 
 pub links_grow_the_log : LinksGrowTheLog
-links_grow_the_log old [] file position block next clear hole area untaken fresh = absurd clear.stands.stands.is_chain.linked
-links_grow_the_log old (first ∷ rest) file position block next clear hole area untaken fresh =
+links_grow_the_log old [] file position block next clear tail_there area untaken fresh = absurd clear.stands.stands.is_chain.linked
+links_grow_the_log old (first ∷ rest) file position block next clear tail_there area untaken fresh =
     let split : (front : List ℕ) × (first ∷ rest ≡ front ++ last_block first rest ∷ []) = split_chain first rest in
-    let same : last_block first rest ≡ block = (link_hole (block_words old (shape_of old) (last_block first rest)) (last_block first rest) block hole).same_block in
+    let same : last_block first rest ≡ block = (link_tail (block_words old (shape_of old) (last_block first rest)) (last_block first rest) block tail_there).same_block in
     let at : block * words_in (shape_of old) + 0 ≡ block * words_in (shape_of old) = omega arith in
     subst (λ (l : List ℕ). TakesBlock old (set old (block * words_in (shape_of old)) next) l file position next) (sym split.1)
     (subst (λ (n : ℕ). TakesBlock old (set old n next) (split.0 ++ last_block first rest ∷ []) file position next) (ap (λ (b : ℕ). b * words_in (shape_of old) + 0) same ∙ at)
     (link_at old split.0 (last_block first rest) file position next (subst (λ (l : List ℕ). StandsClear old l file position) split.1 clear)
-    (hole ∙ ap (λ (b : ℕ). AtLink b) (sym same)) area
+    (tail_there ∙ ap (λ (b : ℕ). AtLink b) (sym same)) area
     (subst (λ (l : List ℕ). is_taken old (shape_of old) l next ≡ false) split.1 untaken) fresh))

@@ -4,6 +4,7 @@ use Rattle.std.proofs.lemmas.Bool.Decides.{nat_tests}
 use Rattle.log_image.specs.Blocks.{entry_words, is_closed}
 use Rattle.log_image.specs.Format.{is_seal_last, is_seal_placed}
 use Rattle.log_image.proofs.ClearedChains.{both}
+use Rattle.log_image.proofs.Clearing.{Later, later}
 
 -- a slot that holds an entry
 pub record IsUsed (word : ℕ) : Type 0 where
@@ -14,24 +15,6 @@ pub record IsUsed (word : ℕ) : Type 0 where
 pub record IsOpen (slots : List ℕ) : Type 0 where
   pub open_slots : is_closed slots ≡ false
   pub clear : (place : ℕ) → length (entry_words slots) < place → get_or slots place 0 ≡ 0
-
--- what follows of open slots whose first is used
-pub record Later (slot : ℕ) (slots : List ℕ) : Type 0 where
-  pub entry : (slot == 3) ≡ false
-  pub opens : is_closed slots ≡ false
-  pub words : entry_words (slot ∷ slots) ≡ slot ∷ entry_words slots
-
-pub later : (slot : ℕ) (slots : List ℕ) → is_closed (slot ∷ slots) ≡ false → (slot == 0) ≡ false → Later slot slots
-later slot slots opens used = go (slot == 3) refl
-  where
-    go : (seal : Bool) → (slot == 3) ≡ seal → Later slot slots
-    go true is = absurd (not_both (slot == 0) (slot == 3) (is_closed slots) used is opens)
-      where
-        not_both : (empty sealed rest : Bool) → empty ≡ false → sealed ≡ true → (if empty then false else if sealed then true else rest) ≡ false → ⊥
-        not_both true sealed rest a b c = cc
-        not_both false true rest a b c = cc
-        not_both false false rest a b c = cc
-    go false is = record { entry = is; opens = rw (used, is) at opens; words = rw (used, is) refl }
 
 later_open : (slot : ℕ) (slots : List ℕ) → IsOpen (slot ∷ slots) → (slot == 0) ≡ false → IsOpen slots
 later_open slot slots is used =
@@ -112,12 +95,3 @@ closed_set (slot ∷ slots) word is used = go (slot == 0) refl (λ opens. closed
     go false some rest =
         let after : Later slot slots = later slot slots is.open_slots some in
         rw after.words (rw (some, after.entry) (rest (later_open slot slots is some) ∙ same_test (length (entry_words slots)) (length slots)))
-
--- open slots end after their first empty one
-pub hole_inside : (slots : List ℕ) → is_closed slots ≡ false → length (entry_words slots) < length slots
-hole_inside [] opens = cc
-hole_inside (slot ∷ slots) opens = go (slot == 0) refl (λ rest. hole_inside slots rest)
-  where
-    go : (empty : Bool) → (slot == 0) ≡ empty → (is_closed slots ≡ false → length (entry_words slots) < length slots) → length (entry_words (slot ∷ slots)) < length (slot ∷ slots)
-    go true is rest = rw is (omega arith)
-    go false is rest = (let after : Later slot slots = later slot slots opens is in rw after.words (omega (arith, rest after.opens)))

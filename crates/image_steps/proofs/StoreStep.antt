@@ -9,10 +9,10 @@ use Rattle.log_image.specs.Entries.{Meaning, all_names}
 use Rattle.log_image.specs.Blocks.{slots_of, entry_words, leads_on}
 use Rattle.log_image.specs.Format.{is_seal_placed}
 use Rattle.std.proofs.lemmas.Bool.{eq-eqb}
-use Rattle.log_image.specs.Chains.{all_different}
+use Rattle.log_image.specs.Chains.{all_different, is_in}
 use Rattle.log_image.specs.Positions.{entries_of}
 use Rattle.log_image.specs.Stands.{HoldsFile, StandsIn}
-use Rattle.log_image.specs.Holes.{Hole, last_block, hole_in, hole_of, IsClear}
+use Rattle.log_image.specs.Tails.{Tail, last_block, tail_in, tail_of, IsClear}
 use Rattle.log_image.proofs.ImageLemmas.{in_block}
 use Rattle.log_image.specs.SameWords.{SameHeader}
 use Rattle.image_steps.specs.Steps.{StandsClear, KeepsTaken, StandsAsBefore, StoresMeanNothing}
@@ -21,7 +21,7 @@ use Rattle.log_image.proofs.EntrySteps.{placed_in}
 use Rattle.image_steps.proofs.Extension.{Extends, Extended, extended}
 use Rattle.log_image.proofs.HeaderSteps.{header_shape, header_same, long_words}
 use Rattle.image_steps.proofs.KeptHeaders.{keeps_header}
-use Rattle.log_image.proofs.NameLemmas.{is_in, each_in, or_left}
+use Rattle.log_image.proofs.NameLemmas.{each_in, or_left}
 use Rattle.image_steps.proofs.TailLemmas.{split_chain, last_of, AtTail, at_tail, in_left, in_right, chain_taken, name_taken, map_in_names, clear_kept}
 
 pub nothing_after : {X : Type 0} (xs : List X) → xs ++ [] ≡ xs
@@ -88,8 +88,8 @@ stores_at old new front tail file position clear keeps =
     let same_entries : entries_of new (shape_of old) (front ++ tail ∷ []) ≡ entries_of old (shape_of old) (front ++ tail ∷ []) = is.entries ∙ nothing_after (entries_of old (shape_of old) (front ++ tail ∷ [])) in
     let tail_same : block_words new (shape_of old) tail ≡ block_words old (shape_of old) tail = keeps.each tail (chain_taken old (shape_of old) (front ++ tail ∷ []) tail (in_right front (tail ∷ []) tail (or_left (tail == tail) false (eq-eqb tail tail refl)))) in
     let last : last_block 0 (front ++ tail ∷ []) ≡ tail = last_of 0 front tail in
-    let old_hole : hole_of old (shape_of old) (front ++ tail ∷ []) ≡ hole_in tail (block_words old (shape_of old) tail) = ap (λ (b : ℕ). hole_in b (block_words old (shape_of old) b)) last in
-    let new_hole : hole_of new (shape_of old) (front ++ tail ∷ []) ≡ hole_in tail (block_words new (shape_of old) tail) = ap (λ (b : ℕ). hole_in b (block_words new (shape_of old) b)) last in
+    let old_tail : tail_of old (shape_of old) (front ++ tail ∷ []) ≡ tail_in tail (block_words old (shape_of old) tail) = ap (λ (b : ℕ). tail_in b (block_words old (shape_of old) b)) last in
+    let new_tail : tail_of new (shape_of old) (front ++ tail ∷ []) ≡ tail_in tail (block_words new (shape_of old) tail) = ap (λ (b : ℕ). tail_in b (block_words new (shape_of old) b)) last in
     record {
       header = keeps_header old new header;
       stands = record {
@@ -104,12 +104,12 @@ stores_at old new front tail file position clear keeps =
                 (holds_kept (shape_of old) old new (entries_of old (shape_of old) (front ++ tail ∷ [])) file (λ b inside. keeps.each b (name_taken old (shape_of old) (front ++ tail ∷ []) b inside)) clear.stands.stands.holds);
           });
         };
-        clear = subst (λ (s : Shape). IsClear new s (hole_of new s (front ++ tail ∷ []))) (sym (header_shape old new header))
-            (subst (λ (h : Hole). IsClear new (shape_of old) h) (sym new_hole)
-            (clear_kept (shape_of old) old new tail (omega (arith, long)) tail_same (subst (λ (h : Hole). IsClear old (shape_of old) h) old_hole clear.clear)));
+        clear = subst (λ (s : Shape). IsClear new s (tail_of new s (front ++ tail ∷ []))) (sym (header_shape old new header))
+            (subst (λ (h : Tail). IsClear new (shape_of old) h) (sym new_tail)
+            (clear_kept (shape_of old) old new tail (omega (arith, long)) tail_same (subst (λ (h : Tail). IsClear old (shape_of old) h) old_tail clear.clear)));
       };
       entries = same_entries;
-      hole = new_hole ∙ ap (λ (l : List ℕ). hole_in tail l) tail_same ∙ sym old_hole;
+      tail = new_tail ∙ ap (λ (l : List ℕ). tail_in tail l) tail_same ∙ sym old_tail;
     }
 
 pub stores_mean_nothing : StoresMeanNothing

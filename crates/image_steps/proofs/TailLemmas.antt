@@ -8,16 +8,16 @@ use Rattle.log_image.specs.Image.{Shape, words_in, is_in_log, block_words}
 use Rattle.log_image.specs.Entries.{Meaning, names, all_names}
 use Rattle.log_image.specs.Blocks.{is_snapshot, link_of, slots_of, entry_words, is_closed, leads_on}
 use Rattle.log_image.specs.Maps.{block_in, map_of}
-use Rattle.log_image.specs.Chains.{Leads, IsLinked, logs_of}
+use Rattle.log_image.specs.Chains.{LeadsAlong, IsLinked, logs_of, is_in}
 use Rattle.log_image.specs.Positions.{entries_of}
 use Rattle.log_image.specs.Format.{is_log_block}
 use Rattle.log_image.specs.Stands.{StandsIn}
-use Rattle.log_image.specs.Holes.{AtSlot, AtLink, last_block, hole_in, is_after, IsClear}
+use Rattle.log_image.specs.Tails.{AtSlot, AtLink, last_block, tail_in, is_after, IsClear}
 use Rattle.log_image.specs.Taken.{named_blocks, is_taken}
 use Rattle.log_image.proofs.HoldingLemmas.{both_left, both_right}
 use Rattle.log_image.proofs.ImageLemmas.{in_block}
 use Rattle.log_image.proofs.ListLemmas.{all_back}
-use Rattle.log_image.proofs.NameLemmas.{is_in, or_left, or_right}
+use Rattle.log_image.proofs.NameLemmas.{or_left, or_right}
 use Rattle.log_image.proofs.ChainSteps.{logs_front}
 use Rattle.image_steps.proofs.Extension.{Began}
 
@@ -38,7 +38,7 @@ pub record AtTail (shape : Shape) (words front : List ℕ) (tail : ℕ) : Type 0
   pub area : is_in_log shape tail ≡ true
   pub ends : leads_on (block_words words shape tail) ≡ false
 
-tail_leads : (words : List ℕ) (shape : Shape) (block : ℕ) (front : List ℕ) (tail : ℕ) → Leads words shape block (front ++ tail ∷ []) → leads_on (block_words words shape tail) ≡ false
+tail_leads : (words : List ℕ) (shape : Shape) (block : ℕ) (front : List ℕ) (tail : ℕ) → LeadsAlong words shape block (front ++ tail ∷ []) → leads_on (block_words words shape tail) ≡ false
 tail_leads words shape block [] tail leads = leads.2
 tail_leads words shape block (next ∷ front) tail leads = tail_leads words shape next front tail leads.2
 
@@ -151,10 +151,10 @@ by_block shape words block place inside =
     let whole : block * words_in shape + (place - block * words_in shape) ≡ place = omega (arith, inside.from) in
     ap (λ (n : ℕ). get_or words n 0) (sym whole) ∙ sym (in_block words shape block (place - block * words_in shape) (omega (arith, inside.from, inside.below)))
 
--- where a block is the same, what stands after its hole is the same
-pub clear_kept : (shape : Shape) (old new : List ℕ) (block : ℕ) → 0 < words_in shape → block_words new shape block ≡ block_words old shape block → IsClear old shape (hole_in block (block_words old shape block)) → IsClear new shape (hole_in block (block_words new shape block))
+-- where a block is the same, what stands after its tail is the same
+pub clear_kept : (shape : Shape) (old new : List ℕ) (block : ℕ) → 0 < words_in shape → block_words new shape block ≡ block_words old shape block → IsClear old shape (tail_in block (block_words old shape block)) → IsClear new shape (tail_in block (block_words new shape block))
 clear_kept shape old new block some same clear =
-    subst (λ (l : List ℕ). IsClear new shape (hole_in block l)) (sym same) (go (is_closed (slots_of (block_words old shape block))) clear)
+    subst (λ (l : List ℕ). IsClear new shape (tail_in block l)) (sym same) (go (is_closed (slots_of (block_words old shape block))) clear)
   where
     go : (closed : Bool) → IsClear old shape (if closed then AtLink block else AtSlot block (3 + length (entry_words (slots_of (block_words old shape block))))) →
         IsClear new shape (if closed then AtLink block else AtSlot block (3 + length (entry_words (slots_of (block_words old shape block)))))

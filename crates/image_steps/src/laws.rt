@@ -7,12 +7,12 @@ pub fn law_stores()
     ensures { StoresMeanNothing }
 {}
 
-/// A direct entry in the slot that is the hole is a write, where its blocks hold the new file.
+/// A direct entry in the slot that is the tail is a write, where its blocks hold the new file.
 pub fn law_entries()
     ensures { EntriesAreWrites }
 {}
 
-/// The link that is the hole, set to a fresh log block, makes the chain longer and changes no more.
+/// The link that is the tail, set to a fresh log block, makes the chain longer and changes no more.
 pub fn law_links()
     ensures { LinksGrowTheLog }
 {}

@@ -6,12 +6,11 @@ use Rattle.std.proofs.Math.Nat.{mul-le-mul_right}
 use Rattle.log_entry.specs.Geometry.{HasShape}
 use Rattle.log_entry.specs.declared.shapes.Geometry.{Geometry}
 use Rattle.log_entry.specs.declared.layouts.TheConstants.{EMPTY, SEAL}
-use Rattle.log_image.specs.Image.{Shape, total, words_in, block_words}
+use Rattle.log_image.specs.Image.{Shape, total, words_in, block_words, shape_by}
 use Rattle.log_image.specs.Header.{shape_of}
 use Rattle.log_image.specs.Blocks.{entry_words}
 use Rattle.log_image.specs.Chains.{IsChain}
 use Rattle.log_image.specs.Positions.{position_of}
-use Rattle.chain_reader.specs.Tables.{shape_by}
 use Rattle.chain_reader.specs.ChainBlocks.{is_sound}
 use Rattle.chain_reader.specs.Reads.{StandForSome, IsReadOf}
 use Rattle.chain_reader.specs.declared.reading.ChainRead.{ChainRead}

@@ -11,14 +11,14 @@ use Rattle.io_ends.proofs.GivingLemmas.{gives-twice}
 use Rattle.std.proofs.Math.ListN.{get_or-append}
 use Rattle.std.proofs.Math.Nat.{mod-lt, div-add-mod, mul-le-mul_right}
 use Rattle.block_table.specs.FileMap.{FileMap, block_at}
-use Rattle.log_image.specs.Image.{Shape}
+use Rattle.log_image.specs.Image.{Shape, shape_by}
 use Rattle.log_image.specs.Header.{shape_of}
 use Rattle.log_image.specs.Entries.{Meaning}
 use Rattle.log_image.specs.Maps.{map_of}
 use Rattle.log_image.specs.Positions.{entries_of}
 use Rattle.log_image.specs.Stands.{HoldsFile, StandsBy}
 use Rattle.log_entry.specs.Geometry.{HasShape}
-use Rattle.chain_reader.specs.Tables.{shape_by, HasMap}
+use Rattle.chain_reader.specs.Tables.{HasMap}
 use Rattle.chain_reader.specs.Reads.{IsReadOf}
 use Rattle.chain_reader.specs.declared.reading.ChainRead.{ChainRead}
 use Rattle.chain_reader.proofs.WalkLemmas.{same_shape}

@@ -7,34 +7,33 @@ use Rattle.std.proofs.lemmas.List.{length-replicate, length-set, get_or-drop, le
 use Rattle.std.proofs.lemmas.Bool.Decides.{nat_tests}
 use Rattle.std.proofs.Math.Nat.{mul-le-mul_right}
 use Rattle.log_image.specs.Entries.{Meaning, all_names}
-use Rattle.log_entry.specs.Fields.{field, placed}
+use Rattle.log_entry.specs.Fields.{field, field_word}
 use Rattle.log_entry.specs.Geometry.{HasShape, shape_refusal}
 use Rattle.log_entry.specs.Shape.{total_of}
 use Rattle.log_entry.specs.Words.{head_word, block_word}
 use Rattle.log_entry.specs.declared.layouts.TheConstants.{HEAD_GENERATION}
 use Rattle.log_entry.specs.declared.words.BlockKind.TheVariants.{Log}
 use Rattle.log_entry.specs.declared.shapes.Geometry.{Geometry}
-use Rattle.log_image.specs.Image.{Shape, words_in, total, block_words}
+use Rattle.log_image.specs.Image.{Shape, words_in, total, block_words, shape_by}
 use Rattle.log_image.specs.Header.{shape_of, generation_of}
 use Rattle.log_image.specs.Blocks.{is_snapshot, slots_of, entry_words, is_closed}
 use Rattle.log_image.specs.Positions.{entries_of}
-use Rattle.log_image.specs.Holes.{AtSlot, hole_of, IsClear}
+use Rattle.log_image.specs.Tails.{AtSlot, tail_of, IsClear}
 use Rattle.log_image.specs.Stands.{StandsBy}
 use Rattle.log_image.specs.Taken.{is_taken, HasTaken}
-use Rattle.log_image.specs.Keeps.{Keeps}
+use Rattle.log_image.specs.MayStart.{MayStart}
 use Rattle.log_image.specs.JustMade.{block_power, first_log, made_word, IsJustMade}
 use Rattle.log_image.specs.declared.header.TheConstants.{MAGIC, VERSION, HEADER_VERSION, HEADER_BLOCK_POWER, HEADER_DATA, HEADER_LOG}
 use Rattle.log_image.proofs.ImageLemmas.{in_block, length_range}
 use Rattle.log_image.proofs.MadeImages.{just_made_stands}
-use Rattle.chain_reader.specs.Tables.{shape_by}
 use Rattle.chain_reader.proofs.WalkLemmas.{block_range}
 use Rattle.image_tools.specs.Made.{HasBitsOf}
 use Rattle.image_tools.proofs.BitLemmas.{zeros_at, written_at}
 
 -- the words written in turn, the last of the header first
 pub is_made : (shape : Shape) (count at chain head areas version : ℕ) → count ≡ total shape * words_in shape → at ≡ first_log shape * words_in shape + 1 → at < count → 4 ≤ count →
-    chain ≡ block_word (record { kind = Log; base = 0 }) → head ≡ head_word (record { generation = 1; block = first_log shape }) → areas ≡ placed HEADER_DATA shape.data_blocks + placed HEADER_LOG shape.log_blocks →
-    version ≡ placed HEADER_VERSION VERSION + placed HEADER_BLOCK_POWER (block_power shape.block_bytes) →
+    chain ≡ block_word (record { kind = Log; base = 0 }) → head ≡ head_word (record { generation = 1; block = first_log shape }) → areas ≡ field_word HEADER_DATA shape.data_blocks + field_word HEADER_LOG shape.log_blocks →
+    version ≡ field_word HEADER_VERSION VERSION + field_word HEADER_BLOCK_POWER (block_power shape.block_bytes) →
     IsJustMade shape (set (set (set (set (set (replicate count 0) at chain) 3 head) 2 areas) 1 version) 0 MAGIC)
 is_made shape count at chain head areas version whole at_is inside few chain_is head_is areas_is version_is = record {
   whole = length-set _ 0 MAGIC ∙ length-set _ 1 version ∙ length-set _ 2 areas ∙ length-set _ 3 head ∙ length-set _ at chain ∙ length-replicate count (zero) ∙ whole;
@@ -149,16 +148,16 @@ log_empty geometry words made =
 no_entries : (words : List ℕ) (shape : Shape) → LogIsEmpty words shape → entries_of words shape (first_log shape ∷ []) ≡ []
 no_entries words shape is = rw (is.no_snapshot, is.no_entry) refl
 
--- nothing stands after its hole
+-- nothing stands after its tail
 clear_made : (geometry : Geometry) (words : List ℕ) → IsJustMade (shape_by geometry) words → LogIsEmpty words (shape_by geometry) →
-    IsClear words (shape_by geometry) (hole_of words (shape_by geometry) (first_log (shape_by geometry) ∷ []))
-clear_made geometry words made is = subst (λ h. IsClear words shape h) (sym hole) clear
+    IsClear words (shape_by geometry) (tail_of words (shape_by geometry) (first_log (shape_by geometry) ∷ []))
+clear_made geometry words made is = subst (λ h. IsClear words shape h) (sym tail) clear
   where
     shape : Shape
     shape = shape_by geometry
 
-    hole : hole_of words shape (first_log shape ∷ []) ≡ AtSlot (first_log shape) 3
-    hole = rw (is.is_open, is.no_entry) refl
+    tail : tail_of words shape (first_log shape ∷ []) ≡ AtSlot (first_log shape) 3
+    tail = rw (is.is_open, is.no_entry) refl
 
     long : 8 ≤ words_in shape
     long = (block_range geometry).0
@@ -192,7 +191,7 @@ taken_made words shape taken is bits = record {
         ∙ plain (block == 0) (first_log shape == block)
 
 -- what is kept of a just-made image
-pub made_kept : (geometry : Geometry) (words taken : List ℕ) → IsJustMade (shape_by geometry) words → HasBitsOf (total (shape_by geometry)) (first_log (shape_by geometry)) taken → Keeps geometry words taken 1 0 0
+pub made_kept : (geometry : Geometry) (words taken : List ℕ) → IsJustMade (shape_by geometry) words → HasBitsOf (total (shape_by geometry)) (first_log (shape_by geometry)) taken → MayStart geometry words taken 1 0 0
 made_kept geometry words taken made bits =
     let stands : (shape_of words ≡ shape_by geometry) × StandsBy words (first_log (shape_by geometry) ∷ []) [] 0 = just_made_stands (shape_by geometry) words (allowed geometry) made in
     let is : LogIsEmpty words (shape_by geometry) = log_empty geometry words made in
@@ -203,7 +202,7 @@ made_kept geometry words taken made bits =
       same_size = refl;
       same_geometry = subst (λ (s : Shape). HasShape geometry s.data_blocks s.log_blocks s.block_bytes) (sym stands.0) (record { same_data = refl; same_log = refl; same_bytes = refl });
       same_generation = first_generation (first_log (shape_by geometry)) (omega (arith, geometry.few_blocks)) (made.each 3);
-      clear = subst (λ (s : Shape). IsClear words s (hole_of words s (first_log (shape_by geometry) ∷ []))) (sym stands.0) (clear_made geometry words made is);
+      clear = subst (λ (s : Shape). IsClear words s (tail_of words s (first_log (shape_by geometry) ∷ []))) (sym stands.0) (clear_made geometry words made is);
       bitmap = subst (λ (s : Shape). HasTaken words s (first_log (shape_by geometry) ∷ []) taken) (sym stands.0) (taken_made words (shape_by geometry) taken is bits);
     }
   where

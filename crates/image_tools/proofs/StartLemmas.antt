@@ -12,41 +12,40 @@ use Rattle.block_table.specs.FileMap.{block_at}
 use Rattle.log_entry.specs.Geometry.{HasShape}
 use Rattle.log_entry.specs.Shape.{longest_of, limit_of}
 use Rattle.log_entry.specs.declared.shapes.Geometry.{Geometry}
-use Rattle.log_image.specs.Image.{Shape, total, words_in, is_in_data, block_words}
+use Rattle.log_image.specs.Image.{Shape, total, words_in, is_in_data, block_words, shape_by}
 use Rattle.log_image.specs.Header.{shape_of}
 use Rattle.log_image.specs.Entries.{meaning}
-use Rattle.log_image.specs.Maps.{end_of, size_after}
+use Rattle.log_image.specs.Maps.{entry_end, size_after}
 use Rattle.log_image.specs.Blocks.{file_size, entry_count, slots_of, entry_words}
 use Rattle.log_image.specs.Chains.{IsChain, snapshots_of, logs_of, first_size, snapshot_size}
 use Rattle.log_image.specs.Positions.{log_words, size_at_end}
 use Rattle.log_image.specs.Format.{fits, is_direct, is_indirect, has_runs, is_log_entry, is_log_block, is_snapshot_entry, is_snapshot_block, is_seal_placed, all_zero, HasFormat}
 use Rattle.log_image.specs.Stands.{StandsBy, Stands}
-use Rattle.log_image.specs.Keeps.{Keeps}
+use Rattle.log_image.specs.MayStart.{MayStart}
 use Rattle.log_image.proofs.HoldingLemmas.{both_left, both_right}
 use Rattle.log_image.proofs.ClearedEntries.{map_in_data}
-use Rattle.chain_reader.specs.Tables.{shape_by}
 use Rattle.chain_reader.specs.Reads.{StandForSome, IsReadOf}
 use Rattle.chain_reader.specs.declared.reading.ChainRead.{ChainRead}
 use Rattle.chain_reader.proofs.FitsLemmas.{Fitting, fitting, inside_data}
 use Rattle.chain_reader.proofs.WalkLemmas.{same_shape}
 
 -- the words of a start stand for a file
-pub kept_stands : (geometry : Geometry) (words taken : List ℕ) (generation position size : ℕ) → ∥ Keeps geometry words taken generation position size ∥₁ → StandForSome words
+pub kept_stands : (geometry : Geometry) (words taken : List ℕ) (generation position size : ℕ) → ∥ MayStart geometry words taken generation position size ∥₁ → StandForSome words
 kept_stands geometry words taken generation position size kept = ∥∥₁_map kept (λ is. (is.chain, is.file, position, is.stands))
 
 -- the geometry of a start is that of its words
-pub kept_shape : (geometry : Geometry) (words taken : List ℕ) (generation position size : ℕ) → ∥ Keeps geometry words taken generation position size ∥₁ →
+pub kept_shape : (geometry : Geometry) (words taken : List ℕ) (generation position size : ℕ) → ∥ MayStart geometry words taken generation position size ∥₁ →
     HasShape geometry (shape_of words).data_blocks (shape_of words).log_blocks (shape_of words).block_bytes
 kept_shape geometry words taken generation position size kept = ∥∥₁_elim kept (hlevel ℕ_set) (λ is. is.same_geometry)
 
 -- bytes that are each file that the words of a start stand for
-pub kept_file : (geometry : Geometry) (words taken : List ℕ) (generation position size : ℕ) (bytes : List ℕ) → ∥ Keeps geometry words taken generation position size ∥₁ →
+pub kept_file : (geometry : Geometry) (words taken : List ℕ) (generation position size : ℕ) (bytes : List ℕ) → ∥ MayStart geometry words taken generation position size ∥₁ →
     ((chain file : List ℕ) (position : ℕ) → StandsBy words chain file position → bytes ≡ file) → ∥ Stands words bytes position ∥₁
 kept_file geometry words taken generation position size bytes kept each =
     ∥∥₁_map kept (λ is. (is.chain, subst (λ (l : List ℕ). StandsBy words is.chain l position) (sym (each is.chain is.file position is.stands)) is.stands))
 
 -- the size of each snapshot block, and the end of each entry, is within the limit
-log_fits : (words : List ℕ) (shape : Shape) (word : ℕ) → is_log_entry words shape word ≡ true → end_of shape (meaning words shape word) ≤ limit_of shape.block_bytes
+log_fits : (words : List ℕ) (shape : Shape) (word : ℕ) → is_log_entry words shape word ≡ true → entry_end shape (meaning words shape word) ≤ limit_of shape.block_bytes
 log_fits words shape word good =
     let fit : Fitting shape (longest_of shape.block_bytes) (meaning words shape word) =
     fitting shape (longest_of shape.block_bytes) (meaning words shape word) (both_right (is_direct word || (is_indirect word && has_runs words shape word)) (fits shape (longest_of shape.block_bytes) (meaning words shape word)) good) in
@@ -56,8 +55,8 @@ log_fits words shape word good =
 all_end : (words : List ℕ) (shape : Shape) (size : ℕ) (entries : List ℕ) → size ≤ limit_of shape.block_bytes → list_all (is_log_entry words shape) entries ≡ true → size_after shape size (map (meaning words shape) entries) ≤ limit_of shape.block_bytes
 all_end words shape size [] within good = within
 all_end words shape size (word ∷ entries) within good =
-    all_end words shape (max size (end_of shape (meaning words shape word))) entries
-    (larger size (end_of shape (meaning words shape word)) (limit_of shape.block_bytes) within (log_fits words shape word (both_left (is_log_entry words shape word) (list_all (is_log_entry words shape) entries) good)))
+    all_end words shape (max size (entry_end shape (meaning words shape word))) entries
+    (larger size (entry_end shape (meaning words shape word)) (limit_of shape.block_bytes) within (log_fits words shape word (both_left (is_log_entry words shape word) (list_all (is_log_entry words shape) entries) good)))
     (both_right (is_log_entry words shape word) (list_all (is_log_entry words shape) entries) good)
   where
     larger : (a b most : ℕ) → a ≤ most → b ≤ most → max a b ≤ most

@@ -7,9 +7,8 @@ use Rattle.log_entry.specs.declared.layouts.TheConstants.{ENTRY_KIND, SEAL, DIRE
 use Rattle.log_image.specs.Image.{Shape, block_words}
 use Rattle.log_image.specs.Header.{head_block, generation_of}
 use Rattle.log_image.specs.Entries.{run_words}
-use Rattle.log_image.specs.Blocks.{is_snapshot, base_of, entry_count, file_size, slots_of, entry_words}
+use Rattle.log_image.specs.Blocks.{is_snapshot, base_of, entry_count, file_size, slots_of, entry_words, kept_words}
 use Rattle.log_image.specs.Positions.{position_of, size_at_end}
-use Rattle.chain_reader.specs.ChainBlocks.{kept_words}
 
 -- the blocks of each area, and the bytes of a block
 unfoldable pub shape_text : Shape → List ℕ

@@ -3,9 +3,8 @@
 ghost use Rattle.std.specs.Prelude.{◌≡◌, ◌<◌, ◌≤◌, ◌+◌, ◌*◌, ◌++◌, ◌&&◌, nat_lt, List, ℕ, IsTrue, length, IfOk, OnOk};
 ghost use Rattle.std.specs.List.{list_all, flat_map};
 ghost use Rattle.log_image.specs.Header.{shape_of};
-ghost use Rattle.log_image.specs.Image.{total, words_in, block_words};
+ghost use Rattle.log_image.specs.Image.{total, words_in, block_words, shape_by};
 ghost use Rattle.log_image.specs.Chains.{IsChain};
-ghost use Rattle.chain_reader.specs.Tables.{shape_by};
 ghost use Rattle.image_tools.specs.Sound.{is_sound_block};
 ghost use Rattle.image_tools.specs.DumpText.{block_text, end_text, dump_text};
 

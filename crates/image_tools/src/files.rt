@@ -3,9 +3,8 @@
 ghost use Rattle.std.specs.Prelude.{◌≡◌, ◌<◌, ◌≤◌, ◌*◌, ◌++◌, List, ℕ, length, take, IfOk, IfSome, OnOk, OnErr};
 ghost use Rattle.io_ends.specs.Faults.{WriteAllFaults};
 ghost use Rattle.io_ends.specs.Giving.{Gives, GivesPrefix};
-ghost use Rattle.log_image.specs.Image.{total, words_in};
+ghost use Rattle.log_image.specs.Image.{total, words_in, shape_by};
 ghost use Rattle.log_image.specs.Stands.{StandsBy, Stands};
-ghost use Rattle.chain_reader.specs.Tables.{shape_by};
 ghost use Rattle.image_tools.specs.Files.{held_bytes, GivesFront};
 
 use byteorder::{ByteOrder, LittleEndian};

@@ -2,11 +2,10 @@
 
 ghost use Rattle.std.specs.Prelude.{◌≡◌, ◌<◌, ◌≤◌, ◌+◌, ◌*◌, ◌++◌, ◌&&◌, nat_lt, List, ℕ, IsTrue, codes, decimal, length, slice_index, OnOk};
 ghost use Rattle.std.specs.List.{list_all, flat_map};
-ghost use Rattle.log_image.specs.Image.{total, words_in, block_words};
+ghost use Rattle.log_image.specs.Image.{total, words_in, block_words, shape_by};
 ghost use Rattle.log_image.specs.Entries.{run_words};
 ghost use Rattle.log_image.specs.Blocks.{is_snapshot, slots_of, entry_words};
 ghost use Rattle.log_image.specs.Format.{is_log_entry, is_log_block, is_snapshot_block};
-ghost use Rattle.chain_reader.specs.Tables.{shape_by};
 ghost use Rattle.chain_reader.specs.ChainBlocks.{is_sound};
 ghost use Rattle.image_tools.specs.DumpText.{shape_text, head_text, run_text, direct_text, indirect_text, entry_text, slot_lines, seal_line, snapshot_text, log_text, block_text};
 

@@ -3,8 +3,7 @@
 ghost use Rattle.std.specs.Prelude.{◌≡◌, ◌<◌, ◌≤◌, ◌+◌, ◌*◌, List, ℕ, length, IfOk, [], ◌∷◌, replicate};
 ghost use Rattle.log_image.specs.JustMade.{block_power, made_word, IsJustMade};
 ghost use Rattle.log_image.specs.Taken.{bit_of};
-ghost use Rattle.log_image.specs.Image.{total};
-ghost use Rattle.chain_reader.specs.Tables.{shape_by};
+ghost use Rattle.log_image.specs.Image.{total, shape_by};
 ghost use Rattle.image_tools.specs.Made.{HasBitsOf};
 
 use log_entry::{Area, BlockKind, BlockWord, Geometry, Head};

@@ -5,7 +5,7 @@ use Rattle.log_entry.specs.declared.shapes.Area.{Area}
 use Rattle.log_entry.specs.declared.shapes.Area.TheVariants.{Data, Log, Spare}
 use Rattle.log_entry.specs.declared.shapes.Geometry.{Geometry}
 use Rattle.log_image.specs.Image.{Shape, total}
-use Rattle.seat_state.specs.Seats.{Seat, bitmap_words}
+use Rattle.pmem_words.specs.Seats.{Seat, bitmap_words}
 use Rattle.log_core.specs.Views.{Ghost, view_of}
 use Rattle.log_core.specs.Origin.{Origin, shape}
 use Rattle.log_core.specs.Cores.{Core}

@@ -7,8 +7,8 @@ use Rattle.std.proofs.lemmas.List.{map-append}
 use Rattle.log_image.specs.Image.{Shape}
 use Rattle.log_image.specs.Chains.{all_different}
 use Rattle.log_image.proofs.NameLemmas.{range_different}
-use Rattle.seat_parts.specs.Owned.{is_among, owned_but}
-use Rattle.seat_parts.specs.declared.owned.OwnedBlock.{OwnedBlock}
+use Rattle.pmem_words.specs.Owned.{is_among, owned_but}
+use Rattle.pmem_words.specs.declared.owned.OwnedBlock.{OwnedBlock}
 use Rattle.log_core.specs.Entries.{has}
 use Rattle.log_core.specs.Needs.{owned_numbers}
 use Rattle.log_core.specs.Steps.{is_gained, gained, taken_block}

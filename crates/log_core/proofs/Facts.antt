@@ -1,13 +1,13 @@
 -- What holds of a seat's state by the invariant; and it stays where the seat gives up its kept words.
 use Rattle.std.proofs.Common.{◌<◌, ℕ, List, [], length, refl, arith, inr, slice_index}
-use Rattle.seat_state.specs.Seats.{Seat}
+use Rattle.pmem_words.specs.Seats.{Seat}
 use Rattle.log_core.specs.Views.{View, Ghost, view_of}
 use Rattle.log_core.specs.Origin.{Origin}
 use Rattle.log_core.specs.Cores.{Core}
 use Rattle.log_core.specs.Walks.{WalkHolds}
 use Rattle.log_core.specs.Invariant.{Invariant, around}
 use Rattle.log_core.specs.Knows.{Knows}
-use Rattle.log_core.proofs.Leaves.{moved}
+use Rattle.log_core.proofs.clauses.Leaves.{moved}
 
 module _ (o : Origin) (c : Core) (n : ℕ) (inv : Invariant o c) (here : n < length c.views) where
   abbrev v : View

@@ -6,10 +6,10 @@ use Rattle.log_entry.specs.declared.calls.Op.{Op}
 use Rattle.log_entry.specs.declared.calls.Op.TheVariants.{Size}
 use Rattle.log_image.specs.Entries.{Meaning, direct_meaning, names, all_names}
 use Rattle.log_image.specs.Blocks.{entry_count as snapshot_count, slots_of}
-use Rattle.seat_parts.specs.Owned.{is_among}
-use Rattle.seat_state.specs.Seats.{Seat}
-use Rattle.pmem_words.specs.Asks.{answer}
-use Rattle.pmem_words.specs.declared.asks.Ask.{Ask}
+use Rattle.pmem_words.specs.Owned.{is_among}
+use Rattle.pmem_words.specs.Seats.{Seat}
+use Rattle.asks.specs.Asks.{answer}
+use Rattle.asks.specs.declared.ask.Ask.{Ask}
 use Rattle.persistence.specs.Memory.{found, memory_after}
 use Rattle.log_core.specs.Entries.{has}
 use Rattle.log_core.specs.Views.{view_of, spent_view, op_in}

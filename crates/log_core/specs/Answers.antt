@@ -14,7 +14,7 @@ use Rattle.log_entry.specs.declared.calls.Collected.{Collected as CollectedBlock
 use Rattle.log_entry.specs.declared.calls.Reply.{Reply}
 use Rattle.log_entry.specs.declared.calls.Reply.TheVariants.{Wrote, Appended, NotWritten, Bytes, Size as FileSize, Synced, Collected, NotCollected}
 use Rattle.log_entry.specs.declared.calls.Call.{Call}
-use Rattle.seat_state.specs.Seats.{Seat}
+use Rattle.pmem_words.specs.Seats.{Seat}
 use Rattle.log_core.specs.Views.{Ghost, HeadPut, op_in}
 use Rattle.log_core.specs.Works.{Computes, IsHeldPin, is_going_on, ended}
 use Rattle.log_core.specs.Needs.{is_area}

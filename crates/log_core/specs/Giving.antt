@@ -1,6 +1,6 @@
 -- When blocks that a collection replaced may be given back.
 use Rattle.std.specs.Prelude.{ℕ, ◌<◌, ◌≤◌, ◌≡◌, ◌⊎◌, true, false, Bool, List, length, slice_index}
-use Rattle.seat_state.specs.Seats.{Giving, Hold}
+use Rattle.pmem_words.specs.Seats.{Giving, Hold}
 use Rattle.log_core.specs.Entries.{has}
 use Rattle.log_core.specs.Views.{View, view_of}
 

@@ -1,7 +1,7 @@
 -- What the invariant says of one seat: what its state is to the core. The generation of a valid pin is the present one, or the view
 -- had it pinned.
 use Rattle.std.specs.Prelude.{ℕ, ◌+◌, ◌≡◌, ◌≢◌, ◌⊎◌, true, [], length}
-use Rattle.seat_state.specs.Seats.{Seat}
+use Rattle.pmem_words.specs.Seats.{Seat}
 use Rattle.persistence.specs.Memory.{cell}
 use Rattle.log_core.specs.Entries.{head_place}
 use Rattle.log_core.specs.Views.{View, Ghost, view_of}

@@ -13,13 +13,13 @@ use Rattle.log_entry.specs.declared.calls.Op.TheVariants.{Pwrite, Append}
 use Rattle.log_entry.specs.declared.calls.WriteRefusal.{WriteRefusal}
 use Rattle.log_image.specs.Image.{Shape, is_in_data, is_in_log}
 use Rattle.log_image.specs.Entries.{Meaning, names}
-use Rattle.log_image.specs.Maps.{block_in, end_of as entry_end}
+use Rattle.log_image.specs.Maps.{block_in, entry_end}
 use Rattle.log_image.specs.Chains.{all_different}
 use Rattle.log_image.specs.Format.{fits, is_direct, is_indirect, is_indirect_block}
-use Rattle.seat_parts.specs.Owned.{is_among}
-use Rattle.seat_parts.specs.declared.keeps.Task.TheVariants.{Sync, Collect}
-use Rattle.seat_parts.specs.declared.owned.OwnedBlock.{OwnedBlock}
-use Rattle.seat_state.specs.Seats.{Seat}
+use Rattle.pmem_words.specs.Owned.{is_among}
+use Rattle.pmem_words.specs.declared.keeps.Task.TheVariants.{Sync, Collect}
+use Rattle.pmem_words.specs.declared.owned.OwnedBlock.{OwnedBlock}
+use Rattle.pmem_words.specs.Seats.{Seat}
 use Rattle.log_core.specs.Entries.{has, place_in, head_place, meaning_by}
 use Rattle.log_core.specs.Views.{Marked, Ghost, op_in}
 use Rattle.log_core.specs.Origin.{Origin, shape}

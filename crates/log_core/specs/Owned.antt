@@ -1,9 +1,9 @@
 -- What is known of the words of owned blocks.
 use Rattle.std.specs.Prelude.{ℕ, ◌*◌, ◌/◌, ◌==◌, ◌&&◌, ◌<◌, ◌≡◌, ◌⊎◌, true, Bool, List, length}
 use Rattle.std.specs.List.{AllByRecursion, list_any}
-use Rattle.seat_parts.specs.Owned.{owned_at}
-use Rattle.seat_parts.specs.declared.owned.OwnedBlock.{OwnedBlock}
-use Rattle.seat_state.specs.Seats.{Seat}
+use Rattle.pmem_words.specs.Owned.{owned_at}
+use Rattle.pmem_words.specs.declared.owned.OwnedBlock.{OwnedBlock}
+use Rattle.pmem_words.specs.Seats.{Seat}
 use Rattle.persistence.specs.Memory.{Replaced, Noted, Cell, index_at, notes_of}
 use Rattle.log_core.specs.Entries.{has, place_in}
 use Rattle.log_core.specs.Views.{View, view_of, Ghost, Stored}

@@ -3,7 +3,7 @@ use Rattle.std.specs.Prelude.{ℕ, ◌<◌, ◌≡◌, ◌≢◌, true, Bool, Li
 use Rattle.log_image.specs.Image.{Shape, total, is_in_data, is_in_log}
 use Rattle.log_image.specs.Chains.{all_different}
 use Rattle.log_image.specs.Taken.{bit_of}
-use Rattle.seat_state.specs.Seats.{Seat}
+use Rattle.pmem_words.specs.Seats.{Seat}
 use Rattle.log_core.specs.Entries.{has}
 use Rattle.log_core.specs.Views.{View, view_of}
 use Rattle.log_core.specs.Origin.{Owner, Free, Header, InChain, OwnedBy, LeftTo}

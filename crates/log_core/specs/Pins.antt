@@ -1,6 +1,6 @@
 -- The pin words, and what the views know of the head.
 use Rattle.std.specs.Prelude.{ℕ, ◌<◌, ◌≤◌, ◌≡◌, ◌≢◌, true, List, length, slice_index}
-use Rattle.seat_state.specs.Seats.{Hold}
+use Rattle.pmem_words.specs.Seats.{Hold}
 use Rattle.persistence.specs.Memory.{Cell}
 use Rattle.persistence.specs.Survivors.{value_at}
 use Rattle.log_core.specs.Views.{View, view_of}

@@ -8,8 +8,8 @@ use Rattle.log_entry.specs.declared.calls.CollectRefusal.TheVariants.{Nothing, O
 use Rattle.log_entry.specs.declared.calls.Reply.{Reply}
 use Rattle.log_entry.specs.declared.calls.Reply.TheVariants.{Collected, NotCollected}
 use Rattle.log_entry.specs.declared.calls.Call.{Call}
-use Rattle.seat_parts.specs.declared.keeps.Task.TheVariants.{Pread}
-use Rattle.seat_state.specs.Seats.{Seat}
+use Rattle.pmem_words.specs.declared.keeps.Task.TheVariants.{Pread}
+use Rattle.pmem_words.specs.Seats.{Seat}
 use Rattle.persistence.specs.Memory.{Replaced, Noted, Cell, index_at, notes_of}
 use Rattle.persistence.specs.Survivors.{value_at}
 use Rattle.log_core.specs.Entries.{has}

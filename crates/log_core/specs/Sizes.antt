@@ -2,8 +2,8 @@
 use Rattle.std.specs.Prelude.{ℕ, ◌*◌, ◌<◌, ◌≤◌, ◌≡◌, ◌≢◌, ◌⊎◌, List, [], length, slice_index}
 use Rattle.std.specs.List.{AllByRecursion}
 use Rattle.log_image.specs.Image.{words_in, total}
-use Rattle.seat_state.specs.Seats.{bitmap_words}
-use Rattle.seat_state.specs.declared.TheConstants.{SEATS}
+use Rattle.pmem_words.specs.Seats.{bitmap_words}
+use Rattle.pmem_words.specs.declared.TheConstants.{SEATS}
 use Rattle.persistence.specs.Memory.{Memory, Noted}
 use Rattle.log_core.specs.Views.{View, view_of, spent_view}
 use Rattle.log_core.specs.Origin.{Origin, shape, first_position}

@@ -10,15 +10,16 @@ use Rattle.log_entry.specs.declared.calls.Call.{Call}
 use Rattle.log_entry.specs.declared.calls.Op.{Op}
 use Rattle.log_image.specs.Image.{Shape, total, is_in_data}
 use Rattle.log_image.specs.Entries.{Meaning, names}
-use Rattle.seat_parts.specs.Owned.{is_among, owned_but, contents_but, fenced_all}
-use Rattle.seat_parts.specs.declared.keeps.KeptWord.{KeptWord}
-use Rattle.seat_parts.specs.declared.keeps.Task.{Task}
-use Rattle.seat_parts.specs.declared.keeps.Task.TheVariants.{Sync}
-use Rattle.seat_parts.specs.declared.owned.OwnedBlock.{OwnedBlock}
-use Rattle.seat_state.specs.Seats.{Seat, Hold, Walk, Blocks, without_bits}
-use Rattle.pmem_words.specs.declared.asks.Place.TheVariants.{Image, Pin, Map, FenceOf}
-use Rattle.pmem_words.specs.declared.asks.Ask.{Ask}
-use Rattle.pmem_words.specs.declared.asks.Ask.TheVariants.{Load, Store, Exchange, SetBits, ClearBits, Mark, Fence}
+use Rattle.pmem_words.specs.Owned.{is_among, owned_but, contents_but, fenced_all}
+use Rattle.pmem_words.specs.declared.keeps.KeptWord.{KeptWord}
+use Rattle.pmem_words.specs.declared.keeps.Task.{Task}
+use Rattle.pmem_words.specs.declared.keeps.Task.TheVariants.{Sync}
+use Rattle.pmem_words.specs.declared.owned.OwnedBlock.{OwnedBlock}
+use Rattle.pmem_words.specs.Seats.{Seat, Hold, Walk, Blocks}
+use Rattle.asks.specs.Asks.{without_bits}
+use Rattle.asks.specs.declared.ask.Place.TheVariants.{Image, Pin, Map, FenceOf}
+use Rattle.asks.specs.declared.ask.Ask.{Ask}
+use Rattle.asks.specs.declared.ask.Ask.TheVariants.{Load, Store, Exchange, SetBits, ClearBits, Mark, Fence}
 use Rattle.log_core.specs.Entries.{has, head_place, place_in, meaning_by}
 use Rattle.log_core.specs.Views.{Marked, Stored, HeadPut, Running, Ghost, View, new_view, op_in}
 use Rattle.log_core.specs.Works.{shape_of, words_of, tail_index, without_bases, walk_past}

@@ -6,7 +6,7 @@ use Rattle.log_entry.specs.declared.layouts.TheConstants.{HEAD_GENERATION}
 use Rattle.log_entry.specs.declared.calls.Reply.TheVariants.{Synced}
 use Rattle.log_entry.specs.declared.calls.Call.{Call}
 use Rattle.log_image.specs.Image.{Shape}
-use Rattle.seat_parts.specs.declared.keeps.Task.TheVariants.{Sync}
+use Rattle.pmem_words.specs.declared.keeps.Task.TheVariants.{Sync}
 use Rattle.persistence.specs.Memory.{Replaced, Noted, Cell, index_at, notes_of}
 use Rattle.persistence.specs.Survivors.{value_at}
 use Rattle.log_core.specs.Entries.{place_in, head_place}

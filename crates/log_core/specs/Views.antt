@@ -7,9 +7,9 @@ use Rattle.log_entry.specs.declared.shapes.Geometry.{Geometry}
 use Rattle.log_entry.specs.declared.calls.Op.{Op}
 use Rattle.log_entry.specs.declared.calls.Op.TheVariants.{Pwrite as PwriteOp, Append as AppendOp, Pread as PreadOp, Size as SizeOp, Sync as SyncOp, Collect as CollectOp}
 use Rattle.log_entry.specs.declared.calls.Call.{Call}
-use Rattle.seat_parts.specs.declared.keeps.Task.{Task}
-use Rattle.seat_parts.specs.declared.keeps.Task.TheVariants.{Pwrite, Append, Pread, Size, Sync, Collect}
-use Rattle.seat_state.specs.Seats.{Seat, new_seat}
+use Rattle.pmem_words.specs.declared.keeps.Task.{Task}
+use Rattle.pmem_words.specs.declared.keeps.Task.TheVariants.{Pwrite, Append, Pread, Size, Sync, Collect}
+use Rattle.pmem_words.specs.Seats.{Seat, new_seat}
 
 -- an image word that the seat has marked since its last fence, and the value found
 pub record Marked : Type 0 where

@@ -5,9 +5,9 @@ use Rattle.log_image.specs.Image.{Shape, words_in}
 use Rattle.log_image.specs.Entries.{Meaning, direct_meaning}
 use Rattle.log_image.specs.Maps.{map_of}
 use Rattle.log_image.specs.Blocks.{entry_count as snapshot_count, slots_of}
-use Rattle.seat_parts.specs.declared.keeps.KeptWord.{KeptWord}
-use Rattle.seat_state.specs.Seats.{Hold, Walk}
-use Rattle.seat_state.specs.Maps.{map_at as mapped_at}
+use Rattle.pmem_words.specs.declared.keeps.KeptWord.{KeptWord}
+use Rattle.pmem_words.specs.Seats.{Hold, Walk}
+use Rattle.pmem_words.specs.Maps.{map_at as mapped_at}
 use Rattle.log_core.specs.Entries.{has, place_in, LogEntry}
 use Rattle.log_core.specs.Views.{View, view_of}
 use Rattle.log_core.specs.Origin.{Origin, shape, first_position, first_generation, LogBlock, Generation}

@@ -2,14 +2,14 @@
 use Rattle.std.specs.Prelude.{ℕ, ◌<◌, ◌≤◌, ◌≡◌, ◌≢◌, true, List, [], length, slice_index}
 use Rattle.std.specs.List.{list_all}
 use Rattle.log_entry.specs.declared.calls.Call.{Call}
-use Rattle.seat_state.specs.Seats.{Seat}
+use Rattle.pmem_words.specs.Seats.{Seat}
 use Rattle.pmem_words.specs.Scripts.{Script}
 use Rattle.pmem_words.specs.Courses.{Course}
-use Rattle.pmem_words.specs.declared.asks.Ask.{Ask}
-use Rattle.pmem_words.specs.declared.asks.Turn.{Turn}
-use Rattle.pmem_words.specs.declared.asks.Turn.TheVariants.{Go, Done}
+use Rattle.asks.specs.declared.ask.Ask.{Ask}
+use Rattle.pmem_words.specs.declared.machine.Turn.{Turn}
+use Rattle.pmem_words.specs.declared.machine.Turn.TheVariants.{Go, Done}
 use Rattle.pmem_words.specs.Parts.{Next, Into, End}
-use Rattle.pmem_words.specs.PlainWords.{PlainWords}
+use Rattle.asks.specs.SharedWords.{SharedWords}
 use Rattle.persistence.specs.Memory.{Memory, found_answer}
 use Rattle.log_core.specs.Views.{View, Ghost, view_of, op_in}
 use Rattle.log_core.specs.Origin.{Origin, q_of}
@@ -119,7 +119,7 @@ FitsNext rec P R t g (Into m s) = EntersOffered g t s [] × P m s g
 FitsNext rec P R t g (End out s) = EntersOffered g t s (rec out s) × (rec out s ≡ []) × R out s g
 
 -- a memory of one caller has the words of a core's: the pin words of the seats that there are, and perhaps more
-pub record Agrees (p : PlainWords) (memory : Memory) : Type 0 where
+pub record Agrees (p : SharedWords) (memory : Memory) : Type 0 where
   pub words : p.words ≡ memory.now.words
   pub taken : p.taken ≡ memory.now.taken
   pub long : length memory.now.pins ≤ length p.pins
@@ -127,7 +127,7 @@ pub record Agrees (p : PlainWords) (memory : Memory) : Type 0 where
 
 -- where a machine that ran alone on such a memory has ended: it has the words of a core that a run reaches, in which the seat has this
 -- view
-pub record EndsAlone {Out : Type 0} (o : Origin) (seat : ℕ) (Q : Out → Seat → View → Type 0) (out : Out) (t : Seat) (p : PlainWords) : Type 0 where
+pub record EndsAlone {Out : Type 0} (o : Origin) (seat : ℕ) (Q : Out → Seat → View → Type 0) (out : Out) (t : Seat) (p : SharedWords) : Type 0 where
   pub core : Core
   pub reached : IsReached o core
   pub made : seat < length core.views

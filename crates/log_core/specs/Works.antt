@@ -15,12 +15,12 @@ use Rattle.log_entry.specs.declared.calls.Call.{Call}
 use Rattle.log_image.specs.Entries.{Meaning, direct_meaning}
 use Rattle.log_image.specs.Maps.{block_in}
 use Rattle.log_image.specs.Image.{Shape}
-use Rattle.seat_parts.specs.Owned.{with_filled, with_fenced}
-use Rattle.seat_parts.specs.declared.keeps.Task.{Task}
-use Rattle.seat_parts.specs.declared.keeps.Task.TheVariants.{Idle, Pread, Collect}
-use Rattle.seat_parts.specs.declared.keeps.KeptWord.{KeptWord}
-use Rattle.seat_state.specs.Maps.{unmapped, map_at}
-use Rattle.seat_state.specs.Seats.{Seat, Walk, Calling, q_of}
+use Rattle.pmem_words.specs.Owned.{with_filled, with_fenced}
+use Rattle.pmem_words.specs.declared.keeps.Task.{Task}
+use Rattle.pmem_words.specs.declared.keeps.Task.TheVariants.{Idle, Pread, Collect}
+use Rattle.pmem_words.specs.declared.keeps.KeptWord.{KeptWord}
+use Rattle.pmem_words.specs.Maps.{unmapped, map_at}
+use Rattle.pmem_words.specs.Seats.{Seat, Walk, Calling, q_of}
 use Rattle.log_core.specs.Entries.{place_in, meaning_by}
 use Rattle.log_core.specs.Views.{Ghost, Stored, op_in, op_of}
 
@@ -360,7 +360,7 @@ pub record MayLay (s : Seat) (bytes : List ℕ) : Type 0 where
 
 -- a block of the owned list, by its place, and a word of its content
 abbrev pub owned_block : Seat → ℕ → ℕ
-owned_block s place = (Rattle.seat_parts.specs.Owned.owned_at s.blocks.owned place).block
+owned_block s place = (Rattle.pmem_words.specs.Owned.owned_at s.blocks.owned place).block
 
 abbrev pub content_word : Seat → ℕ → ℕ → ℕ
 content_word s place word = slice_index s.blocks.contents (place * words_of s + word)

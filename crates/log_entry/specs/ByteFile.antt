@@ -6,17 +6,17 @@ abbrev pub read : List ℕ → ℕ → ℕ → List ℕ
 read file offset count = take count (drop offset file)
 
 -- a file that is shorter than this, with zeros up to there
-abbrev pub lengthened : List ℕ → ℕ → List ℕ
-lengthened file end = file ++ replicate (end - length file) 0
+abbrev pub with_zeros_to : List ℕ → ℕ → List ℕ
+with_zeros_to file end = file ++ replicate (end - length file) 0
 
 -- the bytes laid over the file, from a place on that it reaches
-abbrev pub laid_over : List ℕ → ℕ → List ℕ → List ℕ
-laid_over file offset bytes = take offset file ++ bytes ++ drop (offset + length bytes) file
+abbrev pub with_bytes_over : List ℕ → ℕ → List ℕ → List ℕ
+with_bytes_over file offset bytes = take offset file ++ bytes ++ drop (offset + length bytes) file
 
 -- no bytes change nothing; others go over the file, after zeros where it is shorter than their place
 abbrev pub write : List ℕ → ℕ → List ℕ → List ℕ
 write file offset [] = file
-write file offset (byte ∷ bytes) = laid_over (lengthened file offset) offset (byte ∷ bytes)
+write file offset (byte ∷ bytes) = with_bytes_over (with_zeros_to file offset) offset (byte ∷ bytes)
 
 -- the bytes after the file
 abbrev pub append : List ℕ → List ℕ → List ℕ

@@ -7,5 +7,5 @@ abbrev pub field : Field → ℕ → ℕ
 field at word = word / 2 ^ at.low % 2 ^ at.width
 
 -- what a number adds to a word that has it in a field
-abbrev pub placed : Field → ℕ → ℕ
-placed at value = value * 2 ^ at.low
+abbrev pub field_word : Field → ℕ → ℕ
+field_word at value = value * 2 ^ at.low

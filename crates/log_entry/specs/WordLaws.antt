@@ -1,6 +1,6 @@
 -- What follows for every word of an image: its fields are the numbers that it was made of, and one word has one value.
 use Rattle.std.specs.Prelude.{ℕ, ◌+◌, ◌*◌, ◌^◌, ◌<◌, ◌≡◌}
-use Rattle.log_entry.specs.Fields.{field, placed}
+use Rattle.log_entry.specs.Fields.{field, field_word}
 use Rattle.log_entry.specs.Words.{IsEntryWord, IsHeadWord, kind_number, IsBlockWord, IsSnapshotWord, IsIndirectWord, IsRunWord}
 use Rattle.log_entry.specs.declared.fields.Field.{Field}
 use Rattle.log_entry.specs.declared.layouts.TheConstants.{ENTRY_KIND, EMPTY, DIRECT, INDIRECT, SEAL, DIRECT_VIRT, DIRECT_BLOCK, DIRECT_COUNT, DIRECT_LEFTOVER, INDIRECT_BLOCK, HEAD_BLOCK, HEAD_GENERATION, BLOCK_BASE, BLOCK_KIND, SNAPSHOT_SIZE, SNAPSHOT_COUNT, RUNS_VIRT, RUNS_COUNT, RUNS_RUNS, RUNS_LEFTOVER, RUN_BLOCK, RUN_COUNT}
@@ -14,7 +14,7 @@ use Rattle.log_entry.specs.declared.words.RunWord.{RunWord}
 
 -- a field of a sum of a number in it, what stands above it and what stands below it is the number
 abbrev pub FieldOfSum : Type 0
-FieldOfSum = (at : Field) (above value below : ℕ) → value < 2 ^ at.width → below < 2 ^ at.low → field at (placed at (above * 2 ^ at.width + value) + below) ≡ value
+FieldOfSum = (at : Field) (above value below : ℕ) → value < 2 ^ at.width → below < 2 ^ at.low → field at (field_word at (above * 2 ^ at.width + value) + below) ≡ value
 
 -- the fields of a word are the numbers of the entry
 abbrev pub HasFields : Entry → ℕ → Type 0

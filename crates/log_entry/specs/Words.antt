@@ -1,6 +1,6 @@
 -- The words of an image: which word a value has, and which bits its word leaves 0.
 use Rattle.std.specs.Prelude.{ℕ, ◌+◌, ◌-◌, ◌^◌, ◌≡◌, ◌==◌, ◌<◌, ◌≤◌, ◌⊎◌, if◌then◌else◌}
-use Rattle.log_entry.specs.Fields.{field, placed}
+use Rattle.log_entry.specs.Fields.{field, field_word}
 use Rattle.log_entry.specs.declared.layouts.TheConstants.{ENTRY_KIND, EMPTY, DIRECT, INDIRECT, SEAL, KIND_UNNAMED, DIRECT_VIRT, DIRECT_BLOCK, DIRECT_COUNT, DIRECT_LEFTOVER, DIRECT_UNNAMED, INDIRECT_BLOCK, INDIRECT_UNNAMED, HEAD_BLOCK, HEAD_GENERATION, BLOCK_BASE, BLOCK_UNNAMED, BLOCK_KIND, LOG, SNAPSHOT, SNAPSHOT_SIZE, SNAPSHOT_COUNT, RUNS_VIRT, RUNS_COUNT, RUNS_RUNS, RUNS_LEFTOVER, RUN_BLOCK, RUN_COUNT}
 use Rattle.log_entry.specs.declared.entries.Entry.{Entry}
 use Rattle.log_entry.specs.declared.entries.Entry.TheVariants.{Empty, Direct, Indirect, Seal}
@@ -14,10 +14,10 @@ use Rattle.log_entry.specs.declared.words.RunWord.{RunWord}
 
 -- the word of an entry; a direct one holds its count of blocks less 1
 abbrev pub entry_word : Entry → ℕ
-entry_word Empty = placed ENTRY_KIND EMPTY
-entry_word (Direct virt block count leftover) = placed ENTRY_KIND DIRECT + placed DIRECT_VIRT virt + placed DIRECT_BLOCK block + placed DIRECT_COUNT (count - 1) + placed DIRECT_LEFTOVER leftover
-entry_word (Indirect block) = placed ENTRY_KIND INDIRECT + placed INDIRECT_BLOCK block
-entry_word Seal = placed ENTRY_KIND SEAL
+entry_word Empty = field_word ENTRY_KIND EMPTY
+entry_word (Direct virt block count leftover) = field_word ENTRY_KIND DIRECT + field_word DIRECT_VIRT virt + field_word DIRECT_BLOCK block + field_word DIRECT_COUNT (count - 1) + field_word DIRECT_LEFTOVER leftover
+entry_word (Indirect block) = field_word ENTRY_KIND INDIRECT + field_word INDIRECT_BLOCK block
+entry_word Seal = field_word ENTRY_KIND SEAL
 
 -- a direct entry has 1 to 256 blocks and a leftover below 4096
 abbrev pub IsEncodable : Entry → Type 0
@@ -45,7 +45,7 @@ entry_unnamed word =
 
 -- the word of a head
 abbrev pub head_word : Head → ℕ
-head_word head = placed HEAD_GENERATION head.generation + placed HEAD_BLOCK head.block
+head_word head = field_word HEAD_GENERATION head.generation + field_word HEAD_BLOCK head.block
 
 -- the head is within its ranges, and the word is its word
 pub record IsHeadWord (head : Head) (word : ℕ) : Type 0 where
@@ -60,7 +60,7 @@ kind_number Snapshot = SNAPSHOT
 
 -- the word of a chain block's kind and base
 abbrev pub block_word : BlockWord → ℕ
-block_word block = placed BLOCK_KIND (kind_number block.kind) + placed BLOCK_BASE block.base
+block_word block = field_word BLOCK_KIND (kind_number block.kind) + field_word BLOCK_BASE block.base
 
 -- the base is within its range, and the word is that of the kind and the base
 pub record IsBlockWord (block : BlockWord) (word : ℕ) : Type 0 where
@@ -73,7 +73,7 @@ IsNoBlockWord word = (0 < field BLOCK_UNNAMED word) ⊎ (field BLOCK_KIND word �
 
 -- the word of a snapshot block's count of entries and of the file's size
 abbrev pub snapshot_word : SnapshotWord → ℕ
-snapshot_word snapshot = placed SNAPSHOT_COUNT snapshot.count + placed SNAPSHOT_SIZE snapshot.size
+snapshot_word snapshot = field_word SNAPSHOT_COUNT snapshot.count + field_word SNAPSHOT_SIZE snapshot.size
 
 -- the count and the size are within their ranges, and the word is theirs
 pub record IsSnapshotWord (snapshot : SnapshotWord) (word : ℕ) : Type 0 where
@@ -83,7 +83,7 @@ pub record IsSnapshotWord (snapshot : SnapshotWord) (word : ℕ) : Type 0 where
 
 -- the first word of an indirect block
 abbrev pub indirect_word : IndirectWord → ℕ
-indirect_word indirect = placed RUNS_VIRT indirect.virt + placed RUNS_COUNT indirect.count + placed RUNS_RUNS indirect.runs + placed RUNS_LEFTOVER indirect.leftover
+indirect_word indirect = field_word RUNS_VIRT indirect.virt + field_word RUNS_COUNT indirect.count + field_word RUNS_RUNS indirect.runs + field_word RUNS_LEFTOVER indirect.leftover
 
 -- the four numbers are within their ranges, and the word is theirs
 pub record IsIndirectWord (indirect : IndirectWord) (word : ℕ) : Type 0 where
@@ -95,7 +95,7 @@ pub record IsIndirectWord (indirect : IndirectWord) (word : ℕ) : Type 0 where
 
 -- the word of a run
 abbrev pub run_word : RunWord → ℕ
-run_word run = placed RUN_BLOCK run.block + placed RUN_COUNT run.count
+run_word run = field_word RUN_BLOCK run.block + field_word RUN_COUNT run.count
 
 -- the block and the count are within their ranges, and the word is theirs
 pub record IsRunWord (run : RunWord) (word : ℕ) : Type 0 where

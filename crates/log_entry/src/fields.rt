@@ -1,7 +1,7 @@
 //! Neighbouring bits of a 64-bit word, read and set as numbers.
 
 ghost use Rattle.std.specs.Prelude.{◌≡◌, ◌+◌, ◌<◌, ◌≤◌, ◌^◌};
-ghost use Rattle.log_entry.specs.Fields.{field, placed};
+ghost use Rattle.log_entry.specs.Fields.{field, field_word};
 
 /// Neighbouring bits of a word, read as a number: `width` bits from bit `low` on, where bit 0 is the lowest.
 #[derive(Clone, Copy, Debug, PartialEq, Eq)]
@@ -29,7 +29,7 @@ impl Field {
         requires narrow { self.low < 64 }
         requires within { self.low + self.width ≤ 64 }
         requires fits { value < 2 ^ self.width }
-        ensures { result ≡ placed self value }
+        ensures { result ≡ field_word self value }
     {
         value << self.low
     }

@@ -6,7 +6,7 @@ use Rattle.log_entry.specs.declared.layouts.TheConstants.{BLOCK_KIND, BLOCK_BASE
 use Rattle.log_image.specs.Image.{Shape, block_words}
 use Rattle.log_image.specs.Header.{head_block}
 use Rattle.log_image.specs.Blocks.{link_of, is_snapshot, base_of, file_size, slots_of, entry_words, leads_on}
-use Rattle.log_image.specs.Chains.{snapshots_of, logs_of, Leads, IsLinked, first_base, first_size, HaveOneBase, AreLogsFrom}
+use Rattle.log_image.specs.Chains.{snapshots_of, logs_of, LeadsAlong, IsLinked, first_base, first_size, HaveOneBase, AreLogsFrom}
 use Rattle.log_image.specs.SameWords.{SameBlocks}
 
 -- the entries of a log block
@@ -53,13 +53,13 @@ same_logs shape old new (block ∷ front) same = go (is_snapshot (block_words ol
     go true rest = rest
     go false rest = same
 
-leads_kept : (shape : Shape) (old new : List ℕ) (block : ℕ) (front : List ℕ) (tail : ℕ) (more : List ℕ) → SameBlocks shape old new (block ∷ front) → Leads old shape block (front ++ tail ∷ []) → Leads new shape tail more → Leads new shape block (front ++ tail ∷ more)
+leads_kept : (shape : Shape) (old new : List ℕ) (block : ℕ) (front : List ℕ) (tail : ℕ) (more : List ℕ) → SameBlocks shape old new (block ∷ front) → LeadsAlong old shape block (front ++ tail ∷ []) → LeadsAlong new shape tail more → LeadsAlong new shape block (front ++ tail ∷ more)
 leads_kept shape old new block [] tail more same leads onward = (ap (λ (l : List ℕ). leads_on l) same.0 ∙ leads.0, ap (λ (l : List ℕ). link_of l) same.0 ∙ leads.1, onward)
 leads_kept shape old new block (next ∷ front) tail more same leads onward =
     (ap (λ (l : List ℕ). leads_on l) same.0 ∙ leads.0, ap (λ (l : List ℕ). link_of l) same.0 ∙ leads.1, leads_kept shape old new next front tail more same.1 leads.2 onward)
 
 -- the links before the tail are the same
-pub linked_kept : (shape : Shape) (old new front : List ℕ) (tail : ℕ) (more : List ℕ) → head_block new ≡ head_block old → SameBlocks shape old new front → IsLinked old shape (front ++ tail ∷ []) → Leads new shape tail more → IsLinked new shape (front ++ tail ∷ more)
+pub linked_kept : (shape : Shape) (old new front : List ℕ) (tail : ℕ) (more : List ℕ) → head_block new ≡ head_block old → SameBlocks shape old new front → IsLinked old shape (front ++ tail ∷ []) → LeadsAlong new shape tail more → IsLinked new shape (front ++ tail ∷ more)
 linked_kept shape old new [] tail more head same linked onward = (head ∙ linked.0, onward)
 linked_kept shape old new (first ∷ front) tail more head same linked onward = (head ∙ linked.0, leads_kept shape old new first front tail more same linked.1 onward)
 

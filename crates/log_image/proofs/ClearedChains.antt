@@ -6,7 +6,7 @@ use Rattle.log_entry.specs.declared.layouts.TheConstants.{BLOCK_KIND, BLOCK_BASE
 use Rattle.log_image.specs.Image.{Shape, is_in_data, block_words}
 use Rattle.log_image.specs.Header.{head_block}
 use Rattle.log_image.specs.Blocks.{is_snapshot, base_of, file_size, slots_of, entry_words}
-use Rattle.log_image.specs.Chains.{snapshots_of, logs_of, Leads, IsLinked, first_base, first_size, HaveOneBase, AreLogsFrom, IsChain}
+use Rattle.log_image.specs.Chains.{snapshots_of, logs_of, LeadsAlong, IsLinked, first_base, first_size, HaveOneBase, AreLogsFrom, IsChain}
 use Rattle.log_image.proofs.HoldingLemmas.{both_left, both_right}
 use Rattle.log_image.proofs.Clearing.{SameReading}
 
@@ -41,7 +41,7 @@ pub same_logs : (shape : Shape) (old new : List ℕ) → SameImage shape old new
 same_logs shape old new same [] = refl
 same_logs shape old new same (block ∷ blocks) = rw (same_kind shape old new same block, same_logs shape old new same blocks) refl
 
-same_leads : (shape : Shape) (old new : List ℕ) → SameImage shape old new → (block : ℕ) (rest : List ℕ) → Leads old shape block rest → Leads new shape block rest
+same_leads : (shape : Shape) (old new : List ℕ) → SameImage shape old new → (block : ℕ) (rest : List ℕ) → LeadsAlong old shape block rest → LeadsAlong new shape block rest
 same_leads shape old new same block [] leads = (same.reads block).leads ∙ leads
 same_leads shape old new same block (next ∷ rest) leads = ((same.reads block).leads ∙ leads.0, (same.reads block).link leads.0 ∙ leads.1, same_leads shape old new same next rest leads.2)
 

@@ -11,7 +11,7 @@ use Rattle.log_entry.specs.declared.layouts.TheConstants.{ENTRY_KIND, DIRECT, IN
 use Rattle.log_image.specs.Image.{Shape, words_in, is_in_data, block_words}
 use Rattle.log_image.specs.Entries.{Meaning, direct_meaning, indirect_meaning, meaning, all_names}
 use Rattle.log_image.specs.Maps.{block_in, map_of, size_after}
-use Rattle.log_image.specs.Blocks.{is_snapshot, entry_count, file_size, slots_of, entry_words}
+use Rattle.log_image.specs.Blocks.{is_snapshot, entry_count, file_size, slots_of, entry_words, kept_words}
 use Rattle.log_image.specs.Chains.{all_different, snapshots_of, logs_of, snapshot_base, snapshot_size}
 use Rattle.log_image.specs.Positions.{snapshot_entries, log_words, log_entries, entries_of, position_of, size_at_end}
 use Rattle.log_image.specs.Format.{all_zero, fits, is_direct, is_indirect, is_indirect_block, has_runs, is_log_entry, is_log_block, is_seal_placed, is_snapshot_entry, is_snapshot_block, is_kind_word, HasFormat}
@@ -97,7 +97,7 @@ same_log_entries shape old new same chain format =
 
 -- the entries of a snapshot block
 abbrev kept_in : Shape → List ℕ → ℕ → List Meaning
-kept_in shape words block = map direct_meaning (take (entry_count (block_words words shape block)) (slots_of (block_words words shape block)))
+kept_in shape words block = map direct_meaning (kept_words (block_words words shape block))
 
 same_kept : (shape : Shape) (old new : List ℕ) → SameImage shape old new → (block : ℕ) → is_snapshot (block_words old shape block) ≡ true → kept_in shape new block ≡ kept_in shape old block
 same_kept shape old new same block is =
@@ -230,11 +230,11 @@ kept_in_data shape words [] good = refl
 kept_in_data shape words (block ∷ blocks) good =
     list_all-append (in_data shape) (kept_in shape words block) (flat_map (kept_in shape words) blocks)
     ∙ both (list_all (in_data shape) (kept_in shape words block)) (list_all (in_data shape) (flat_map (kept_in shape words) blocks))
-    (direct_in_data shape (take (entry_count (block_words words shape block)) (slots_of (block_words words shape block)))
+    (direct_in_data shape (kept_words (block_words words shape block))
     (both_right (nat_le (entry_count (block_words words shape block)) (words_in shape - 3) && nat_le (file_size (block_words words shape block)) (limit_of shape.block_bytes))
-    (list_all (is_snapshot_entry shape) (take (entry_count (block_words words shape block)) (slots_of (block_words words shape block))))
+    (list_all (is_snapshot_entry shape) (kept_words (block_words words shape block)))
     (both_left (nat_le (entry_count (block_words words shape block)) (words_in shape - 3) && nat_le (file_size (block_words words shape block)) (limit_of shape.block_bytes)
-    && list_all (is_snapshot_entry shape) (take (entry_count (block_words words shape block)) (slots_of (block_words words shape block))))
+    && list_all (is_snapshot_entry shape) (kept_words (block_words words shape block)))
     (all_zero (drop (entry_count (block_words words shape block)) (slots_of (block_words words shape block))))
     (both_left (is_snapshot_block shape (block_words words shape block)) (list_all (λ (b : ℕ). is_snapshot_block shape (block_words words shape b)) blocks) good))))
     (kept_in_data shape words blocks (both_right (is_snapshot_block shape (block_words words shape block)) (list_all (λ (b : ℕ). is_snapshot_block shape (block_words words shape b)) blocks) good))

@@ -11,9 +11,9 @@ use Rattle.log_image.specs.Image.{Shape, words_in, total, is_in_log, block_words
 use Rattle.log_image.specs.Header.{shape_of, HasHeader}
 use Rattle.log_image.specs.Entries.{Meaning, all_names}
 use Rattle.log_image.specs.Blocks.{is_snapshot, link_of, slots_of, entry_words, is_closed, leads_on}
-use Rattle.log_image.specs.Chains.{Leads, IsLinked}
+use Rattle.log_image.specs.Chains.{LeadsAlong, IsLinked}
 use Rattle.log_image.specs.Stands.{StandsIn, StandsBy}
-use Rattle.log_image.specs.Holes.{Hole, AtSlot, AtLink, last_block, hole_in, hole_of, IsClear, IsCleared}
+use Rattle.log_image.specs.Tails.{Tail, AtSlot, AtLink, last_block, tail_in, tail_of, IsClear, IsCleared}
 use Rattle.log_image.specs.Laws.{StaysCleared, ClearingKeeps}
 use Rattle.log_image.specs.declared.header.TheConstants.{HEADER_VERSION, HEADER_BLOCK_POWER, HEADER_UNNAMED, HEADER_DATA, HEADER_LOG}
 use Rattle.log_image.proofs.HoldingLemmas.{both_left, both_right}
@@ -24,7 +24,7 @@ use Rattle.log_image.proofs.ClearedChains.{SameImage}
 use Rattle.log_image.proofs.ClearedEntries.{same_entries_of, same_standing}
 
 -- the last block of a chain leads on to none
-last_leads : (words : List ℕ) (shape : Shape) (block : ℕ) (rest : List ℕ) → Leads words shape block rest → leads_on (block_words words shape (last_block block rest)) ≡ false
+last_leads : (words : List ℕ) (shape : Shape) (block : ℕ) (rest : List ℕ) → LeadsAlong words shape block rest → leads_on (block_words words shape (last_block block rest)) ≡ false
 last_leads words shape block [] leads = leads
 last_leads words shape block (next ∷ rest) leads = last_leads words shape next rest leads.2
 
@@ -94,26 +94,26 @@ cleared_image old new shape block long log is = record {
       other_block shape block old new is other (λ e. omega (arith, e, past, low));
 }
 
--- the hole is where it was
-hole_as : (block : ℕ) (old new : List ℕ) → SameReading old new → hole_in block new ≡ hole_in block old
-hole_as block old new same = rw (same.closed, same.entries) refl
+-- the tail is where it was
+tail_as : (block : ℕ) (old new : List ℕ) → SameReading old new → tail_in block new ≡ tail_in block old
+tail_as block old new same = rw (same.closed, same.entries) refl
 
--- nothing stands after the hole
-now_clear : (shape : Shape) (hole : Hole) (old new : List ℕ) → IsCleared shape hole old new → IsClear new shape hole
-now_clear shape hole old new cleared place after = cleared.each place ∙ ap (λ (b : Bool). if b then 0 else get_or old place 0) after
+-- nothing stands after the tail
+now_clear : (shape : Shape) (tail : Tail) (old new : List ℕ) → IsCleared shape tail old new → IsClear new shape tail
+now_clear shape tail old new cleared place after = cleared.each place ∙ ap (λ (b : Bool). if b then 0 else get_or old place 0) after
 
--- the hole is a slot
+-- the tail is a slot
 kept_at_slot : (old new chain file : List ℕ) (position : ℕ) → (stands : StandsBy old chain file position) → is_closed (slots_of (block_words old (shape_of old) (last_block 0 chain))) ≡ false →
-    IsCleared (shape_of old) (hole_of old (shape_of old) chain) old new → StaysCleared old new chain file position
+    IsCleared (shape_of old) (tail_of old (shape_of old) chain) old new → StaysCleared old new chain file position
 kept_at_slot old new chain file position stands opens cleared =
     let long : 8 ≤ words_in (shape_of old) = long_words old stands.header in
     let log : is_in_log (shape_of old) (last_block 0 chain) ≡ true = chain_last (is_in_log (shape_of old)) old (shape_of old) chain stands.stands.is_chain.linked stands.stands.format.areas in
-    let slot : hole_of old (shape_of old) chain ≡ AtSlot (last_block 0 chain) (3 + length (entry_words (slots_of (block_words old (shape_of old) (last_block 0 chain))))) = rw opens refl in
+    let slot : tail_of old (shape_of old) chain ≡ AtSlot (last_block 0 chain) (3 + length (entry_words (slots_of (block_words old (shape_of old) (last_block 0 chain))))) = rw opens refl in
     let at : ClearedAt (shape_of old) (last_block 0 chain) old new = record {
       long = omega (arith, long);
       log = no_first (is_snapshot (block_words old (shape_of old) (last_block 0 chain))) (is_closed (slots_of (block_words old (shape_of old) (last_block 0 chain))) && not (link_of (block_words old (shape_of old) (last_block 0 chain)) == 0)) (chain_ends old (shape_of old) chain stands.stands.is_chain.linked);
       opens = opens;
-      cleared = subst (λ (h : Hole). IsCleared (shape_of old) h old new) slot cleared;
+      cleared = subst (λ (h : Tail). IsCleared (shape_of old) h old new) slot cleared;
     } in
     let header : SameHeader old new = cleared_header old new (shape_of old) (last_block 0 chain) long log at in
     let image : SameImage (shape_of old) old new = cleared_image old new (shape_of old) (last_block 0 chain) long log at in
@@ -125,24 +125,24 @@ kept_at_slot old new chain file position stands opens cleared =
         stands = subst (λ (s : Shape). StandsIn new s chain file position) (sym (header_shape old new header)) (same_standing (shape_of old) old new image chain file position stands.stands);
       };
       same_names = ap (λ (l : List Meaning). chain ++ all_names l) (same_entries_of (shape_of old) old new image chain stands.stands.format);
-      same_hole = hole_as (last_block 0 chain) (block_words old (shape_of old) (last_block 0 chain)) (block_words new (shape_of old) (last_block 0 chain)) (image.reads (last_block 0 chain));
-      clear = now_clear (shape_of old) (hole_of old (shape_of old) chain) old new cleared;
+      same_tail = tail_as (last_block 0 chain) (block_words old (shape_of old) (last_block 0 chain)) (block_words new (shape_of old) (last_block 0 chain)) (image.reads (last_block 0 chain));
+      clear = now_clear (shape_of old) (tail_of old (shape_of old) chain) old new cleared;
     }
 
--- the hole is a link: no word changes
+-- the tail is a link: no word changes
 kept_at_link : (old new chain file : List ℕ) (position : ℕ) → StandsBy old chain file position → is_closed (slots_of (block_words old (shape_of old) (last_block 0 chain))) ≡ true →
-    IsCleared (shape_of old) (hole_of old (shape_of old) chain) old new → StaysCleared old new chain file position
+    IsCleared (shape_of old) (tail_of old (shape_of old) chain) old new → StaysCleared old new chain file position
 kept_at_link old new chain file position stands closes cleared =
-    let link : hole_of old (shape_of old) chain ≡ AtLink (last_block 0 chain) = rw closes refl in
-    let unchanged : IsCleared (shape_of old) (AtLink (last_block 0 chain)) old new = subst (λ (h : Hole). IsCleared (shape_of old) h old new) link cleared in
+    let link : tail_of old (shape_of old) chain ≡ AtLink (last_block 0 chain) = rw closes refl in
+    let unchanged : IsCleared (shape_of old) (AtLink (last_block 0 chain)) old new = subst (λ (h : Tail). IsCleared (shape_of old) h old new) link cleared in
     let same : old ≡ new = ext_get_or 0 old new (sym unchanged.same_length) (λ place inside. sym (unchanged.each place)) in
     subst (λ (l : List ℕ). StaysCleared old l chain file position) same (record {
       same_shape = refl;
       same_generation = refl;
       stands = stands;
       same_names = refl;
-      same_hole = refl;
-      clear = subst (λ (h : Hole). IsClear old (shape_of old) h) (sym link) (λ place after. cc);
+      same_tail = refl;
+      clear = subst (λ (h : Tail). IsClear old (shape_of old) h) (sym link) (λ place after. cc);
     })
 
 pub clearing_keeps : ClearingKeeps

@@ -1,4 +1,4 @@
--- Clearing what stands after the hole changes nothing that the chain says.
+-- Clearing what stands after the tail changes nothing that the chain says.
 use Rattle.std.proofs.Common.{◌≡◌, ◌≢◌, ◌≤◌, ◌<◌, ◌+◌, ◌-◌, ◌*◌, ◌==◌, ◌&&◌, nat_lt, ℕ, suc, Bool, true, false, List, [], ◌∷◌, length, get_or, drop, min, ◌⊎◌, inl, inr, if◌then◌else◌, refl, sym, ap, ◌∙◌, subst, arith}
 use Rattle.std.proofs.lemmas.Bool.{ne_eqb, eqb-true, eqb-false, le-ltb, ltb-true, ltb-false}
 use Rattle.std.proofs.lemmas.List.{ext_get_or, get_or-drop, length-take, length-drop}
@@ -8,15 +8,15 @@ use Rattle.log_entry.specs.declared.layouts.TheConstants.{BLOCK_KIND, SNAPSHOT}
 use Rattle.log_image.specs.Image.{Shape, words_in, block_words}
 use Rattle.log_image.specs.Blocks.{link_of, is_snapshot, slots_of, entry_words, is_closed, leads_on}
 use Rattle.log_image.specs.Format.{is_seal_last, is_seal_placed}
-use Rattle.log_image.specs.Holes.{AtSlot, is_after, IsCleared}
+use Rattle.log_image.specs.Tails.{AtSlot, is_after, IsCleared}
 use Rattle.log_image.proofs.ImageLemmas.{in_block}
 
 -- slots that are the same up to the first empty one
-abbrev pub SameToHole : List ℕ → List ℕ → Type 0
-SameToHole [] [] = Unit {0}
-SameToHole [] (other ∷ others) = ⊥
-SameToHole (slot ∷ slots) [] = ⊥
-SameToHole (slot ∷ slots) (other ∷ others) = (slot ≡ other) × ((slot == 0) ≡ false → SameToHole slots others)
+abbrev pub SameToTail : List ℕ → List ℕ → Type 0
+SameToTail [] [] = Unit {0}
+SameToTail [] (other ∷ others) = ⊥
+SameToTail (slot ∷ slots) [] = ⊥
+SameToTail (slot ∷ slots) (other ∷ others) = (slot ≡ other) × ((slot == 0) ≡ false → SameToTail slots others)
 
 -- of three cases, the last two matter where the first does not hold
 in_two : {X : Type 0} (empty sealed : Bool) (first second other third also : X) → (empty ≡ false → (second ≡ other) × (third ≡ also)) →
@@ -25,7 +25,7 @@ in_two true sealed first second other third also same = refl
 in_two false true first second other third also same = (same refl).0
 in_two false false first second other third also same = (same refl).1
 
-same_entries : (slots others : List ℕ) → SameToHole slots others → entry_words others ≡ entry_words slots
+same_entries : (slots others : List ℕ) → SameToTail slots others → entry_words others ≡ entry_words slots
 same_entries [] [] same = refl
 same_entries [] (other ∷ others) same = absurd same
 same_entries (slot ∷ slots) [] same = absurd same
@@ -34,7 +34,7 @@ same_entries (slot ∷ slots) (other ∷ others) same =
     (in_two (slot == 0) (slot == 3) [] [] [] (slot ∷ entry_words others) (slot ∷ entry_words slots)
     (λ used. (refl, ap (λ (l : List ℕ). slot ∷ l) (same_entries slots others (same.1 used)))))
 
-same_closed : (slots others : List ℕ) → SameToHole slots others → is_closed others ≡ is_closed slots
+same_closed : (slots others : List ℕ) → SameToTail slots others → is_closed others ≡ is_closed slots
 same_closed [] [] same = refl
 same_closed [] (other ∷ others) same = absurd same
 same_closed (slot ∷ slots) [] same = absurd same
@@ -42,13 +42,13 @@ same_closed (slot ∷ slots) (other ∷ others) same =
     subst (λ (w : ℕ). is_closed (w ∷ others) ≡ is_closed (slot ∷ slots)) same.0
     (in_two (slot == 0) (slot == 3) false true true (is_closed others) (is_closed slots) (λ used. (refl, same_closed slots others (same.1 used))))
 
-same_first : (slots others : List ℕ) → SameToHole slots others → get_or others 0 0 ≡ get_or slots 0 0
+same_first : (slots others : List ℕ) → SameToTail slots others → get_or others 0 0 ≡ get_or slots 0 0
 same_first [] [] same = refl
 same_first [] (other ∷ others) same = absurd same
 same_first (slot ∷ slots) [] same = absurd same
 same_first (slot ∷ slots) (other ∷ others) same = sym same.0
 
-same_seal : (slots others : List ℕ) → SameToHole slots others → is_seal_last others ≡ is_seal_last slots
+same_seal : (slots others : List ℕ) → SameToTail slots others → is_seal_last others ≡ is_seal_last slots
 same_seal [] [] same = refl
 same_seal [] (other ∷ others) same = absurd same
 same_seal (slot ∷ slots) [] same = absurd same
@@ -57,31 +57,36 @@ same_seal (slot ∷ slots) (other ∷ others) same =
     (in_two (slot == 0) (slot == 3) true (get_or others 0 0 == 0) (get_or slots 0 0 == 0) (is_seal_last others) (is_seal_last slots)
     (λ used. (ap (λ (w : ℕ). w == 0) (same_first slots others (same.1 used)), same_seal slots others (same.1 used))))
 
-same_placed : (slots others : List ℕ) → SameToHole slots others → is_seal_placed others ≡ is_seal_placed slots
+same_placed : (slots others : List ℕ) → SameToTail slots others → is_seal_placed others ≡ is_seal_placed slots
 same_placed slots others same = rw (same_first slots others same, same_seal slots others same) refl
 
--- what follows of an open list of slots whose first is used
-later : (slot : ℕ) (slots : List ℕ) → is_closed (slot ∷ slots) ≡ false → (slot == 0) ≡ false → (is_closed slots ≡ false) × (length (entry_words (slot ∷ slots)) ≡ suc (length (entry_words slots)))
+-- what follows of open slots whose first is used
+pub record Later (slot : ℕ) (slots : List ℕ) : Type 0 where
+  pub entry : (slot == 3) ≡ false
+  pub opens : is_closed slots ≡ false
+  pub words : entry_words (slot ∷ slots) ≡ slot ∷ entry_words slots
+
+pub later : (slot : ℕ) (slots : List ℕ) → is_closed (slot ∷ slots) ≡ false → (slot == 0) ≡ false → Later slot slots
 later slot slots opens used = go (slot == 3) refl
   where
-    go : (seal : Bool) → (slot == 3) ≡ seal → (is_closed slots ≡ false) × (length (entry_words (slot ∷ slots)) ≡ suc (length (entry_words slots)))
+    go : (seal : Bool) → (slot == 3) ≡ seal → Later slot slots
     go true is = absurd (not_both (slot == 0) (slot == 3) (is_closed slots) used is opens)
       where
         not_both : (empty sealed rest : Bool) → empty ≡ false → sealed ≡ true → (if empty then false else if sealed then true else rest) ≡ false → ⊥
         not_both true sealed rest a b c = cc
         not_both false true rest a b c = cc
         not_both false false rest a b c = cc
-    go false is = (rw (used, is) at opens, rw (used, is) refl)
+    go false is = record { entry = is; opens = rw (used, is) at opens; words = rw (used, is) refl }
 
 -- open slots, and others that agree with them up to the first empty one
-to_hole : (slots others : List ℕ) → length others ≡ length slots → is_closed slots ≡ false → ((place : ℕ) → place ≤ length (entry_words slots) → get_or others place 0 ≡ get_or slots place 0) → SameToHole slots others
-to_hole [] [] long opens agree = tt
-to_hole [] (other ∷ others) long opens agree = absurd (omega (arith, long))
-to_hole (slot ∷ slots) [] long opens agree = absurd (omega (arith, long))
-to_hole (slot ∷ slots) (other ∷ others) long opens agree = (
+to_tail : (slots others : List ℕ) → length others ≡ length slots → is_closed slots ≡ false → ((place : ℕ) → place ≤ length (entry_words slots) → get_or others place 0 ≡ get_or slots place 0) → SameToTail slots others
+to_tail [] [] long opens agree = tt
+to_tail [] (other ∷ others) long opens agree = absurd (omega (arith, long))
+to_tail (slot ∷ slots) [] long opens agree = absurd (omega (arith, long))
+to_tail (slot ∷ slots) (other ∷ others) long opens agree = (
   sym (agree 0 (omega arith)),
-  λ used. to_hole slots others (omega (arith, long)) (later slot slots opens used).0
-      (λ place before. agree (suc place) (omega (arith, before, (later slot slots opens used).1))),
+  λ used. to_tail slots others (omega (arith, long)) (later slot slots opens used).opens
+      (λ place before. agree (suc place) (omega (arith, before, ap (λ (l : List ℕ). length l) (later slot slots opens used).words))),
 )
 
 -- what reading sees of a block is the same in both
@@ -101,11 +106,11 @@ same_block block = record { word = refl; third = refl; entries = refl; closed = 
 no_lead : (block : List ℕ) → is_snapshot block ≡ false → is_closed (slots_of block) ≡ false → leads_on block ≡ false
 no_lead block log opens = rw (log, opens) refl
 
--- a block that is the same up to its hole but for its link
-at_hole : (old new : List ℕ) → is_snapshot old ≡ false → is_closed (slots_of old) ≡ false → length new ≡ length old → ((index : ℕ) → 1 ≤ index → index ≤ 3 + length (entry_words (slots_of old)) → get_or new index 0 ≡ get_or old index 0) → SameReading old new
-at_hole old new log opens long agree =
-    let same : SameToHole (slots_of old) (slots_of new) =
-    to_hole (slots_of old) (slots_of new) (length-drop 3 new ∙ ap (λ (k : ℕ). k - 3) long ∙ sym (length-drop 3 old)) opens
+-- a block that is the same up to its tail but for its link
+at_tail : (old new : List ℕ) → is_snapshot old ≡ false → is_closed (slots_of old) ≡ false → length new ≡ length old → ((index : ℕ) → 1 ≤ index → index ≤ 3 + length (entry_words (slots_of old)) → get_or new index 0 ≡ get_or old index 0) → SameReading old new
+at_tail old new log opens long agree =
+    let same : SameToTail (slots_of old) (slots_of new) =
+    to_tail (slots_of old) (slots_of new) (length-drop 3 new ∙ ap (λ (k : ℕ). k - 3) long ∙ sym (length-drop 3 old)) opens
     (λ place before. get_or-drop 3 new place 0 ∙ agree (3 + place) (omega arith) (omega (arith, before)) ∙ sym (get_or-drop 3 old place 0)) in
     let word : get_or new 1 0 ≡ get_or old 1 0 = agree 1 (omega arith) (omega arith) in
     record {
@@ -122,7 +127,7 @@ at_hole old new log opens long agree =
     both_ways : (b : Bool) → b ≡ true → b ≡ false → ⊥
     both_ways b holds fails = cc
 
--- a place that clearing leaves: not the link, and not past the hole in the block
+-- a place that clearing leaves: not the link, and not past the tail in the block
 pub left_alone : (shape : Shape) (block slot place : ℕ) → place ≢ block * words_in shape → (place ≤ block * words_in shape + slot) ⊎ (block * words_in shape + words_in shape ≤ place) → is_after shape (AtSlot block slot) place ≡ false
 left_alone shape block slot place other (inl before) =
     rw (ne_eqb place (block * words_in shape) other, le-ltb (block * words_in shape + slot) place before) refl
@@ -177,13 +182,13 @@ other_block shape block old new is other differ =
         left_alone shape block (3 + length (entry_words (slots_of (block_words old shape block)))) (other * words_in shape + index) (λ e. omega (arith, times, small, e)) (inr (omega (arith, times)))
 
 -- slots end where the block does
-hole_inside : (slots : List ℕ) → is_closed slots ≡ false → length (entry_words slots) < length slots
-hole_inside [] opens = cc
-hole_inside (slot ∷ slots) opens = go (slot == 0) refl (λ later_opens. hole_inside slots later_opens)
+pub open_inside : (slots : List ℕ) → is_closed slots ≡ false → length (entry_words slots) < length slots
+open_inside [] opens = cc
+open_inside (slot ∷ slots) opens = go (slot == 0) refl (λ later_opens. open_inside slots later_opens)
   where
     go : (empty : Bool) → (slot == 0) ≡ empty → (is_closed slots ≡ false → length (entry_words slots) < length slots) → length (entry_words (slot ∷ slots)) < length (slot ∷ slots)
     go true is rest = rw is (omega arith)
-    go false is rest = omega (arith, (later slot slots opens is).1, rest (later slot slots opens is).0)
+    go false is rest = (let after : Later slot slots = later slot slots opens is in rw after.words (omega (arith, rest after.opens)))
 
 pub each_block : (shape : Shape) (block : ℕ) (old new : List ℕ) → ClearedAt shape block old new → (other : ℕ) → SameReading (block_words old shape other) (block_words new shape other)
 each_block shape block old new is other = go (other == block) refl
@@ -192,8 +197,8 @@ each_block shape block old new is other = go (other == block) refl
     go false differs = subst (λ (l : List ℕ). SameReading (block_words old shape other) l) (sym (other_block shape block old new is other (eqb-false other block differs))) (same_block (block_words old shape other))
     go true same =
         subst (λ (b : ℕ). SameReading (block_words old shape b) (block_words new shape b)) (sym (eqb-true other block same))
-        (at_hole (block_words old shape block) (block_words new shape block) is.log is.opens (same_long shape block old new is.cleared.same_length) (λ index some before.
-        let room : length (entry_words (slots_of (block_words old shape block))) < length (slots_of (block_words old shape block)) = hole_inside (slots_of (block_words old shape block)) is.opens in
+        (at_tail (block_words old shape block) (block_words new shape block) is.log is.opens (same_long shape block old new is.cleared.same_length) (λ index some before.
+        let room : length (entry_words (slots_of (block_words old shape block))) < length (slots_of (block_words old shape block)) = open_inside (slots_of (block_words old shape block)) is.opens in
         let size : length (slots_of (block_words old shape block)) ≡ length (block_words old shape block) - 3 = length-drop 3 (block_words old shape block) in
         word_left shape block old new is block index (within shape block old index (omega (arith, before, room, size)))
         (left_alone shape block (3 + length (entry_words (slots_of (block_words old shape block)))) (block * words_in shape + index) (λ e. omega (arith, e, some)) (inl (omega (arith, before))))))

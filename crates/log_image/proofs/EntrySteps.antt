@@ -10,7 +10,7 @@ use Rattle.log_entry.specs.Words.{entry_unnamed}
 use Rattle.log_entry.specs.declared.layouts.TheConstants.{ENTRY_KIND, DIRECT, INDIRECT, INDIRECT_BLOCK}
 use Rattle.log_image.specs.Image.{Shape, is_in_data, block_words}
 use Rattle.log_image.specs.Entries.{Meaning, direct_meaning, indirect_meaning, meaning, names, all_names}
-use Rattle.log_image.specs.Blocks.{entry_count, slots_of, entry_words}
+use Rattle.log_image.specs.Blocks.{entry_count, slots_of, entry_words, kept_words}
 use Rattle.log_image.specs.Format.{fits, is_direct, is_indirect, is_indirect_block, is_log_entry, is_log_block, is_seal_placed}
 use Rattle.log_image.proofs.HoldingLemmas.{both_left, both_right}
 use Rattle.log_image.proofs.ClearedChains.{both}
@@ -93,7 +93,7 @@ logs_good shape old new (block ∷ blocks) same named good =
 
 -- the entries of a snapshot block
 abbrev pub kept_in : List ℕ → Shape → ℕ → List Meaning
-kept_in words shape block = map direct_meaning (take (entry_count (block_words words shape block)) (slots_of (block_words words shape block)))
+kept_in words shape block = map direct_meaning (kept_words (block_words words shape block))
 
 pub kept_same : (shape : Shape) (old new blocks : List ℕ) → SameBlocks shape old new blocks → flat_map (kept_in new shape) blocks ≡ flat_map (kept_in old shape) blocks
 kept_same shape old new [] same = refl

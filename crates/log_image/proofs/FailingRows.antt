@@ -6,7 +6,7 @@ use Rattle.log_image.specs.Image.{block_words}
 use Rattle.log_image.specs.Blocks.{leads_on, link_of}
 use Rattle.log_image.specs.Chains.{all_different, IsLinked}
 use Rattle.log_image.specs.Stands.{StandsBy, Stands}
-use Rattle.log_image.specs.Rows.{with_words, two_blocks, collected, with_runs, one_byte, behind_hole, StandForNothing, BehindHole, WrongHeader, SealFirst, LinkInCircle, BlockNamedTwice, BytePastEnd, BaseOffByOne, BaseAfterSnapshot, BlockNotInData, UnnamedBit, RunsDoNotAddUp}
+use Rattle.log_image.specs.Rows.{with_words, two_blocks, collected, with_runs, one_byte, behind_tail, StandForNothing, BehindTail, WrongHeader, SealFirst, LinkInCircle, BlockNamedTwice, BytePastEnd, BaseOffByOne, BaseAfterSnapshot, BlockNotInData, UnnamedBit, RunsDoNotAddUp}
 use Rattle.log_image.proofs.OneChain.{one_linked, one_meaning}
 use Rattle.log_image.proofs.JustMadeRows.{holds_nothing}
 
@@ -71,8 +71,8 @@ unnamed_bit = nothing_by (with_words ((27, 277076930461697 + 2 ^ 54) ∷ []) two
 pub runs_do_not_add_up : RunsDoNotAddUp
 runs_do_not_add_up = nothing_by (with_words ((40, 8590131204) ∷ []) with_runs) (11 ∷ 10 ∷ []) (refl, (refl, refl, refl)) (λ file position stands. cc)
 
--- the entry behind the hole is in no chain
-pub stands_behind_by : StandsBy behind_hole (3 ∷ []) [] 0
+-- the entry behind the tail is in no chain
+pub stands_behind_by : StandsBy behind_tail (3 ∷ []) [] 0
 stands_behind_by = record {
   header = record { magic = refl; version = refl; unnamed = refl; allowed = refl; whole = refl; head_unnamed = refl; generation = omega arith };
   stands = record {
@@ -80,17 +80,17 @@ stands_behind_by = record {
     format = record { areas = refl; kinds = refl; snapshots = refl; logs = refl; named_once = refl; below_limit = omega arith };
     ends_at = refl;
     ends_with = refl;
-    holds = holds_nothing behind_hole (shape_of behind_hole);
+    holds = holds_nothing behind_tail (shape_of behind_tail);
   };
 }
 
-stands_behind : Stands behind_hole [] 0
+stands_behind : Stands behind_tail [] 0
 stands_behind = (3 ∷ [], stands_behind_by)
 
-pub entry_behind_hole : BehindHole
-entry_behind_hole = (
+pub entry_behind_tail : BehindTail
+entry_behind_tail = (
   stands_behind,
-  λ file position stands. (one_meaning behind_hole stands.0 stands_behind.0 file [] position 0 stands.1 stands_behind.1).2,
+  λ file position stands. (one_meaning behind_tail stands.0 stands_behind.0 file [] position 0 stands.1 stands_behind.1).2,
   refl,
   refl,
   refl,

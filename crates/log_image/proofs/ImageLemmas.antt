@@ -8,7 +8,7 @@ use Rattle.log_entry.specs.Geometry.{shape_refusal}
 use Rattle.log_entry.specs.declared.shapes.Area.TheVariants.{Data, Log}
 use Rattle.log_entry.specs.declared.shapes.BadShape.{BadShape}
 use Rattle.log_entry.specs.declared.shapes.BadShape.TheVariants.{BadBlock, BadArea, TooManyBlocks}
-use Rattle.log_image.specs.Image.{Shape, words_in, block_words, word_at}
+use Rattle.log_image.specs.Image.{Shape, words_in, block_words, word_in_block}
 
 -- a word of a stretch of words
 pub in_range : (words : List ℕ) (at count index : ℕ) → index < count → get_or (slice_range words at (at + count)) index 0 ≡ get_or words (at + index) 0
@@ -17,7 +17,7 @@ in_range words at count index inside =
     rw size (get_or-take count (drop at words) index 0 inside ∙ get_or-drop at words index 0)
 
 -- a word of a block's words is the block's word
-pub in_block : (words : List ℕ) (shape : Shape) (block index : ℕ) → index < words_in shape → get_or (block_words words shape block) index 0 ≡ word_at words shape block index
+pub in_block : (words : List ℕ) (shape : Shape) (block index : ℕ) → index < words_in shape → get_or (block_words words shape block) index 0 ≡ word_in_block words shape block index
 in_block words shape block index inside = in_range words (block * words_in shape) (words_in shape) index inside
 
 -- a block that is inside has all its words

@@ -3,7 +3,7 @@ use Rattle.std.proofs.Common.{◌≡◌, ◌≤◌, ◌<◌, ◌+◌, ◌*◌, �
 use Rattle.std.proofs.lemmas.Bool.{ne_eqb, lt-ltb, eq-eqb, eqb-true, eqb-false}
 use Rattle.std.proofs.lemmas.List.{get_or-drop, length-drop}
 use Rattle.std.proofs.Math.Nat.{mul-le-mul_right}
-use Rattle.log_entry.specs.Fields.{field, placed}
+use Rattle.log_entry.specs.Fields.{field, field_word}
 use Rattle.log_entry.specs.Geometry.{shape_refusal}
 use Rattle.log_entry.specs.Words.{head_word}
 use Rattle.log_entry.specs.declared.layouts.TheConstants.{HEAD_BLOCK, HEAD_UNNAMED, HEAD_GENERATION}
@@ -22,10 +22,10 @@ by_bytes P bytes (inl is) small medium large = subst P (sym is) small
 by_bytes P bytes (inr (inl is)) small medium large = subst P (sym is) medium
 by_bytes P bytes (inr (inr is)) small medium large = subst P (sym is) large
 
-data_field : (data_blocks log_blocks : ℕ) → data_blocks < 4294967296 → field HEADER_DATA (placed HEADER_DATA data_blocks + placed HEADER_LOG log_blocks) ≡ data_blocks
+data_field : (data_blocks log_blocks : ℕ) → data_blocks < 4294967296 → field HEADER_DATA (field_word HEADER_DATA data_blocks + field_word HEADER_LOG log_blocks) ≡ data_blocks
 data_field data_blocks log_blocks small = omega (arith, small)
 
-log_field : (data_blocks log_blocks : ℕ) → data_blocks < 4294967296 → log_blocks < 4294967296 → field HEADER_LOG (placed HEADER_DATA data_blocks + placed HEADER_LOG log_blocks) ≡ log_blocks
+log_field : (data_blocks log_blocks : ℕ) → data_blocks < 4294967296 → log_blocks < 4294967296 → field HEADER_LOG (field_word HEADER_DATA data_blocks + field_word HEADER_LOG log_blocks) ≡ log_blocks
 log_field data_blocks log_blocks small few = omega (arith, small, few)
 
 head_fields : (block : ℕ) → block < 65536 → (field HEAD_BLOCK (head_word (record { generation = 1; block = block })) ≡ block) × (field HEAD_UNNAMED (head_word (record { generation = 1; block = block })) ≡ 0) × (field HEAD_GENERATION (head_word (record { generation = 1; block = block })) ≡ 1)
@@ -51,13 +51,13 @@ far_block shape words is =
     omega (arith, long_block shape words is, times)
 
 power_is : (shape : Shape) (words : List ℕ) → Made shape words → 2 ^ field HEADER_BLOCK_POWER (get_or words 1 0) ≡ shape.block_bytes
-power_is shape words is = rw (is.made.each 1) (by_bytes (λ (b : ℕ). 2 ^ field HEADER_BLOCK_POWER (placed HEADER_VERSION VERSION + placed HEADER_BLOCK_POWER (block_power b)) ≡ b) shape.block_bytes is.allowed.bytes_are refl refl refl)
+power_is shape words is = rw (is.made.each 1) (by_bytes (λ (b : ℕ). 2 ^ field HEADER_BLOCK_POWER (field_word HEADER_VERSION VERSION + field_word HEADER_BLOCK_POWER (block_power b)) ≡ b) shape.block_bytes is.allowed.bytes_are refl refl refl)
 
 version_is : (shape : Shape) (words : List ℕ) → Made shape words → field HEADER_VERSION (get_or words 1 0) ≡ VERSION
-version_is shape words is = rw (is.made.each 1) (by_bytes (λ (b : ℕ). field HEADER_VERSION (placed HEADER_VERSION VERSION + placed HEADER_BLOCK_POWER (block_power b)) ≡ VERSION) shape.block_bytes is.allowed.bytes_are refl refl refl)
+version_is shape words is = rw (is.made.each 1) (by_bytes (λ (b : ℕ). field HEADER_VERSION (field_word HEADER_VERSION VERSION + field_word HEADER_BLOCK_POWER (block_power b)) ≡ VERSION) shape.block_bytes is.allowed.bytes_are refl refl refl)
 
 unnamed_is : (shape : Shape) (words : List ℕ) → Made shape words → field HEADER_UNNAMED (get_or words 1 0) ≡ 0
-unnamed_is shape words is = rw (is.made.each 1) (by_bytes (λ (b : ℕ). field HEADER_UNNAMED (placed HEADER_VERSION VERSION + placed HEADER_BLOCK_POWER (block_power b)) ≡ 0) shape.block_bytes is.allowed.bytes_are refl refl refl)
+unnamed_is shape words is = rw (is.made.each 1) (by_bytes (λ (b : ℕ). field HEADER_UNNAMED (field_word HEADER_VERSION VERSION + field_word HEADER_BLOCK_POWER (block_power b)) ≡ 0) shape.block_bytes is.allowed.bytes_are refl refl refl)
 
 -- the sizes of the areas are less than all blocks
 few_data : (shape : Shape) (words : List ℕ) → Made shape words → shape.data_blocks + shape.log_blocks < 65535

@@ -10,8 +10,8 @@ use Rattle.log_entry.specs.Words.{entry_unnamed}
 use Rattle.log_entry.specs.declared.layouts.TheConstants.{ENTRY_KIND, DIRECT, INDIRECT_BLOCK, DIRECT_LEFTOVER}
 use Rattle.log_image.specs.Image.{Shape, words_in, total, is_in_data, is_in_log, block_words}
 use Rattle.log_image.specs.Entries.{Meaning, direct_meaning, indirect_meaning, meaning, names, all_names}
-use Rattle.log_image.specs.Blocks.{entry_count, file_size, slots_of}
-use Rattle.log_image.specs.Chains.{all_different, snapshots_of, logs_of}
+use Rattle.log_image.specs.Blocks.{entry_count, file_size, slots_of, kept_words}
+use Rattle.log_image.specs.Chains.{is_in, all_different, snapshots_of, logs_of}
 use Rattle.log_image.specs.Positions.{snapshot_entries, log_words, log_entries, entries_of}
 use Rattle.log_image.specs.Format.{all_zero, fits, is_direct, is_indirect, is_indirect_block, has_runs, is_log_entry, is_log_block, is_snapshot_entry, is_snapshot_block, HasFormat}
 use Rattle.log_image.proofs.HoldingLemmas.{both_left, both_right}
@@ -26,10 +26,6 @@ or_left a b is = rw is refl
 pub or_right : (a b : Bool) → b ≡ true → (a || b) ≡ true
 or_right true b is = refl
 or_right false b is = is
-
--- a number in the list
-abbrev pub is_in : List ℕ → ℕ → Bool
-is_in numbers number = list_any (λ (other : ℕ). other == number) numbers
 
 -- what holds of each number in a list holds along it
 pub each_in : (P : ℕ → Type 0) (numbers : List ℕ) → ((number : ℕ) → is_in numbers number ≡ true → P number) → AllByRecursion P numbers
@@ -104,11 +100,11 @@ snapshot_names image shape [] good = refl
 snapshot_names image shape (block ∷ blocks) good =
     subst (λ (l : List ℕ). list_all (is_in_data shape) l ≡ true) (sym (flat_map-append names (kept_in image shape block) (flat_map (kept_in image shape) blocks)))
     (all_join (is_in_data shape) (all_names (kept_in image shape block)) (all_names (flat_map (kept_in image shape) blocks))
-    (direct_names shape (take (entry_count (block_words image shape block)) (slots_of (block_words image shape block)))
+    (direct_names shape (kept_words (block_words image shape block))
     (both_right (nat_le (entry_count (block_words image shape block)) (words_in shape - 3) && nat_le (file_size (block_words image shape block)) (limit_of shape.block_bytes))
-    (list_all (is_snapshot_entry shape) (take (entry_count (block_words image shape block)) (slots_of (block_words image shape block))))
+    (list_all (is_snapshot_entry shape) (kept_words (block_words image shape block)))
     (both_left (nat_le (entry_count (block_words image shape block)) (words_in shape - 3) && nat_le (file_size (block_words image shape block)) (limit_of shape.block_bytes)
-    && list_all (is_snapshot_entry shape) (take (entry_count (block_words image shape block)) (slots_of (block_words image shape block))))
+    && list_all (is_snapshot_entry shape) (kept_words (block_words image shape block)))
     (all_zero (drop (entry_count (block_words image shape block)) (slots_of (block_words image shape block))))
     (both_left (is_snapshot_block shape (block_words image shape block)) (list_all (λ (b : ℕ). is_snapshot_block shape (block_words image shape b)) blocks) good))))
     (snapshot_names image shape blocks (both_right (is_snapshot_block shape (block_words image shape block)) (list_all (λ (b : ℕ). is_snapshot_block shape (block_words image shape b)) blocks) good)))

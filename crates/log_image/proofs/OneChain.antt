@@ -7,19 +7,19 @@ use Rattle.log_image.specs.Image.{Shape}
 use Rattle.log_image.specs.Header.{shape_of}
 use Rattle.log_image.specs.Entries.{Meaning}
 use Rattle.log_image.specs.Maps.{map_of}
-use Rattle.log_image.specs.Chains.{Leads, IsLinked}
+use Rattle.log_image.specs.Chains.{LeadsAlong, IsLinked}
 use Rattle.log_image.specs.Positions.{entries_of}
 use Rattle.log_image.specs.Stands.{HoldsFile, StandsBy}
 use Rattle.log_image.specs.Laws.{HaveOneChain, StandForOne}
 
 -- from one block on there is one way
-pub one_way : (words : List ℕ) (shape : Shape) (block : ℕ) (rest other : List ℕ) → Leads words shape block rest → Leads words shape block other → rest ≡ other
+pub one_way : (words : List ℕ) (shape : Shape) (block : ℕ) (rest other : List ℕ) → LeadsAlong words shape block rest → LeadsAlong words shape block other → rest ≡ other
 one_way words shape block [] [] here there = refl
 one_way words shape block [] (next ∷ other) here there = cc
 one_way words shape block (next ∷ rest) [] here there = cc
 one_way words shape block (next ∷ rest) (also ∷ other) here there =
     let same : next ≡ also = sym here.1 ∙ there.1 in
-    let onward : Leads words shape also rest = subst (λ (b : ℕ). Leads words shape b rest) same here.2 in
+    let onward : LeadsAlong words shape also rest = subst (λ (b : ℕ). LeadsAlong words shape b rest) same here.2 in
     ap (λ (b : ℕ). b ∷ rest) same ∙ ap (λ (l : List ℕ). also ∷ l) (one_way words shape also rest other onward there.2)
 
 pub one_linked : (words : List ℕ) (shape : Shape) (chain other : List ℕ) → IsLinked words shape chain → IsLinked words shape other → chain ≡ other
@@ -27,7 +27,7 @@ one_linked words shape [] other here there = absurd here
 one_linked words shape (first ∷ rest) [] here there = absurd there
 one_linked words shape (first ∷ rest) (also ∷ other) here there =
     let same : first ≡ also = sym here.0 ∙ there.0 in
-    let onward : Leads words shape also rest = subst (λ (b : ℕ). Leads words shape b rest) same here.1 in
+    let onward : LeadsAlong words shape also rest = subst (λ (b : ℕ). LeadsAlong words shape b rest) same here.1 in
     ap (λ (b : ℕ). b ∷ rest) same ∙ ap (λ (l : List ℕ). also ∷ l) (one_way words shape also rest other onward there.1)
 
 pub one_chain : HaveOneChain

@@ -6,13 +6,13 @@ use Rattle.std.proofs.Math.Nat.{mul-le-mul_right}
 use Rattle.log_image.specs.Image.{Shape, words_in, total, is_in_data, is_in_log, block_words}
 use Rattle.log_image.specs.Header.{shape_of, HasHeader}
 use Rattle.log_image.specs.Entries.{all_names}
-use Rattle.log_image.specs.Chains.{all_different}
+use Rattle.log_image.specs.Chains.{all_different, is_in}
 use Rattle.log_image.specs.Positions.{entries_of}
 use Rattle.log_image.specs.Format.{HasFormat}
 use Rattle.log_image.proofs.HoldingLemmas.{both_left, both_right}
 use Rattle.log_image.specs.SameWords.{SameHeader, SameBlocks}
 use Rattle.log_image.proofs.BlockLemmas.{set_elsewhere, block_inside}
-use Rattle.log_image.proofs.NameLemmas.{is_in, or_left, or_right, each_in, test_in, names_in_data, not_data}
+use Rattle.log_image.proofs.NameLemmas.{or_left, or_right, each_in, test_in, names_in_data, not_data}
 
 -- what drops three elements keeps a later element that is set
 pub drop_set : (words : List ℕ) (index word : ℕ) → drop 3 (set words (3 + index) word) ≡ set (drop 3 words) index word

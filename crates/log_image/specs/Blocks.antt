@@ -1,5 +1,5 @@
 -- A block of a chain: its link, its kind, its base, and its slots.
-use Rattle.std.specs.Prelude.{ℕ, ◌==◌, Bool, true, false, not, ◌&&◌, ◌||◌, if◌then◌else◌, List, [], ◌∷◌, drop, slice_index}
+use Rattle.std.specs.Prelude.{ℕ, ◌==◌, Bool, true, false, not, ◌&&◌, ◌||◌, if◌then◌else◌, List, [], ◌∷◌, take, drop, slice_index}
 use Rattle.log_entry.specs.Fields.{field}
 use Rattle.log_entry.specs.declared.layouts.TheConstants.{EMPTY, SEAL, BLOCK_BASE, BLOCK_KIND, SNAPSHOT, SNAPSHOT_SIZE, SNAPSHOT_COUNT}
 
@@ -31,7 +31,11 @@ file_size block = field SNAPSHOT_SIZE (slice_index block 2)
 abbrev pub slots_of : List ℕ → List ℕ
 slots_of block = drop 3 block
 
--- the words of the entries: the slots up to the first that is empty or a seal
+-- the words of the entries that a snapshot block says it has
+abbrev pub kept_words : List ℕ → List ℕ
+kept_words block = take (entry_count block) (slots_of block)
+
+-- the words of the entries of a log block: the slots up to the first that is empty or a seal
 abbrev pub entry_words : List ℕ → List ℕ
 entry_words [] = []
 entry_words (slot ∷ slots) = if slot == EMPTY then [] else if slot == SEAL then [] else slot ∷ entry_words slots

@@ -6,10 +6,14 @@ use Rattle.log_image.specs.Image.{Shape, block_words}
 use Rattle.log_image.specs.Header.{head_block}
 use Rattle.log_image.specs.Blocks.{link_of, kind_of, is_snapshot, base_of, file_size, slots_of, entry_words, leads_on}
 
+-- a number is in the list
+abbrev pub is_in : List ℕ → ℕ → Bool
+is_in numbers number = list_any (λ (other : ℕ). other == number) numbers
+
 -- no number stands twice
 abbrev pub all_different : List ℕ → Bool
 all_different [] = true
-all_different (number ∷ numbers) = not (list_any (λ (other : ℕ). other == number) numbers) && all_different numbers
+all_different (number ∷ numbers) = not (is_in numbers number) && all_different numbers
 
 -- the snapshot blocks at the beginning of a list of blocks
 abbrev pub snapshots_of : List ℕ → Shape → List ℕ → List ℕ
@@ -22,17 +26,17 @@ logs_of words shape [] = []
 logs_of words shape (block ∷ blocks) = if is_snapshot (block_words words shape block) then logs_of words shape blocks else block ∷ blocks
 
 -- each block leads on to the next, which is the one that its link names, and the last leads on to none
-abbrev pub Leads : List ℕ → Shape → ℕ → List ℕ → Type 0
-Leads words shape block [] = leads_on (block_words words shape block) ≡ false
-Leads words shape block (next ∷ rest) =
+abbrev pub LeadsAlong : List ℕ → Shape → ℕ → List ℕ → Type 0
+LeadsAlong words shape block [] = leads_on (block_words words shape block) ≡ false
+LeadsAlong words shape block (next ∷ rest) =
     (leads_on (block_words words shape block) ≡ true)
     × (link_of (block_words words shape block) ≡ next)
-    × Leads words shape next rest
+    × LeadsAlong words shape next rest
 
 -- the first block is the head's; a chain has one
 abbrev pub IsLinked : List ℕ → Shape → List ℕ → Type 0
 IsLinked words shape [] = ⊥
-IsLinked words shape (first ∷ rest) = (head_block words ≡ first) × Leads words shape first rest
+IsLinked words shape (first ∷ rest) = (head_block words ≡ first) × LeadsAlong words shape first rest
 
 -- the base that the first of some snapshot blocks says; 0 where there is none
 abbrev pub first_base : List ℕ → Shape → List ℕ → ℕ

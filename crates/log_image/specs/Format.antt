@@ -1,5 +1,5 @@
 -- The rules of the format for the words that a chain is made of and names.
-use Rattle.std.specs.Prelude.{ℕ, ◌+◌, ◌-◌, ◌^◌, ◌≡◌, ◌<◌, ◌==◌, Bool, true, not, ◌&&◌, ◌||◌, nat_le, nat_lt, if◌then◌else◌, List, [], ◌∷◌, length, take, drop, slice_index}
+use Rattle.std.specs.Prelude.{ℕ, ◌+◌, ◌-◌, ◌^◌, ◌≡◌, ◌<◌, ◌==◌, Bool, true, not, ◌&&◌, ◌||◌, nat_le, nat_lt, if◌then◌else◌, List, [], ◌∷◌, length, drop, slice_index}
 use Rattle.std.specs.List.{list_all}
 use Rattle.log_entry.specs.Shape.{longest_of, limit_of}
 use Rattle.log_entry.specs.Fields.{field}
@@ -7,7 +7,7 @@ use Rattle.log_entry.specs.Words.{entry_unnamed}
 use Rattle.log_entry.specs.declared.layouts.TheConstants.{ENTRY_KIND, EMPTY, DIRECT, INDIRECT, SEAL, DIRECT_LEFTOVER, INDIRECT_BLOCK, BLOCK_UNNAMED, RUNS_COUNT, RUNS_RUNS, RUNS_UNNAMED, RUN_COUNT, RUN_UNNAMED}
 use Rattle.log_image.specs.Image.{Shape, words_in, is_in_data, is_in_log, block_words}
 use Rattle.log_image.specs.Entries.{Meaning, direct_meaning, run_words, indirect_blocks, meaning, all_names}
-use Rattle.log_image.specs.Blocks.{entry_count, file_size, slots_of, entry_words}
+use Rattle.log_image.specs.Blocks.{entry_count, file_size, slots_of, kept_words, entry_words}
 use Rattle.log_image.specs.Chains.{all_different, snapshots_of, logs_of}
 use Rattle.log_image.specs.Positions.{entries_of, position_of}
 
@@ -78,7 +78,7 @@ is_snapshot_entry shape word = is_direct word && field DIRECT_LEFTOVER word == 0
 abbrev pub is_snapshot_block : Shape → List ℕ → Bool
 is_snapshot_block shape block =
     nat_le (entry_count block) (words_in shape - 3) && nat_le (file_size block) (limit_of shape.block_bytes)
-    && list_all (is_snapshot_entry shape) (take (entry_count block) (slots_of block))
+    && list_all (is_snapshot_entry shape) (kept_words block)
     && all_zero (drop (entry_count block) (slots_of block))
 
 -- no unnamed bit of a chain block's second word is set

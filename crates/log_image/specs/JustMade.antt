@@ -1,6 +1,6 @@
 -- A just-made image.
 use Rattle.std.specs.Prelude.{ℕ, ◌+◌, ◌*◌, ◌≡◌, ◌==◌, if◌then◌else◌, List, length, slice_index}
-use Rattle.log_entry.specs.Fields.{placed}
+use Rattle.log_entry.specs.Fields.{field_word}
 use Rattle.log_entry.specs.Words.{head_word, block_word}
 use Rattle.log_entry.specs.declared.words.BlockKind.TheVariants.{Log}
 use Rattle.log_image.specs.Image.{Shape, words_in, total}
@@ -19,8 +19,8 @@ first_log shape = 1 + shape.data_blocks
 abbrev pub made_word : Shape → ℕ → ℕ
 made_word shape place =
     if place == 0 then MAGIC
-    else if place == 1 then placed HEADER_VERSION VERSION + placed HEADER_BLOCK_POWER (block_power shape.block_bytes)
-    else if place == 2 then placed HEADER_DATA shape.data_blocks + placed HEADER_LOG shape.log_blocks
+    else if place == 1 then field_word HEADER_VERSION VERSION + field_word HEADER_BLOCK_POWER (block_power shape.block_bytes)
+    else if place == 2 then field_word HEADER_DATA shape.data_blocks + field_word HEADER_LOG shape.log_blocks
     else if place == 3 then head_word (record { generation = 1; block = first_log shape })
     else if place == first_log shape * words_in shape + 1 then block_word (record { kind = Log; base = 0 })
     else 0

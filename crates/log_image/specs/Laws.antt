@@ -5,7 +5,7 @@ use Rattle.log_image.specs.Image.{Shape}
 use Rattle.log_image.specs.Header.{shape_of, generation_of}
 use Rattle.log_image.specs.Chains.{IsChain}
 use Rattle.log_image.specs.Stands.{StandsBy}
-use Rattle.log_image.specs.Holes.{hole_of, IsClear, IsCleared}
+use Rattle.log_image.specs.Tails.{tail_of, IsClear, IsCleared}
 use Rattle.log_image.specs.Taken.{named_blocks}
 use Rattle.log_image.specs.JustMade.{first_log, IsJustMade}
 
@@ -24,16 +24,16 @@ JustMadeStands = (shape : Shape) (words : List ℕ) → shape_refusal shape.data
     (shape_of words ≡ shape) × StandsBy words (first_log shape ∷ []) [] 0
 
 -- the words after clearing: the shape, the generation, the chain, the file and the position are as before, the chain names
--- the same blocks and has the same hole, and nothing stands after it
+-- the same blocks and has the same tail, and nothing stands after it
 pub record StaysCleared (old new chain file : List ℕ) (position : ℕ) : Type 0 where
   pub same_shape : shape_of new ≡ shape_of old
   pub same_generation : generation_of new ≡ generation_of old
   pub stands : StandsBy new chain file position
   pub same_names : named_blocks new (shape_of old) chain ≡ named_blocks old (shape_of old) chain
-  pub same_hole : hole_of new (shape_of old) chain ≡ hole_of old (shape_of old) chain
-  pub clear : IsClear new (shape_of old) (hole_of old (shape_of old) chain)
+  pub same_tail : tail_of new (shape_of old) chain ≡ tail_of old (shape_of old) chain
+  pub clear : IsClear new (shape_of old) (tail_of old (shape_of old) chain)
 
--- clearing what stands after the hole keeps what the words stand for
+-- clearing what stands after the tail keeps what the words stand for
 abbrev pub ClearingKeeps : Type 0
-ClearingKeeps = (old new chain file : List ℕ) (position : ℕ) → StandsBy old chain file position → IsCleared (shape_of old) (hole_of old (shape_of old) chain) old new →
+ClearingKeeps = (old new chain file : List ℕ) (position : ℕ) → StandsBy old chain file position → IsCleared (shape_of old) (tail_of old (shape_of old) chain) old new →
     StaysCleared old new chain file position

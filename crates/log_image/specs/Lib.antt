@@ -7,9 +7,9 @@ pub mod Chains
 pub mod Positions
 pub mod Format
 pub mod Stands
-pub mod Holes
+pub mod Tails
 pub mod Taken
-pub mod Keeps
+pub mod MayStart
 pub mod SameWords
 pub mod Recovered
 pub mod JustMade

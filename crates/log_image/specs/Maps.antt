@@ -15,10 +15,10 @@ map_of [] virt = None
 map_of (entry ∷ entries) virt = option_or (map_of entries virt) (block_in entry virt)
 
 -- where in the file an entry's bytes end
-abbrev pub end_of : Shape → Meaning → ℕ
-end_of shape entry = (entry.virt + length entry.blocks) * shape.block_bytes - entry.leftover
+abbrev pub entry_end : Shape → Meaning → ℕ
+entry_end shape entry = (entry.virt + length entry.blocks) * shape.block_bytes - entry.leftover
 
 -- the size after these entries, from a size before them: each makes it at least its end
 abbrev pub size_after : Shape → ℕ → List Meaning → ℕ
 size_after shape size [] = size
-size_after shape size (entry ∷ entries) = size_after shape (max size (end_of shape entry)) entries
+size_after shape size (entry ∷ entries) = size_after shape (max size (entry_end shape entry)) entries

@@ -1,16 +1,21 @@
 -- What a chain says: its entries, and the position, the size and the map that they come to.
-use Rattle.std.specs.Prelude.{ℕ, ◌+◌, ◌-◌, List, ◌++◌, length, map, take, Option}
+use Rattle.std.specs.Prelude.{ℕ, ◌+◌, ◌-◌, List, ◌++◌, length, map, take, if◌then◌else◌, Option}
 use Rattle.std.specs.List.{flat_map}
 use Rattle.log_image.specs.Image.{Shape, block_words}
 use Rattle.log_image.specs.Entries.{Meaning, direct_meaning, meaning}
 use Rattle.log_image.specs.Maps.{map_of, size_after}
-use Rattle.log_image.specs.Blocks.{entry_count, slots_of, entry_words}
+use Rattle.log_image.specs.Blocks.{is_snapshot, slots_of, kept_words, entry_words}
 use Rattle.log_image.specs.Chains.{snapshots_of, logs_of, snapshot_base, snapshot_size}
+
+-- what the entries of a block of these words mean, whether it is a snapshot block or a log block
+abbrev pub block_entries : List ℕ → Shape → List ℕ → List Meaning
+block_entries words shape block =
+    if is_snapshot block then map direct_meaning (kept_words block) else map (meaning words shape) (entry_words (slots_of block))
 
 -- the entries of the snapshot
 abbrev pub snapshot_entries : List ℕ → Shape → List ℕ → List Meaning
 snapshot_entries words shape chain =
-    flat_map (λ (block : ℕ). map direct_meaning (take (entry_count (block_words words shape block)) (slots_of (block_words words shape block)))) (snapshots_of words shape chain)
+    flat_map (λ (block : ℕ). map direct_meaning (kept_words (block_words words shape block))) (snapshots_of words shape chain)
 
 -- the words of the entries of the log: the one at place k has the snapshot's position plus k + 1
 abbrev pub log_words : List ℕ → Shape → List ℕ → List ℕ

@@ -10,7 +10,7 @@ use Rattle.log_image.specs.Stands.{Stands}
 use Rattle.log_image.specs.JustMade.{made_word}
 use Rattle.log_image.specs.Recovered.{Recovered}
 use Rattle.log_image.specs.declared.starts.Start.{Start}
-use Rattle.log_image.specs.Holes.{AtSlot, hole_of, is_after}
+use Rattle.log_image.specs.Tails.{AtSlot, tail_of, is_after}
 
 -- the words with other numbers at some places
 abbrev pub with_words : List (ℕ × ℕ) → List ℕ → List ℕ
@@ -86,23 +86,23 @@ MapWithRuns =
     × (map_at with_runs (shape_of with_runs) (11 ∷ 10 ∷ []) 7 5 ≡ None)
     × (map_at with_runs (shape_of with_runs) (11 ∷ 10 ∷ []) 8 6 ≡ None)
 
--- an entry behind a hole does not count: the hole is slot 3 of block 3, and clearing empties slot 4
-abbrev pub behind_hole : List ℕ
-behind_hole = with_words ((28, one_byte) ∷ []) two_blocks
+-- an entry behind a tail does not count: the tail is slot 3 of block 3, and clearing empties slot 4
+abbrev pub behind_tail : List ℕ
+behind_tail = with_words ((28, one_byte) ∷ []) two_blocks
 
-abbrev pub BehindHole : Type 0
-BehindHole =
-    Stands behind_hole [] 0
-    × ((file : List ℕ) (position : ℕ) → Stands behind_hole file position → position ≡ 0)
-    × (hole_of behind_hole (shape_of behind_hole) (3 ∷ []) ≡ AtSlot 3 3)
-    × (is_after (shape_of behind_hole) (AtSlot 3 3) 28 ≡ true)
-    × (is_after (shape_of behind_hole) (AtSlot 3 3) 24 ≡ true)
-    × (is_after (shape_of behind_hole) (AtSlot 3 3) 27 ≡ false)
-    × (is_after (shape_of behind_hole) (AtSlot 3 3) 32 ≡ false)
+abbrev pub BehindTail : Type 0
+BehindTail =
+    Stands behind_tail [] 0
+    × ((file : List ℕ) (position : ℕ) → Stands behind_tail file position → position ≡ 0)
+    × (tail_of behind_tail (shape_of behind_tail) (3 ∷ []) ≡ AtSlot 3 3)
+    × (is_after (shape_of behind_tail) (AtSlot 3 3) 28 ≡ true)
+    × (is_after (shape_of behind_tail) (AtSlot 3 3) 24 ≡ true)
+    × (is_after (shape_of behind_tail) (AtSlot 3 3) 27 ≡ false)
+    × (is_after (shape_of behind_tail) (AtSlot 3 3) 32 ≡ false)
 
 -- a start of the just-made image is what is recovered from these words: the empty file at position 0
-abbrev pub RecoveredBeforeHole : Type 0
-RecoveredBeforeHole = (start : Start) → start.words.items ≡ two_blocks → Recovered behind_hole start [] 0
+abbrev pub RecoveredBeforeTail : Type 0
+RecoveredBeforeTail = (start : Start) → start.words.items ≡ two_blocks → Recovered behind_tail start [] 0
 
 -- one number of the header is wrong: the name of the format, its version, the generation; or a word is missing
 abbrev pub WrongHeader : Type 0

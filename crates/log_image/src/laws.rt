@@ -1,7 +1,7 @@
 //! Laws of the definitions, each the contract of a function that does nothing, and worked rows that they compute.
 
 ghost use Rattle.log_image.specs.Laws.{HaveOneChain, StandForOne, JustMadeStands, ClearingKeeps};
-ghost use Rattle.log_image.specs.Rows.{JustMade, MadeByRule, AcrossBlocks, AfterCollection, RunsInBlock, MapWithRuns, BehindHole, RecoveredBeforeHole, WrongHeader, SealFirst, LinkInCircle, BlockNamedTwice, BytePastEnd, BaseOffByOne, BaseAfterSnapshot, BlockNotInData, UnnamedBit, RunsDoNotAddUp};
+ghost use Rattle.log_image.specs.Rows.{JustMade, MadeByRule, AcrossBlocks, AfterCollection, RunsInBlock, MapWithRuns, BehindTail, RecoveredBeforeTail, WrongHeader, SealFirst, LinkInCircle, BlockNamedTwice, BytePastEnd, BaseOffByOne, BaseAfterSnapshot, BlockNotInData, UnnamedBit, RunsDoNotAddUp};
 
 /// Worked images: what they stand for, and images that stand for nothing.
 pub fn law_rows()
@@ -11,8 +11,8 @@ pub fn law_rows()
     ensures after_collection { AfterCollection }
     ensures runs_in_block { RunsInBlock }
     ensures map_with_runs { MapWithRuns }
-    ensures behind_hole { BehindHole }
-    ensures recovered_before_hole { RecoveredBeforeHole }
+    ensures behind_tail { BehindTail }
+    ensures recovered_before_tail { RecoveredBeforeTail }
     ensures wrong_header { WrongHeader }
     ensures seal_first { SealFirst }
     ensures link_in_circle { LinkInCircle }
@@ -36,7 +36,7 @@ pub fn law_just_made()
     ensures { JustMadeStands }
 {}
 
-/// Clearing what stands after the hole keeps what the words stand for: the chain, the file and the position.
+/// Clearing what stands after the tail keeps what the words stand for: the chain, the file and the position.
 pub fn law_clearing()
     ensures { ClearingKeeps }
 {}

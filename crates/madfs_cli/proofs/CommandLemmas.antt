@@ -2,8 +2,7 @@
 use Rattle.std.proofs.Common.{◌≡◌, ℕ, List, [], ◌∷◌, length, Option, None, Some, refl, sym, ap, ◌∙◌, codes, arith, MatchOption}
 use Rattle.std.specs.Prelude.{slice_get}
 use Rattle.log_entry.specs.Text.{number_of}
-use Rattle.log_image.specs.Image.{Shape}
-use Rattle.chain_reader.specs.Tables.{shape_by}
+use Rattle.log_image.specs.Image.{Shape, shape_by}
 use Rattle.madfs_cli.specs.Commands.{IsMkfs, IsTry, IsReplay, SaysShapeAt}
 use Rattle.log_entry.specs.declared.shapes.Geometry.{Geometry}
 

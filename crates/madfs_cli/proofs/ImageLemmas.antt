@@ -3,7 +3,7 @@ use Rattle.std.proofs.Common.{◌≡◌, ◌+◌, ◌<◌, ◌≤◌, ℕ, List,
 use Rattle.io_ends.specs.Taking.{TakesAll, TakesCount}
 use Rattle.log_image.specs.Header.{shape_of}
 use Rattle.log_image.specs.Chains.{IsChain}
-use Rattle.log_image.specs.Holes.{hole_of, IsCleared}
+use Rattle.log_image.specs.Tails.{tail_of, IsCleared}
 use Rattle.log_image.specs.Positions.{position_of}
 use Rattle.log_image.specs.Laws.{StaysCleared}
 use Rattle.log_image.specs.Stands.{StandsBy}
@@ -35,7 +35,7 @@ opens_to bytes words rest start accepts recovers =
         rest = rest;
         accepts = accepts;
         chain_is = refl;
-        cleared_is = subst (λ (l : List ℕ). IsCleared (shape_of words) (hole_of words (shape_of words) l) words start.words.items) one recovered.cleared;
+        cleared_is = subst (λ (l : List ℕ). IsCleared (shape_of words) (tail_of words (shape_of words) l) words start.words.items) one recovered.cleared;
       };
     }
 
@@ -44,7 +44,7 @@ pub clears_stand : (bytes chain cleared : List ℕ) → (clears : Clears bytes c
 clears_stand bytes chain cleared clears =
     clearing_keeps clears.words cleared (chain_of clears.words clears.rest) (file_of clears.words clears.rest) (position_of clears.words (shape_of clears.words) (chain_of clears.words clears.rest))
     (stands_by clears.words clears.rest clears.accepts.accepts)
-    (subst (λ (l : List ℕ). IsCleared (shape_of clears.words) (hole_of clears.words (shape_of clears.words) l) clears.words cleared) clears.chain_is clears.cleared_is)
+    (subst (λ (l : List ℕ). IsCleared (shape_of clears.words) (tail_of clears.words (shape_of clears.words) l) clears.words cleared) clears.chain_is clears.cleared_is)
 
 -- so they stand for a file
 pub opened_stands : (bytes cleared : List ℕ) → OpensTo bytes cleared → StandForAFile cleared

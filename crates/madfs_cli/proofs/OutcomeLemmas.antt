@@ -4,7 +4,7 @@ use Rattle.std.proofs.lemmas.List.{append-nil}
 use Rattle.io_ends.specs.Faults.{Rose}
 use Rattle.io_ends.specs.Giving.{Gives}
 use Rattle.log_entry.specs.declared.calls.Job.{Job}
-use Rattle.trace_reader.specs.Reading.{Reads}
+use Rattle.trace_reader.specs.Reading.{ReadsTrace}
 use Rattle.trace_reader.specs.Laws.{OneReading}
 use Rattle.trace_reader.specs.declared.refusals.BadTrace.{BadTrace as TraceRefusal}
 use Rattle.opening_rules.specs.declared.refusals.BadImage.{BadImage as ImageRefusal}
@@ -21,11 +21,11 @@ use Rattle.madfs_cli.specs.declared.statuses.Status.TheVariants.{Done, Usage, Ba
 use Rattle.madfs_cli.proofs.ImageLemmas.{one_image_refusal, file_shown}
 
 -- bytes that are a trace are not refused
-trace_not_both : OneReading → (bytes : List ℕ) (jobs : List Job) (why : TraceRefusal) → Reads 1 bytes (Ok jobs) → Reads 1 bytes (Err why) → ⊥
+trace_not_both : OneReading → (bytes : List ℕ) (jobs : List Job) (why : TraceRefusal) → ReadsTrace 1 bytes (Ok jobs) → ReadsTrace 1 bytes (Err why) → ⊥
 trace_not_both one bytes jobs why read refused = let same = one 1 bytes (Ok jobs) (Err why) (omega arith) read refused in cc
 
 -- there is one refusal of a trace
-one_trace_refusal : OneReading → (bytes : List ℕ) (why other : TraceRefusal) → Reads 1 bytes (Err why) → Reads 1 bytes (Err other) → why ≡ other
+one_trace_refusal : OneReading → (bytes : List ℕ) (why other : TraceRefusal) → ReadsTrace 1 bytes (Err why) → ReadsTrace 1 bytes (Err other) → why ≡ other
 one_trace_refusal one bytes why other refused again = let same = one 1 bytes (Err why) (Err other) (omega arith) refused again in cc
 
 -- where there is an image to write, the command writes one
@@ -97,20 +97,20 @@ not_made_outcome one request seen NoMemory not_made none = record {
 }
 
 -- a trace that was read is not refused
-pub trace_read : OneReading → (request : Request) (trace : TakenFrom) (why : TraceRefusal) → ((bytes : List ℕ) → trace.left ≡ Some bytes → (jobs : List Job) × Reads 1 bytes (Ok jobs)) → TraceRefused request trace why → ⊥
+pub trace_read : OneReading → (request : Request) (trace : TakenFrom) (why : TraceRefusal) → ((bytes : List ℕ) → trace.left ≡ Some bytes → (jobs : List Job) × ReadsTrace 1 bytes (Ok jobs)) → TraceRefused request trace why → ⊥
 trace_read one request trace why read refused =
     let known = read refused.bytes refused.left in
     trace_not_both one refused.bytes known.0 why known.1 refused.refused
 
 -- the same of an output that was made
-pub trace_good : OneReading → (request : Request) (trace : TakenFrom) (result : Result Output Status) → OnOk result ((bytes : List ℕ) → trace.left ≡ Some bytes → (jobs : List Job) × Reads 1 bytes (Ok jobs)) →
+pub trace_good : OneReading → (request : Request) (trace : TakenFrom) (result : Result Output Status) → OnOk result ((bytes : List ℕ) → trace.left ≡ Some bytes → (jobs : List Job) × ReadsTrace 1 bytes (Ok jobs)) →
     OnOk result ((why : TraceRefusal) → TraceRefused request trace why → ⊥)
 trace_good one request trace (Ok output) read = λ why refused. trace_read one request trace why read refused
 trace_good one request trace (Err status) read = tt
 
 -- what a run on a just-made image, and on an image, says of the reading of its trace
 pub try_reads : (shape : Shape) (left : Option (List ℕ)) (result : Result Output Status) → IfOk result (λ output. (bytes : List ℕ) → left ≡ Some bytes → IsTryOf shape bytes output.text.items) →
-    OnOk result ((bytes : List ℕ) → left ≡ Some bytes → (jobs : List Job) × Reads 1 bytes (Ok jobs))
+    OnOk result ((bytes : List ℕ) → left ≡ Some bytes → (jobs : List Job) × ReadsTrace 1 bytes (Ok jobs))
 try_reads shape left (Ok output) report = λ bytes known. ((report bytes known).jobs, (report bytes known).read)
 try_reads shape left (Err status) report = tt
 

@@ -3,8 +3,7 @@ use Rattle.std.specs.Prelude.{ℕ, ◌≡◌, Bool, true, false, List, [], ◌�
 use Rattle.std.specs.List.{slice_get}
 use Rattle.log_entry.specs.Text.{number_of}
 use Rattle.log_entry.specs.Geometry.{shape_refusal}
-use Rattle.log_image.specs.Image.{Shape}
-use Rattle.chain_reader.specs.Tables.{shape_by}
+use Rattle.log_image.specs.Image.{Shape, shape_by}
 use Rattle.madfs_cli.specs.declared.commands.Command.{Command}
 use Rattle.madfs_cli.specs.declared.commands.Command.TheVariants.{Make, Cat}
 use Rattle.madfs_cli.specs.declared.commands.Making.{Making}

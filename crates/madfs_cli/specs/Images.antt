@@ -4,7 +4,7 @@ use Rattle.log_entry.specs.WordBytes.{word_bytes}
 use Rattle.log_image.specs.Image.{Shape, words_in, total}
 use Rattle.log_image.specs.Header.{shape_of}
 use Rattle.log_image.specs.Stands.{StandsBy}
-use Rattle.log_image.specs.Holes.{hole_of, IsCleared}
+use Rattle.log_image.specs.Tails.{tail_of, IsCleared}
 use Rattle.log_image.specs.JustMade.{IsJustMade}
 use Rattle.opening_rules.specs.Opening.{RefusesBytes, AcceptsBytes, chain_of}
 use Rattle.opening_rules.specs.declared.refusals.BadImage.{BadImage}
@@ -25,7 +25,7 @@ pub record Clears (bytes chain cleared : List ℕ) : Type 0 where
   pub rest : List ℕ
   pub accepts : AcceptsBytes bytes words rest
   pub chain_is : chain ≡ chain_of words rest
-  pub cleared_is : IsCleared (shape_of words) (hole_of words (shape_of words) chain) words cleared
+  pub cleared_is : IsCleared (shape_of words) (tail_of words (shape_of words) chain) words cleared
 
 -- the same by some chain
 pub record OpensTo (bytes cleared : List ℕ) : Type 0 where

@@ -11,7 +11,7 @@ use Rattle.log_image.specs.Header.{shape_of, generation_of}
 use Rattle.log_image.specs.Stands.{StandsBy}
 use Rattle.log_image.specs.JustMade.{first_log, IsJustMade}
 use Rattle.log_image.specs.Laws.{StaysCleared}
-use Rattle.trace_reader.specs.Reading.{Reads}
+use Rattle.trace_reader.specs.Reading.{ReadsTrace}
 use Rattle.history_report.specs.Report.{report_text}
 use Rattle.plain_engine.specs.Served.{AreServed}
 use Rattle.madfs_cli.specs.Images.{Clears}
@@ -41,7 +41,7 @@ pub record IsTryOf (shape : Shape) (trace text : List ℕ) : Type 0 where
   pub words : List ℕ
   pub just_made : IsJustMade shape words
   pub jobs : List Job
-  pub read : Reads 1 trace (Ok jobs)
+  pub read : ReadsTrace 1 trace (Ok jobs)
   pub after : List ℕ
   pub run : IsRunOf words (first_log shape ∷ []) [] 0 jobs text after
 
@@ -56,7 +56,7 @@ pub record IsReplayOf (image trace text fresh : List ℕ) : Type 0 where
   pub stands : StandsBy clears.words chain file position
   pub stays : StaysCleared clears.words cleared chain file position
   pub jobs : List Job
-  pub read : Reads 1 trace (Ok jobs)
+  pub read : ReadsTrace 1 trace (Ok jobs)
   pub after : List ℕ
   pub run : IsRunOf cleared chain file position jobs text after
   pub fresh_is : fresh ≡ word_bytes after

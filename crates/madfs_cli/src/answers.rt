@@ -2,7 +2,7 @@
 
 ghost use Rattle.std.specs.Prelude.{◌≡◌, ◌≢◌, ◌⊎◌, ℕ, List, [], Some, Ok, IfOk, IfErr, OnOk, true, false};
 ghost use Rattle.io_ends.specs.Taking.{IsAtEnd};
-ghost use Rattle.chain_reader.specs.Tables.{shape_by};
+ghost use Rattle.log_image.specs.Image.{shape_by};
 ghost use Rattle.madfs_cli.specs.Commands.{ShowFile, made_request, reads_image, reads_trace, writes_image};
 ghost use Rattle.madfs_cli.specs.Inputs.{IsNotOpened};
 ghost use Rattle.madfs_cli.specs.Images.{RefusesImage, IsDumpOf, made_text, IsNewImage};

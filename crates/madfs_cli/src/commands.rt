@@ -2,8 +2,7 @@
 
 ghost use Rattle.std.specs.Prelude.{◌≡◌, ◌≢◌, ◌≤◌, MatchOption, None, length, ℕ, IsTrue, false};
 ghost use Rattle.log_entry.specs.Geometry.{shape_refusal, HasShape};
-ghost use Rattle.log_image.specs.Image.{Shape};
-ghost use Rattle.chain_reader.specs.Tables.{shape_by};
+ghost use Rattle.log_image.specs.Image.{Shape, shape_by};
 ghost use Rattle.madfs_cli.specs.Commands.{IsCommand, IsMkfs, IsTry, IsReplay, Says, SaysShapeAt};
 
 use io_ends::Words;

@@ -5,8 +5,8 @@ ghost use Rattle.io_ends.specs.Taking.{IsAtEnd};
 ghost use Rattle.log_image.specs.Stands.{StandsBy};
 ghost use Rattle.log_entry.specs.declared.calls.Job.{Job};
 ghost use Rattle.trace_reader.specs.Trace.{IsTrace};
-ghost use Rattle.trace_reader.specs.Reading.{Reads};
-ghost use Rattle.chain_reader.specs.Tables.{shape_by};
+ghost use Rattle.trace_reader.specs.Reading.{ReadsTrace};
+ghost use Rattle.log_image.specs.Image.{shape_by};
 ghost use Rattle.opening_rules.specs.declared.refusals.BadImage.{BadImage};
 ghost use Rattle.trace_reader.specs.declared.refusals.BadTrace.{BadTrace};
 ghost use Rattle.madfs_cli.specs.Commands.{ReplayTrace};
@@ -79,7 +79,7 @@ pub fn replay_trace<I: Source, T: Source>(
 ) -> Result<Output, Status>
     ensures replay { IfOk result (λ output. (bytes text : List ℕ) → I.left image.old ≡ Some bytes → T.left trace.old ≡ Some text → IsReplayOf bytes text output.text.items output.image.items) }
     ensures image_good { OnOk result ((why : BadImage) → ImageRefused ReplayTrace (record { left = I.left image.old; faults_before = I.faults image.old; faults_after = I.faults image.new }) why → ⊥) }
-    ensures trace_read { OnOk result ((bytes : List ℕ) → T.left trace.old ≡ Some bytes → (jobs : List Job) × Reads 1 bytes (Ok jobs)) }
+    ensures trace_read { OnOk result ((bytes : List ℕ) → T.left trace.old ≡ Some bytes → (jobs : List Job) × ReadsTrace 1 bytes (Ok jobs)) }
     ensures image_end { OnOk result (IsAtEnd (I.left image.new)) }
     ensures trace_end { OnOk result (IsAtEnd (T.left trace.new)) }
     ensures refused { IfErr result (IsNotMade ReplayTrace

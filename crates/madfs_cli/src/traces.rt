@@ -3,7 +3,7 @@
 ghost use Rattle.std.specs.Prelude.{◌≡◌, ℕ, List, Some, Ok, Err, IfOk, IfErr, OnOk};
 ghost use Rattle.io_ends.specs.Taking.{IsAtEnd};
 ghost use Rattle.trace_reader.specs.Trace.{IsTrace};
-ghost use Rattle.trace_reader.specs.Reading.{Reads};
+ghost use Rattle.trace_reader.specs.Reading.{ReadsTrace};
 ghost use Rattle.madfs_cli.specs.Inputs.{IsNotRead};
 
 use crate::statuses::Status;
@@ -18,7 +18,7 @@ const TRACE_LIMIT: usize = 67_108_864;
 /// The jobs of the trace that a source has left, read to its end.
 pub fn read_jobs<T: Source>(alloc: Global, trace: &mut T) -> Result<Vec<Job>, Status>
     ensures jobs { IfOk result (λ jobs. IsTrace 1 jobs.items) }
-    ensures read { IfOk result (λ jobs. (bytes : List ℕ) → T.left trace.old ≡ Some bytes → Reads 1 bytes (Ok jobs.items)) }
+    ensures read { IfOk result (λ jobs. (bytes : List ℕ) → T.left trace.old ≡ Some bytes → ReadsTrace 1 bytes (Ok jobs.items)) }
     ensures end { OnOk result (IsAtEnd (T.left trace.new)) }
     ensures refused { IfErr result (IsNotRead (T.left trace.old) (T.faults trace.old) (T.faults trace.new)) }
 {

@@ -4,36 +4,36 @@ use Rattle.std.specs.List.{list_all, flat_map}
 use Rattle.std.proofs.lemmas.List.{map-append}
 use Rattle.log_image.specs.Image.{Shape, block_words}
 use Rattle.log_image.specs.Entries.{Meaning, direct_meaning, meaning, all_names}
-use Rattle.log_image.specs.Maps.{end_of, size_after}
+use Rattle.log_image.specs.Maps.{entry_end, size_after}
 use Rattle.log_image.specs.Blocks.{is_snapshot, base_of, entry_count, file_size, slots_of, entry_words}
 use Rattle.log_image.specs.Chains.{all_different, snapshots_of, logs_of, snapshot_base, snapshot_size, HaveOneBase, AreLogsFrom}
 use Rattle.log_image.specs.Positions.{snapshot_entries, log_words, log_entries, entries_of, position_of, size_at_end}
 use Rattle.log_image.specs.Format.{is_log_block, is_snapshot_block, is_kind_word}
-use Rattle.opening_rules.specs.BlockChecks.{Place, start, is_first, after}
+use Rattle.opening_rules.specs.BlockChecks.{Place, start, is_first, place_after}
 use Rattle.opening_rules.specs.Walks.{PassesFrom, end_from}
 use Rattle.opening_rules.proofs.BlockFacts.{CleanParts, clean_parts, good_word, log_block, SnapshotBlock, snapshot_block}
 
 -- the size after entries and moved others
 size_after_more : (shape : Shape) (size : ℕ) (entries others : List Meaning) → size_after shape size (entries ++ others) ≡ size_after shape (size_after shape size entries) others
 size_after_more shape size [] others = refl
-size_after_more shape size (entry ∷ entries) others = size_after_more shape (max size (end_of shape entry)) entries others
+size_after_more shape size (entry ∷ entries) others = size_after_more shape (max size (entry_end shape entry)) entries others
 
 -- the place after a log block, and after a snapshot block
 record AfterLog (words : List ℕ) (shape : Shape) (place : Place) (number : ℕ) (block : List ℕ) : Type 0 where
-  pub before : (after words shape place number block).before ≡ place.before ++ number ∷ []
-  pub in_logs : (after words shape place number block).in_logs ≡ true
-  pub position : (after words shape place number block).position ≡ place.position + length (entry_words (slots_of block))
-  pub size : (after words shape place number block).size ≡ size_after shape place.size (map (meaning words shape) (entry_words (slots_of block)))
-  pub entries : (after words shape place number block).entries ≡ place.entries ++ map (meaning words shape) (entry_words (slots_of block))
+  pub before : (place_after words shape place number block).before ≡ place.before ++ number ∷ []
+  pub in_logs : (place_after words shape place number block).in_logs ≡ true
+  pub position : (place_after words shape place number block).position ≡ place.position + length (entry_words (slots_of block))
+  pub size : (place_after words shape place number block).size ≡ size_after shape place.size (map (meaning words shape) (entry_words (slots_of block)))
+  pub entries : (place_after words shape place number block).entries ≡ place.entries ++ map (meaning words shape) (entry_words (slots_of block))
 
 after_log : (words : List ℕ) (shape : Shape) (place : Place) (number : ℕ) (block : List ℕ) → is_snapshot block ≡ false → AfterLog words shape place number block
 after_log words shape place number block is = record { before = refl; in_logs = rw is refl; position = rw is refl; size = rw is refl; entries = rw is refl }
 
 record AfterSnapshot (words : List ℕ) (shape : Shape) (place : Place) (number : ℕ) (block : List ℕ) : Type 0 where
-  pub before : is_first (after words shape place number block).before ≡ false
-  pub position : (after words shape place number block).position ≡ base_of block
-  pub size : (after words shape place number block).size ≡ file_size block
-  pub entries : (after words shape place number block).entries ≡ place.entries ++ map direct_meaning (take (entry_count block) (slots_of block))
+  pub before : is_first (place_after words shape place number block).before ≡ false
+  pub position : (place_after words shape place number block).position ≡ base_of block
+  pub size : (place_after words shape place number block).size ≡ file_size block
+  pub entries : (place_after words shape place number block).entries ≡ place.entries ++ map direct_meaning (take (entry_count block) (slots_of block))
 
 after_snapshot : (words : List ℕ) (shape : Shape) (place : Place) (number : ℕ) (block : List ℕ) → is_snapshot block ≡ true → AfterSnapshot words shape place number block
 after_snapshot words shape place number block is = record { before = some_before place.before; position = rw is refl; size = rw is refl; entries = rw is refl }
@@ -86,19 +86,19 @@ module _ (words : List ℕ) (shape : Shape) where
       let parts = clean_parts words shape place block (block_words words shape block) passes.0 in
       let log = log_block words shape place block (block_words words shape block) parts is below once in
       let next = after_log words shape place block (block_words words shape block) is in
-      let here_below : (after words shape place block (block_words words shape block)).position < 2 ^ 40 = rw next.position log.below in
-      let here_once : all_different (all_names (after words shape place block (block_words words shape block)).entries) ≡ true = rw next.entries log.once in
-      let not_snapshot : is_snapshot (block_words words shape follower) ≡ false = still_log (after words shape place block (block_words words shape block)) follower (is_snapshot (block_words words shape follower)) refl (first_clean (after words shape place block (block_words words shape block)) follower rest passes.3) next.in_logs here_once in
-      let onward = logs_from (after words shape place block (block_words words shape block)) follower rest passes.3 not_snapshot here_below here_once in
+      let here_below : (place_after words shape place block (block_words words shape block)).position < 2 ^ 40 = rw next.position log.below in
+      let here_once : all_different (all_names (place_after words shape place block (block_words words shape block)).entries) ≡ true = rw next.entries log.once in
+      let not_snapshot : is_snapshot (block_words words shape follower) ≡ false = still_log (place_after words shape place block (block_words words shape block)) follower (is_snapshot (block_words words shape follower)) refl (first_clean (place_after words shape place block (block_words words shape block)) follower rest passes.3) next.in_logs here_once in
+      let onward = logs_from (place_after words shape place block (block_words words shape block)) follower rest passes.3 not_snapshot here_below here_once in
       record {
         no_snapshots = rw is refl;
         all_logs = rw is refl;
         bases = (log.kind, log.base, rw next.position at onward.bases);
         kinds = both _ _ (good_word words shape place block (block_words words shape block) parts) onward.kinds;
         logs = both _ _ log.good onward.logs;
-        entries = onward.entries ∙ join_entries place.entries (entry_words (slots_of (block_words words shape block))) (words_of_logs (follower ∷ rest)) (after words shape place block (block_words words shape block)).entries next.entries;
-        position = onward.position ∙ join_position place.position (entry_words (slots_of (block_words words shape block))) (words_of_logs (follower ∷ rest)) (after words shape place block (block_words words shape block)).position next.position;
-        size = onward.size ∙ join_size place.size (entry_words (slots_of (block_words words shape block))) (words_of_logs (follower ∷ rest)) (after words shape place block (block_words words shape block)).size next.size;
+        entries = onward.entries ∙ join_entries place.entries (entry_words (slots_of (block_words words shape block))) (words_of_logs (follower ∷ rest)) (place_after words shape place block (block_words words shape block)).entries next.entries;
+        position = onward.position ∙ join_position place.position (entry_words (slots_of (block_words words shape block))) (words_of_logs (follower ∷ rest)) (place_after words shape place block (block_words words shape block)).position next.position;
+        size = onward.size ∙ join_size place.size (entry_words (slots_of (block_words words shape block))) (words_of_logs (follower ∷ rest)) (place_after words shape place block (block_words words shape block)).size next.size;
         below = onward.below;
         once = onward.once;
       }
@@ -153,12 +153,12 @@ module _ (words : List ℕ) (shape : Shape) where
 
   -- a snapshot block before the others
   with_snapshot : (place : Place) (block next : ℕ) (rest : List ℕ) → is_snapshot (block_words words shape block) ≡ true → CleanParts words shape place block (block_words words shape block) →
-      SnapshotBlock shape place (block_words words shape block) → ChainFrom (after words shape place block (block_words words shape block)) next rest →
+      SnapshotBlock shape place (block_words words shape block) → ChainFrom (place_after words shape place block (block_words words shape block)) next rest →
       base_of (block_words words shape block) ≡ place.position → file_size (block_words words shape block) ≡ place.size → ChainFrom place block (next ∷ rest)
   with_snapshot place block next rest is parts snapshot onward base size =
       let moved = after_snapshot words shape place block (block_words words shape block) is in
-      let same_position : (after words shape place block (block_words words shape block)).position ≡ place.position = moved.position ∙ base in
-      let same_size : (after words shape place block (block_words words shape block)).size ≡ place.size = moved.size ∙ size in
+      let same_position : (place_after words shape place block (block_words words shape block)).position ≡ place.position = moved.position ∙ base in
+      let same_size : (place_after words shape place block (block_words words shape block)).size ≡ place.size = moved.size ∙ size in
       record {
         one_base = rw is ((base, size), rw (same_position, same_size) at onward.one_base);
         bases = rw is (rw same_position at onward.bases);
@@ -166,7 +166,7 @@ module _ (words : List ℕ) (shape : Shape) where
         snapshots = rw is (both _ _ snapshot.good onward.snapshots);
         logs = rw is onward.logs;
         entries = onward.entries ∙ join (λ (b : ℕ). map direct_meaning (take (entry_count (block_words words shape b)) (slots_of (block_words words shape b)))) (λ (l : List ℕ). map (meaning words shape) (words_of_logs l)) place.entries
-            (snapshots_of words shape (next ∷ rest)) (snapshots_of words shape (block ∷ next ∷ rest)) (logs_of words shape (next ∷ rest)) (logs_of words shape (block ∷ next ∷ rest)) (after words shape place block (block_words words shape block)).entries moved.entries (rw is refl) (rw is refl);
+            (snapshots_of words shape (next ∷ rest)) (snapshots_of words shape (block ∷ next ∷ rest)) (logs_of words shape (next ∷ rest)) (logs_of words shape (block ∷ next ∷ rest)) (place_after words shape place block (block_words words shape block)).entries moved.entries (rw is refl) (rw is refl);
         position = rw is (onward.position ∙ ap (λ (n : ℕ). n + length (log_words words shape (next ∷ rest))) same_position);
         size = rw is (onward.size ∙ ap (λ (n : ℕ). size_after shape n (log_entries words shape (next ∷ rest))) same_size);
         below = onward.below;
@@ -186,11 +186,11 @@ module _ (words : List ℕ) (shape : Shape) where
       at true is = let stops : true ≡ false = rw is at passes.1 in cc
       at false is = from_logs place block [] (logs_from place block [] passes is below once)
   chain_from place block (next ∷ rest) passes later below once = at (is_snapshot (block_words words shape block)) refl
-      (chain_from (after words shape place block (block_words words shape block)) next rest passes.3)
+      (chain_from (place_after words shape place block (block_words words shape block)) next rest passes.3)
     where
       at : (snapshot : Bool) → is_snapshot (block_words words shape block) ≡ snapshot →
-          (is_first (after words shape place block (block_words words shape block)).before ≡ false → (after words shape place block (block_words words shape block)).position < 2 ^ 40 →
-          all_different (all_names (after words shape place block (block_words words shape block)).entries) ≡ true → ChainFrom (after words shape place block (block_words words shape block)) next rest) → ChainFrom place block (next ∷ rest)
+          (is_first (place_after words shape place block (block_words words shape block)).before ≡ false → (place_after words shape place block (block_words words shape block)).position < 2 ^ 40 →
+          all_different (all_names (place_after words shape place block (block_words words shape block)).entries) ≡ true → ChainFrom (place_after words shape place block (block_words words shape block)) next rest) → ChainFrom place block (next ∷ rest)
       at false is onward = from_logs place block (next ∷ rest) (logs_from place block (next ∷ rest) passes is below once)
       at true is onward =
           let parts = clean_parts words shape place block (block_words words shape block) passes.0 in
@@ -227,7 +227,7 @@ module _ (words : List ℕ) (shape : Shape) where
 
   -- a snapshot block is the first
   from_snapshot : (block next : ℕ) (rest : List ℕ) → is_snapshot (block_words words shape block) ≡ true → CleanParts words shape start block (block_words words shape block) →
-      SnapshotBlock shape start (block_words words shape block) → ChainFrom (after words shape start block (block_words words shape block)) next rest → ChainIs block (next ∷ rest)
+      SnapshotBlock shape start (block_words words shape block) → ChainFrom (place_after words shape start block (block_words words shape block)) next rest → ChainIs block (next ∷ rest)
   from_snapshot block next rest is parts snapshot onward =
       let moved = after_snapshot words shape start block (block_words words shape block) is in
       record {
@@ -259,4 +259,4 @@ module _ (words : List ℕ) (shape : Shape) where
           let snapshot = snapshot_block words shape start block (block_words words shape block) parts is refl in
           let moved = after_snapshot words shape start block (block_words words shape block) is in
           from_snapshot block next rest is parts snapshot
-          (chain_from (after words shape start block (block_words words shape block)) next rest passes.3 moved.before (rw moved.position snapshot.below) (rw moved.entries snapshot.once))
+          (chain_from (place_after words shape start block (block_words words shape block)) next rest passes.3 moved.before (rw moved.position snapshot.below) (rw moved.entries snapshot.once))

@@ -2,9 +2,9 @@
 use Rattle.std.proofs.Common.{◌≡◌, ◌&&◌, not, ℕ, Bool, true, false, List, [], ◌∷◌, ◌++◌, refl, subst}
 use Rattle.std.specs.List.{list_all}
 use Rattle.log_image.specs.Image.{Shape, is_in_log, block_words}
-use Rattle.log_image.specs.Chains.{all_different, Leads}
+use Rattle.log_image.specs.Chains.{all_different, LeadsAlong}
 use Rattle.opening_rules.specs.SlotChecks.{is_among}
-use Rattle.opening_rules.specs.BlockChecks.{Place, start, after}
+use Rattle.opening_rules.specs.BlockChecks.{Place, start, place_after}
 use Rattle.opening_rules.specs.Walks.{PassesFrom}
 use Rattle.opening_rules.proofs.BlockFacts.{clean_parts, good_link}
 use Rattle.opening_rules.proofs.Naming.{none_among, none_among_fewer, last_not_among}
@@ -16,9 +16,9 @@ both_not : (a b : Bool) → a ≡ false → b ≡ true → (not a && b) ≡ true
 both_not a b x y = rw (x, y) refl
 
 module _ (words : List ℕ) (shape : Shape) where
-  pub leads : (place : Place) (block : ℕ) (rest : List ℕ) → PassesFrom words shape place block rest → Leads words shape block rest
+  pub leads : (place : Place) (block : ℕ) (rest : List ℕ) → PassesFrom words shape place block rest → LeadsAlong words shape block rest
   leads place block [] passes = passes.1
-  leads place block (next ∷ rest) passes = (passes.1, passes.2, leads (after words shape place block (block_words words shape block)) next rest passes.3)
+  leads place block (next ∷ rest) passes = (passes.1, passes.2, leads (place_after words shape place block (block_words words shape block)) next rest passes.3)
 
   -- the blocks after one are new, different, and of the log or spare area
   pub record FreshFrom (passed rest : List ℕ) : Type 0 where
@@ -32,7 +32,7 @@ module _ (words : List ℕ) (shape : Shape) where
       let link = good_link words shape place block (block_words words shape block) (clean_parts words shape place block (block_words words shape block) passes.0) passes.1 in
       let area : is_in_log shape next ≡ true = subst (λ (b : ℕ). is_in_log shape b ≡ true) passes.2 link.0 in
       let new : is_among next (place.before ++ block ∷ []) ≡ false = subst (λ (b : ℕ). is_among b (place.before ++ block ∷ []) ≡ false) passes.2 link.1 in
-      let onward : FreshFrom ((place.before ++ block ∷ []) ++ next ∷ []) rest = fresh_from (after words shape place block (block_words words shape block)) next rest passes.3 in
+      let onward : FreshFrom ((place.before ++ block ∷ []) ++ next ∷ []) rest = fresh_from (place_after words shape place block (block_words words shape block)) next rest passes.3 in
       record {
         none = both_not (is_among next (place.before ++ block ∷ [])) (none_among rest (place.before ++ block ∷ [])) new (none_among_fewer rest (place.before ++ block ∷ []) next onward.none);
         different = both_not (is_among next rest) (all_different rest) (last_not_among rest (place.before ++ block ∷ []) next onward.none) onward.different;

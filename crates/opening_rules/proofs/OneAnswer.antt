@@ -4,7 +4,7 @@ use Rattle.std.proofs.lemmas.Bool.{cases_lt}
 use Rattle.log_image.specs.Image.{Shape, block_words}
 use Rattle.log_image.specs.Header.{shape_of, head_block}
 use Rattle.log_image.specs.Entries.{Meaning}
-use Rattle.opening_rules.specs.BlockChecks.{Place, start, after}
+use Rattle.opening_rules.specs.BlockChecks.{Place, start, place_after}
 use Rattle.opening_rules.specs.Walks.{PassesFrom, RefusesFrom, end_place}
 use Rattle.opening_rules.specs.Slack.{HasSlack, FirstSlack}
 use Rattle.opening_rules.specs.Opening.{SlackRefuses, ByHeader, ByWalk, BySlack}
@@ -19,7 +19,7 @@ module _ (words : List ℕ) (shape : Shape) where
   one_refusal_from place block (next ∷ rest) [] why other here there = cc (here.0, there)
   one_refusal_from place block (next ∷ rest) (onward ∷ also) why other here there =
       let same : onward ≡ next = sym there.2 ∙ here.2 in
-      one_refusal_from (after words shape place block (block_words words shape block)) next rest also why other here.3 (rw same at there.3)
+      one_refusal_from (place_after words shape place block (block_words words shape block)) next rest also why other here.3 (rw same at there.3)
 
   not_both_from : (place : Place) (block : ℕ) (rest also : List ℕ) (why : BadImage) → RefusesFrom words shape place block rest why → PassesFrom words shape place block also → ⊥
   not_both_from place block [] [] why here there = cc (here, there.0)
@@ -27,7 +27,7 @@ module _ (words : List ℕ) (shape : Shape) where
   not_both_from place block (next ∷ rest) [] why here there = cc (here.1, there.1)
   not_both_from place block (next ∷ rest) (onward ∷ also) why here there =
       let same : onward ≡ next = sym there.2 ∙ here.2 in
-      not_both_from (after words shape place block (block_words words shape block)) next rest also why here.3 (rw same at there.3)
+      not_both_from (place_after words shape place block (block_words words shape block)) next rest also why here.3 (rw same at there.3)
 
   one_way_from : (place : Place) (block : ℕ) (rest also : List ℕ) → PassesFrom words shape place block rest → PassesFrom words shape place block also → rest ≡ also
   one_way_from place block [] [] here there = refl
@@ -35,7 +35,7 @@ module _ (words : List ℕ) (shape : Shape) where
   one_way_from place block (next ∷ rest) [] here there = cc (here.1, there.1)
   one_way_from place block (next ∷ rest) (onward ∷ also) here there =
       let same : onward ≡ next = sym there.2 ∙ here.2 in
-      ap (λ (l : List ℕ). next ∷ l) (one_way_from (after words shape place block (block_words words shape block)) next rest also here.3 (rw same at there.3)) ∙ ap (λ (b : ℕ). b ∷ also) (sym same)
+      ap (λ (l : List ℕ). next ∷ l) (one_way_from (place_after words shape place block (block_words words shape block)) next rest also here.3 (rw same at there.3)) ∙ ap (λ (b : ℕ). b ∷ also) (sym same)
 
   one_slack : (entries : List Meaning) (size block other : ℕ) → FirstSlack words shape entries size block → FirstSlack words shape entries size other → block ≡ other
   one_slack entries size block other here there = by (cases_lt here.virt there.virt) (cases_lt there.virt here.virt)

@@ -1,10 +1,10 @@
 -- The worked images have the answers that are stated.
 use Rattle.std.proofs.Common.{[], refl, arith}
 use Rattle.opening_rules.specs.Opening.{ByHeader, ByWalk, BySlack}
-use Rattle.opening_rules.specs.Rows.{BehindHoleAccepted, LinkToItself, NamedTwice, ByteBehindEnd, OneByteShort, OneByteLong, SealInFirstSlot, SlotAfterSeal, BaseNotDue, BadHeaders}
+use Rattle.opening_rules.specs.Rows.{BehindTailAccepted, LinkToItself, NamedTwice, ByteBehindEnd, OneByteShort, OneByteLong, SealInFirstSlot, SlotAfterSeal, BaseNotDue, BadHeaders}
 
-pub behind_hole_accepted : BehindHoleAccepted
-behind_hole_accepted = record { header = refl; passes = (refl, refl); slack = λ virt block slack. let none = slack.mapped in cc }
+pub behind_tail_accepted : BehindTailAccepted
+behind_tail_accepted = record { header = refl; passes = (refl, refl); slack = λ virt block slack. let none = slack.mapped in cc }
 
 pub link_to_itself : LinkToItself
 link_to_itself = ByWalk refl (record { rest = []; refuses = refl })

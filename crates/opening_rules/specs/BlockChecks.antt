@@ -1,11 +1,12 @@
 -- Where opening stands in a chain, and the conditions on the block there, in their order.
-use Rattle.std.specs.Prelude.{ℕ, ◌+◌, ◌-◌, ◌==◌, Bool, true, false, not, ◌&&◌, ◌||◌, nat_lt, if◌then◌else◌, List, [], ◌∷◌, ◌++◌, length, map, take, slice_index}
+use Rattle.std.specs.Prelude.{ℕ, ◌+◌, ◌-◌, ◌==◌, Bool, true, false, not, ◌&&◌, ◌||◌, nat_lt, if◌then◌else◌, List, [], ◌∷◌, ◌++◌, length, slice_index}
 use Rattle.log_entry.specs.Shape.{limit_of}
-use Rattle.log_entry.specs.Fields.{field}
-use Rattle.log_entry.specs.declared.layouts.TheConstants.{LOG, BLOCK_UNNAMED}
+use Rattle.log_entry.specs.declared.layouts.TheConstants.{LOG}
 use Rattle.log_image.specs.Image.{Shape, words_in, is_in_log}
-use Rattle.log_image.specs.Entries.{Meaning, direct_meaning, meaning}
+use Rattle.log_image.specs.Entries.{Meaning}
 use Rattle.log_image.specs.Maps.{size_after}
+use Rattle.log_image.specs.Positions.{block_entries}
+use Rattle.log_image.specs.Format.{is_kind_word}
 use Rattle.log_image.specs.Blocks.{link_of, kind_of, is_snapshot, base_of, entry_count, file_size, slots_of, entry_words, leads_on}
 use Rattle.opening_rules.specs.Checks.{Check, check}
 use Rattle.opening_rules.specs.SlotChecks.{is_among, log_slot_checks, snapshot_slot_checks}
@@ -38,7 +39,7 @@ is_bad_base place block = not ((is_snapshot block && is_first place.before) || b
 
 -- a second word that is not due
 abbrev pub is_bad_second : Place → List ℕ → Bool
-is_bad_second place block = is_bad_kind place block || not (field BLOCK_UNNAMED (slice_index block 1) == 0) || is_bad_base place block
+is_bad_second place block = is_bad_kind place block || not (is_kind_word block) || is_bad_base place block
 
 -- a third word that is not due: in a snapshot block too many entries, a size that no file may have, or another size than the
 -- first snapshot block's; in a log block any number but 0
@@ -67,18 +68,12 @@ block_checks words shape place number block =
     ∷ (slot_checks words shape place number block
     ++ check (is_bad_link shape (place.before ++ number ∷ []) block) (BadLink number (link_of block)) ∷ [])
 
--- what the entries of a block mean
-abbrev pub meanings_in : List ℕ → Shape → List ℕ → List Meaning
-meanings_in words shape block =
-    if is_snapshot block then map direct_meaning (take (entry_count block) (slots_of block))
-    else map (meaning words shape) (entry_words (slots_of block))
-
 -- after the block of this number and these words
-abbrev pub after : List ℕ → Shape → Place → ℕ → List ℕ → Place
-after words shape place number block = record {
+abbrev pub place_after : List ℕ → Shape → Place → ℕ → List ℕ → Place
+place_after words shape place number block = record {
   before = place.before ++ number ∷ [];
   in_logs = not (is_snapshot block);
   position = if is_snapshot block then base_of block else place.position + length (entry_words (slots_of block));
-  size = if is_snapshot block then file_size block else size_after shape place.size (meanings_in words shape block);
-  entries = place.entries ++ meanings_in words shape block;
+  size = if is_snapshot block then file_size block else size_after shape place.size (block_entries words shape block);
+  entries = place.entries ++ block_entries words shape block;
 }

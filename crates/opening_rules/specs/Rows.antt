@@ -8,9 +8,9 @@ use Rattle.opening_rules.specs.declared.refusals.BadImage.TheVariants.{Short, Ba
 abbrev pub made_with : List (ℕ × ℕ) → List ℕ
 made_with changes = with_words changes (with_words ((0, 3552576303075180877) ∷ (1, 393217) ∷ (2, 17179869224) ∷ (3, 4294967337) ∷ (329, 4611686018427387904) ∷ []) (replicate 632 0))
 
--- an entry behind a hole is not looked at
-abbrev pub BehindHoleAccepted : Type 0
-BehindHoleAccepted = Accepts 5056 (made_with ((332, one_byte) ∷ [])) []
+-- an entry behind a tail is not looked at
+abbrev pub BehindTailAccepted : Type 0
+BehindTailAccepted = Accepts 5056 (made_with ((332, one_byte) ∷ [])) []
 
 -- a sealed block's link names the block itself
 abbrev pub LinkToItself : Type 0

@@ -1,11 +1,11 @@
 //! Laws of the definitions, each the contract of a function that does nothing, and worked rows that they compute.
 
 ghost use Rattle.opening_rules.specs.Laws.{HasOneRefusal, IsNotBoth, HasOneRefusalOfBytes, IsNotBothOfBytes, AcceptedStands};
-ghost use Rattle.opening_rules.specs.Rows.{BehindHoleAccepted, LinkToItself, NamedTwice, ByteBehindEnd, OneByteShort, OneByteLong, SealInFirstSlot, SlotAfterSeal, BaseNotDue, BadHeaders};
+ghost use Rattle.opening_rules.specs.Rows.{BehindTailAccepted, LinkToItself, NamedTwice, ByteBehindEnd, OneByteShort, OneByteLong, SealInFirstSlot, SlotAfterSeal, BaseNotDue, BadHeaders};
 
 /// Worked images, and what opening answers.
 pub fn law_rows()
-    ensures behind_hole { BehindHoleAccepted }
+    ensures behind_tail { BehindTailAccepted }
     ensures link_to_itself { LinkToItself }
     ensures named_twice { NamedTwice }
     ensures byte_behind_end { ByteBehindEnd }

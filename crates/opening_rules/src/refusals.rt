@@ -32,9 +32,9 @@ pub enum BadImage {
 /// The name of the refusal and its numbers, each after a space.
 impl fmt::Display for BadImage {
     ghost use Rattle.std.specs.Prelude.{Some};
-    ghost use Rattle.opening_rules.specs.RefusalText.{refusal_text};
+    ghost use Rattle.opening_rules.specs.RefusalText.{bad_image_text};
 
-    ghost output = { λ why. Some (refusal_text why) };
+    ghost output = { λ why. Some (bad_image_text why) };
 
     fn fmt<W: fmt::Write>(&self, f: &mut fmt::Formatter<W>) -> fmt::Result {
         match self {

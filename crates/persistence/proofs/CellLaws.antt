@@ -2,12 +2,12 @@
 use Rattle.std.proofs.Common.{◌≡◌, ◌≢◌, ℕ, ◌<◌, ◌≤◌, ◌==◌, Bool, true, false, if◌then◌else◌, List, [], ◌∷◌, ◌++◌, length, slice_index, inl, inr, refl, sym, ap, ◌∙◌}
 use Rattle.std.proofs.lemmas.Bool.{ne_eqb}
 use Rattle.std.proofs.lemmas.List.{get_or-set_same, get_or-set_other}
-use Rattle.pmem_words.specs.Asks.{becomes}
-use Rattle.pmem_words.specs.PlainWords.{PlainWords, word_at, with_word}
-use Rattle.pmem_words.specs.declared.asks.Place.{Place}
-use Rattle.pmem_words.specs.declared.asks.Place.TheVariants.{Image, Pin, Map, FenceOf}
-use Rattle.pmem_words.specs.declared.asks.Ask.TheVariants.{Load, Store, Exchange, SetBits, ClearBits, Mark, Fence}
-use Rattle.pmem_words.proofs.PlainLemmas.{with_same}
+use Rattle.asks.specs.Asks.{becomes}
+use Rattle.asks.specs.SharedWords.{SharedWords, word_at, with_word}
+use Rattle.asks.specs.declared.ask.Place.{Place}
+use Rattle.asks.specs.declared.ask.Place.TheVariants.{Image, Pin, Map, FenceOf}
+use Rattle.asks.specs.declared.ask.Ask.TheVariants.{Load, Store, Exchange, SetBits, ClearBits, Mark, Fence}
+use Rattle.asks.proofs.WordLemmas.{with_same}
 use Rattle.persistence.specs.Memory.{Memory, Noted, Replaced, Cell, cell, values_of, index_at, replaced_at}
 use Rattle.persistence.specs.Steps.{IsOrderly, grown, StoresGrowCells, OthersLeaveCells}
 use Rattle.persistence.proofs.ValueLemmas.{values_of-push_same, values_of-push_other, index_at-grown}
@@ -22,7 +22,7 @@ done_at memory at value grows notes = record {
 }
 
 -- the words and the values of another place
-present_other : (now : PlainWords) (at : Place) (value word : ℕ) → at ≢ Image word → slice_index (with_word now at value).words word ≡ slice_index now.words word
+present_other : (now : SharedWords) (at : Place) (value word : ℕ) → at ≢ Image word → slice_index (with_word now at value).words word ≡ slice_index now.words word
 present_other now (Image v) value word other = get_or-set_other now.words v word value 0 (λ same. other (ap Image (sym same)))
 present_other now (Pin i) value word other = refl
 present_other now (Map v) value word other = refl
@@ -62,7 +62,7 @@ same_word : (memory : Memory) (at : Place) (value : ℕ) (grows : Bool) (notes :
 same_word memory at value grows notes word same still =
     ap (λ (v : ℕ). cell (done_at memory at v grows notes) word) same
     ∙ ap (λ (b : Bool). cell (done_at memory at (word_at memory.now at) b notes) word) still
-    ∙ ap (λ (now : PlainWords). cell (record memory { now = now }) word) (with_same memory.now at)
+    ∙ ap (λ (now : SharedWords). cell (record memory { now = now }) word) (with_same memory.now at)
 
 -- a value that is stored into the word
 grown_at : (memory : Memory) (word value : ℕ) (notes : List Noted) → IsOrderly memory → word < length memory.now.words

@@ -4,11 +4,11 @@ use Rattle.std.proofs.lemmas.Bool.{eqb-true, ne_eqb}
 use Rattle.std.proofs.lemmas.Bool.Decides.{eqb_tells, leb_tells}
 use Rattle.std.proofs.lemmas.List.{length-set, get_or-set_same, get_or-set_other, set_past}
 use Rattle.std.proofs.lemmas.List.Elements.{All-push, All-weaker, All-filter, filter-append}
-use Rattle.pmem_words.specs.Asks.{becomes}
-use Rattle.pmem_words.specs.PlainWords.{PlainWords, word_at, with_word}
-use Rattle.pmem_words.specs.declared.asks.Place.{Place}
-use Rattle.pmem_words.specs.declared.asks.Place.TheVariants.{Image, Pin, Map, FenceOf}
-use Rattle.pmem_words.specs.declared.asks.Ask.TheVariants.{Load, Store, Exchange, SetBits, ClearBits, Mark, Fence}
+use Rattle.asks.specs.Asks.{becomes}
+use Rattle.asks.specs.SharedWords.{SharedWords, word_at, with_word}
+use Rattle.asks.specs.declared.ask.Place.{Place}
+use Rattle.asks.specs.declared.ask.Place.TheVariants.{Image, Pin, Map, FenceOf}
+use Rattle.asks.specs.declared.ask.Ask.TheVariants.{Load, Store, Exchange, SetBits, ClearBits, Mark, Fence}
 use Rattle.persistence.specs.Memory.{Memory, Noted, Replaced, index_at, raised, replaced_at, memory_after, notes_of}
 use Rattle.persistence.specs.Steps.{IsOrderly, StepsKeepOrder, FencesRaiseFloors, FencesForgetOwnMarks}
 use Rattle.persistence.proofs.ValueLemmas.{index_at-later}
@@ -125,7 +125,7 @@ past_grows true (Pin i) value past = omega arith
 past_grows true (Map v) value past = omega arith
 past_grows true (FenceOf i) value past = omega arith
 
-pub words_stay : (now : PlainWords) (at : Place) (value : ℕ) → length (with_word now at value).words ≡ length now.words
+pub words_stay : (now : SharedWords) (at : Place) (value : ℕ) → length (with_word now at value).words ≡ length now.words
 words_stay now (Image v) value = length-set now.words v value
 words_stay now (Pin i) value = refl
 words_stay now (Map v) value = refl

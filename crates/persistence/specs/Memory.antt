@@ -2,12 +2,12 @@
 -- Each image word has a floor among its values: a crash leaves one of those from the floor on. A mark by a seat notes which value
 -- is the present one; the seat's fence raises the floors to what the seat has noted. Pin words and bitmap words outlast no crash.
 use Rattle.std.specs.Prelude.{ℕ, ◌==◌, max, Bool, true, false, not, if◌then◌else◌, List, [], ◌∷◌, ◌++◌, length, map, filter, take, slice_index, slice_set}
-use Rattle.pmem_words.specs.Asks.{place, answer}
-use Rattle.pmem_words.specs.PlainWords.{PlainWords, found_by, plain_after}
-use Rattle.pmem_words.specs.declared.asks.Place.{Place}
-use Rattle.pmem_words.specs.declared.asks.Place.TheVariants.{Image, Pin, Map, FenceOf}
-use Rattle.pmem_words.specs.declared.asks.Ask.{Ask}
-use Rattle.pmem_words.specs.declared.asks.Ask.TheVariants.{Load, Store, Exchange, SetBits, ClearBits, Mark, Fence}
+use Rattle.asks.specs.Asks.{place, answer}
+use Rattle.asks.specs.SharedWords.{SharedWords, found_by, words_after}
+use Rattle.asks.specs.declared.ask.Place.{Place}
+use Rattle.asks.specs.declared.ask.Place.TheVariants.{Image, Pin, Map, FenceOf}
+use Rattle.asks.specs.declared.ask.Ask.{Ask}
+use Rattle.asks.specs.declared.ask.Ask.TheVariants.{Load, Store, Exchange, SetBits, ClearBits, Mark, Fence}
 
 -- a value that an image word held until another replaced it
 pub record Replaced : Type 0 where
@@ -23,7 +23,7 @@ pub record Noted : Type 0 where
 -- the present words; the values replaced so far, the oldest first; for each image word the time of its floor, as a count of values
 -- replaced; and the marks that no fence of their seat has followed yet, the oldest first
 pub record Memory : Type 0 where
-  pub now : PlainWords
+  pub now : SharedWords
   pub past : List Replaced
   pub floors : List ℕ
   pub notes : List Noted
@@ -106,7 +106,7 @@ found_answer memory ask = answer ask (found memory ask)
 -- the memory after an ask: of memory, seat and ask alone
 abbrev pub memory_after : Memory → ℕ → Ask → Memory
 memory_after memory seat ask = record {
-  now = plain_after memory.now ask;
+  now = words_after memory.now ask;
   past = past_after memory.past ask (found memory ask);
   floors = floors_after memory.floors seat ask memory.notes;
   notes = notes_after memory.notes seat ask (length memory.past);

@@ -1,8 +1,8 @@
 -- Worked memories of three words, 10, 20 and 30 at first: their cells, and what a crash may leave of them.
 use Rattle.std.specs.Prelude.{ℕ, ◌≡◌, List, [], ◌∷◌}
-use Rattle.pmem_words.specs.declared.asks.Place.TheVariants.{Image}
-use Rattle.pmem_words.specs.declared.asks.Ask.{Ask}
-use Rattle.pmem_words.specs.declared.asks.Ask.TheVariants.{Store, Exchange, Mark, Fence}
+use Rattle.asks.specs.declared.ask.Place.TheVariants.{Image}
+use Rattle.asks.specs.declared.ask.Ask.{Ask}
+use Rattle.asks.specs.declared.ask.Ask.TheVariants.{Store, Exchange, Mark, Fence}
 use Rattle.persistence.specs.Memory.{Memory, cell, found_answer, memory_after}
 use Rattle.persistence.specs.Cells.{fresh_memory}
 use Rattle.persistence.specs.Survivors.{Survives, value_at}

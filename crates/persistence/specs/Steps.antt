@@ -1,9 +1,9 @@
 -- What a step does to the cell of a word, and what every memory of a run keeps.
 use Rattle.std.specs.Prelude.{ℕ, ◌<◌, ◌≤◌, ◌≡◌, ◌≢◌, ◌⊎◌, true, All, Contains, List, [], ◌∷◌, ◌++◌, length, slice_index}
-use Rattle.pmem_words.specs.Asks.{place, becomes}
-use Rattle.pmem_words.specs.declared.asks.Place.TheVariants.{Image}
-use Rattle.pmem_words.specs.declared.asks.Ask.{Ask}
-use Rattle.pmem_words.specs.declared.asks.Ask.TheVariants.{Load, Store, Exchange, SetBits, ClearBits, Mark, Fence}
+use Rattle.asks.specs.Asks.{place, becomes}
+use Rattle.asks.specs.declared.ask.Place.TheVariants.{Image}
+use Rattle.asks.specs.declared.ask.Ask.{Ask}
+use Rattle.asks.specs.declared.ask.Ask.TheVariants.{Load, Store, Exchange, SetBits, ClearBits, Mark, Fence}
 use Rattle.persistence.specs.Memory.{Memory, Noted, Cell, cell, index_at, notes_of, stores, found, memory_after}
 use Rattle.persistence.specs.Cells.{fresh_memory}
 

@@ -3,8 +3,7 @@
 ghost use Rattle.std.specs.Prelude.{◌≡◌, ◌<◌, ◌∷◌, ◌++◌, [], ◌-◌, max, length, true, All, IfOk, IsErr, ◌≤◌, ◌==◌, not, filter, vec_len, vec_capacity};
 ghost use Rattle.persistence.specs.Memory.{raised};
 
-use pmem_words::{Ask, Place};
-use seat_parts::room::push;
+use asks::{Ask, Place};
 use std::alloc::{AllocError, Global};
 use std::marker::Model;
 
@@ -81,11 +80,11 @@ impl Model for Cells {
 }
 
 impl Cells {
-    ghost use Rattle.pmem_words.specs.PlainWords.{word_at, with_word};
-    ghost use Rattle.pmem_words.specs.declared.asks.Place.TheVariants.{Image};
-    ghost use Rattle.pmem_words.specs.declared.asks.Ask.TheVariants.{Fence};
+    ghost use Rattle.asks.specs.SharedWords.{word_at, with_word, HasWord, CanLoad};
+    ghost use Rattle.asks.specs.declared.ask.Place.TheVariants.{Image};
+    ghost use Rattle.asks.specs.declared.ask.Ask.TheVariants.{Fence};
     ghost use Rattle.persistence.specs.Memory.{Noted, found_answer, memory_after, replaced_at, notes_after};
-    ghost use Rattle.persistence.specs.Cells.{CellsNow, HasPlace, CanLoad, TakesAsk, fresh_memory, cells_after};
+    ghost use Rattle.persistence.specs.Cells.{CellsNow, TakesAsk, fresh_memory, cells_after};
 
     /// The memory of these image words and these words of the bitmap, for `seats` seats: each word has its one value, the pin words
     /// are 0, nothing is marked, and there is no room for a step. Only want of memory refuses it.
@@ -124,7 +123,7 @@ impl Cells {
     /// The word at a place that the memory has. A fence word is 0.
     #[inline(always)]
     pub fn word(&self, place: Place) -> u64
-        requires { CanLoad self.now.memory place }
+        requires { CanLoad (length self.now.memory.now.pins) self.now.memory.now place }
         ensures { result ≡ word_at self.now.memory.now place }
     {
         match place {
@@ -139,7 +138,7 @@ impl Cells {
     #[inline(always)]
     fn replace(&mut self, place: Place, value: u64)
         requires room { 0 < self.old.room }
-        requires place { HasPlace self.old.memory place }
+        requires place { HasWord (length self.old.memory.now.pins) self.old.memory.now place }
         ensures { self.new ≡ record {
           memory = record self.old.memory {
             now = with_word self.old.memory.now place value;
@@ -155,7 +154,7 @@ impl Cells {
                     word,
                     value: self.words[word as usize],
                 };
-                push(&mut self.past, replaced);
+                self.past.push_reserved(replaced);
                 self.words[word as usize] = value;
             }
             Place::Pin(seat) => self.pins[seat as usize] = value,
@@ -168,7 +167,7 @@ impl Cells {
     #[inline(always)]
     fn note(&mut self, seat: u8, word: u32)
         requires room { 0 < self.old.room }
-        requires word { HasPlace self.old.memory (Image word) }
+        requires word { HasWord (length self.old.memory.now.pins) self.old.memory.now (Image word) }
         ensures { self.new ≡ record {
           memory = record self.old.memory {
             notes = self.old.memory.notes ++ record { seat = seat; word = word; time = length self.old.memory.past } ∷ [];
@@ -178,7 +177,7 @@ impl Cells {
     {
         self.room -= 1;
         let time = self.past.len() as u64;
-        push(&mut self.notes, Noted { seat, word, time });
+        self.notes.push_reserved(Noted { seat, word, time });
     }
 
     /// Raises the floors to what the seat has noted, and forgets that.

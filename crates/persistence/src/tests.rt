@@ -2,7 +2,7 @@ ghost use Rattle.std.specs.Prelude.{◌≡◌, ◌<◌, ◌-◌, length};
 ghost use Rattle.persistence.specs.Cells.{TakesAsk};
 
 use super::*;
-use pmem_words::{Ask, Place};
+use asks::{Ask, Place};
 use std::test::Fail;
 
 const WORD: Place = Place::Image(0);

@@ -8,4 +8,3 @@ pub mod ScanOverPlain
 pub mod UnpinOverPlain
 pub mod PinWithin
 pub mod ScanWithin
-pub mod WorldLemmas

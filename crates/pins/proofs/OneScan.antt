@@ -3,8 +3,7 @@ use Rattle.std.proofs.Common.{ℕ, ◌≡◌, ◌<◌, ◌≤◌, ◌⊎◌, inl
 use Rattle.std.proofs.lemmas.Bool.{cases_order}
 use Rattle.log_entry.specs.declared.calls.Held.{Held}
 use Rattle.pins.specs.declared.scan.Scanned.{Scanned}
-use Rattle.pins.specs.declared.scan.Scanned.TheVariants.{Clear}
-use Rattle.pins.specs.declared.scan.Scanned.TheVariants.{Held as HeldBy}
+use Rattle.pins.specs.declared.scan.Scanned.TheVariants.{Clear, Held as HeldBy}
 use Rattle.pins.specs.Endings.{IsFree, IsHeld, IsScan}
 
 not_free : (generation word value : ℕ) → word ≡ value → 0 < value → value ≤ generation → IsFree generation word → ⊥

@@ -3,13 +3,14 @@ use Rattle.std.proofs.Common.{ℕ, ◌≡◌, ◌+◌, ◌==◌, Bool, true, fal
 use Rattle.std.proofs.lemmas.Bool.{eq-eqb, eqb-true}
 use Rattle.std.proofs.lemmas.List.{set-get_or}
 use Rattle.log_entry.specs.declared.words.Head.{Head}
-use Rattle.seat_state.specs.Seats.{Seat}
+use Rattle.pmem_words.specs.Seats.{Seat}
 use Rattle.pmem_words.specs.Courses.{Course, over}
 use Rattle.pmem_words.specs.Drives.{Goes, Ends}
 use Rattle.pmem_words.specs.Leads.{Leads}
-use Rattle.pmem_words.specs.PlainWords.{PlainWords, plain}
+use Rattle.asks.specs.SharedWords.{SharedWords}
+use Rattle.pmem_words.specs.PlainWords.{plain}
 use Rattle.pmem_words.proofs.LeadsLemmas.{leads_with}
-use Rattle.pmem_words.specs.declared.asks.Turn.TheVariants.{Go, Done}
+use Rattle.pmem_words.specs.declared.machine.Turn.TheVariants.{Go, Done}
 use Rattle.pins.specs.declared.TheConstants.{HEAD_WORD}
 use Rattle.pins.specs.declared.pin.Pin.{Pin}
 use Rattle.pins.specs.declared.pin.Pin.TheVariants.{Begin, Publish, Confirm}
@@ -48,17 +49,17 @@ not_again : (b : Bool) (a : ℕ) → b ≡ true → confirm_turn b a ≡ Go → 
 not_again true a e go = cc
 not_again false a e go = cc
 
-module _ (s : Seat) (w : PlainWords) (out : Head) where
-  steps_of : (answers : List ℕ) (m : Pin) (t : Seat) (v : PlainWords) (last : ℕ) → Goes pin_script (over pin_script plain) Begin s w answers m t v → (pin_after m t last).turn ≡ Done out → length answers + 1 ≡ 3
+module _ (s : Seat) (w : SharedWords) (out : Head) where
+  steps_of : (answers : List ℕ) (m : Pin) (t : Seat) (v : SharedWords) (last : ℕ) → Goes pin_script (over pin_script plain) Begin s w answers m t v → (pin_after m t last).turn ≡ Done out → length answers + 1 ≡ 3
   steps_of [] m t v last goes stop = let at : (pin_after Begin t last).turn ≡ Done out = subst (λ (x : Pin). (pin_after x t last).turn ≡ Done out) (sym goes.0) stop in cc
   steps_of (a ∷ []) m t v last goes stop = let at : (pin_after Publish t last).turn ≡ Done out = subst (λ (x : Pin). (pin_after x t last).turn ≡ Done out) (sym goes.3.0) stop in cc
   steps_of (a ∷ b ∷ []) m t v last goes stop = refl
   steps_of (a ∷ b ∷ c ∷ rest) m t v last goes stop =
-      let first : goes.0.words ≡ w.words = ap (λ (x : PlainWords). x.words) goes.1.left ∙ set-get_or w.words HEAD_WORD 0 in
-      let second : goes.3.0.words ≡ goes.0.words = ap (λ (x : PlainWords). x.words) goes.3.1.left in
+      let first : goes.0.words ≡ w.words = ap (λ (x : SharedWords). x.words) goes.1.left ∙ set-get_or w.words HEAD_WORD 0 in
+      let second : goes.3.0.words ≡ goes.0.words = ap (λ (x : SharedWords). x.words) goes.3.1.left in
       let again : c ≡ a = goes.3.3.1.answered ∙ ap (λ (x : List ℕ). slice_index x HEAD_WORD) (second ∙ first) ∙ sym goes.1.answered in
       absurd (not_again (generation_in a == generation_in c) c (eq-eqb (generation_in a) (generation_in c) (ap generation_in (sym again))) goes.3.3.2)
 
 -- alone it takes three
-pub pin_steps : (s : Seat) (w : PlainWords) (out : Head) (t : Seat) (v : PlainWords) → (e : Ends pin_script (over pin_script plain) Begin s w out t v) → length e.answers + 1 ≡ 3
+pub pin_steps : (s : Seat) (w : SharedWords) (out : Head) (t : Seat) (v : SharedWords) → (e : Ends pin_script (over pin_script plain) Begin s w out t v) → length e.answers + 1 ≡ 3
 pin_steps s w out t v e = steps_of s w out e.answers e.machine e.seat e.memory e.last e.goes e.ends

@@ -1,7 +1,7 @@
 -- The seat after a pin.
 use Rattle.std.proofs.Common.{ℕ, ◌≡◌, ◌==◌, ◌&&◌, if◌then◌else◌, not, Bool, true, false, [], refl, ap, ◌∙◌}
 use Rattle.std.proofs.lemmas.Bool.{eqb-true, eq-eqb}
-use Rattle.seat_state.specs.Seats.{Seat}
+use Rattle.pmem_words.specs.Seats.{Seat}
 use Rattle.pins.specs.Steps.{generation_in, head_found, head_found_if, pin_stored}
 use Rattle.pins.specs.Endings.{pinned}
 

@@ -2,13 +2,14 @@
 use Rattle.std.proofs.Common.{ℕ, ◌≡◌, ◌<◌, ◌==◌, Bool, true, length, slice_index, refl, subst, sym, arith}
 use Rattle.std.proofs.lemmas.Bool.{eq-eqb}
 use Rattle.log_entry.specs.declared.words.Head.{Head}
-use Rattle.seat_state.specs.Seats.{Seat}
-use Rattle.seat_state.specs.declared.TheConstants.{SEATS}
+use Rattle.pmem_words.specs.Seats.{Seat}
+use Rattle.pmem_words.specs.declared.TheConstants.{SEATS}
 use Rattle.pmem_words.specs.Courses.{over}
 use Rattle.pmem_words.specs.Leads.{Leads, LeadsAfter}
-use Rattle.pmem_words.specs.PlainWords.{PlainWords, with_word, plain}
+use Rattle.asks.specs.SharedWords.{SharedWords, with_word}
+use Rattle.pmem_words.specs.PlainWords.{plain}
 use Rattle.pmem_words.proofs.PlainLemmas.{leads_plain, leads_plain_kept}
-use Rattle.pmem_words.specs.declared.asks.Place.TheVariants.{Pin as PinWord}
+use Rattle.asks.specs.declared.ask.Place.TheVariants.{Pin as PinWord}
 use Rattle.pins.specs.declared.TheConstants.{HEAD_WORD}
 use Rattle.pins.specs.declared.pin.Pin.TheVariants.{Begin, Publish, Confirm}
 use Rattle.pins.specs.Steps.{generation_in, head_of, head_found, pin_stored}
@@ -17,14 +18,14 @@ use Rattle.pins.specs.Endings.{pinned}
 use Rattle.pins.proofs.PinLemmas.{pinned_by}
 
 -- the head of a memory
-abbrev pub head_in : PlainWords → ℕ
+abbrev pub head_in : SharedWords → ℕ
 head_in w = slice_index w.words HEAD_WORD
 
 -- the memory with the generation of its head in the seat's pin word
-abbrev pub pinned_in : Seat → PlainWords → PlainWords
+abbrev pub pinned_in : Seat → SharedWords → SharedWords
 pinned_in s w = with_word w (PinWord s.number) (generation_in (head_in w))
 
-module _ (Q : Head → Seat → PlainWords → Type 0) (s : Seat) (w : PlainWords) (few : s.number < SEATS) (room : HEAD_WORD < length w.words)
+module _ (Q : Head → Seat → SharedWords → Type 0) (s : Seat) (w : SharedWords) (few : s.number < SEATS) (room : HEAD_WORD < length w.words)
     (then : Q (head_of (head_in w)) (pinned s (head_in w)) (pinned_in s w)) where
   abbrev stored : Seat
   stored = pin_stored (head_found s (head_in w)) (generation_in (head_in w))
@@ -44,10 +45,10 @@ module _ (Q : Head → Seat → PlainWords → Type 0) (s : Seat) (w : PlainWord
       (leads_plain pin_script Q Publish (head_found s (head_in w)) w few (λ small. tt) confirming)
 
 -- what is left after taking a pin alone
-pub record PinnedAlone (s : Seat) (w : PlainWords) (out : Head) (t : Seat) (v : PlainWords) : Type 0 where
+pub record PinnedAlone (s : Seat) (w : SharedWords) (out : Head) (t : Seat) (v : SharedWords) : Type 0 where
   pub head : out ≡ head_of (head_in w)
   pub seat : t ≡ pinned s (head_in w)
   pub memory : v ≡ pinned_in s w
 
-pub pinned_alone : (s : Seat) (w : PlainWords) → s.number < SEATS → HEAD_WORD < length w.words → Leads pin_script (over pin_script plain) (PinnedAlone s w) Begin s w
+pub pinned_alone : (s : Seat) (w : SharedWords) → s.number < SEATS → HEAD_WORD < length w.words → Leads pin_script (over pin_script plain) (PinnedAlone s w) Begin s w
 pinned_alone s w few room = pin_over_plain (PinnedAlone s w) s w few room (record { head = refl; seat = refl; memory = refl })

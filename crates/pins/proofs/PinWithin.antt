@@ -5,9 +5,9 @@ use Rattle.log_entry.specs.Fields.{field}
 use Rattle.log_entry.specs.declared.layouts.TheConstants.{HEAD_GENERATION}
 use Rattle.log_entry.specs.declared.words.Head.{Head}
 use Rattle.log_entry.specs.declared.calls.Call.{Call}
-use Rattle.seat_state.specs.Seats.{Seat, Hold}
-use Rattle.pmem_words.specs.declared.asks.Turn.{Turn}
-use Rattle.pmem_words.specs.declared.asks.Turn.TheVariants.{Go, Done}
+use Rattle.pmem_words.specs.Seats.{Seat, Hold}
+use Rattle.pmem_words.specs.declared.machine.Turn.{Turn}
+use Rattle.pmem_words.specs.declared.machine.Turn.TheVariants.{Go, Done}
 use Rattle.persistence.specs.Memory.{cell}
 use Rattle.log_core.specs.Entries.{head_place}
 use Rattle.log_core.specs.Views.{Ghost}
@@ -19,8 +19,8 @@ use Rattle.log_core.specs.Invariant.{Invariant}
 use Rattle.log_core.specs.Knows.{Knows}
 use Rattle.log_core.specs.Within.{no_record, adds_at, EntersOffered, Lawful, Serves}
 use Rattle.log_core.proofs.Heads.{head_generation, was_low}
-use Rattle.log_core.proofs.Serving.{leads_within}
-use Rattle.log_core.proofs.StartMeets.{start_meets}
+use Rattle.log_core.proofs.machines.Serving.{leads_within}
+use Rattle.log_core.proofs.starts.StartMeets.{start_meets}
 use Rattle.pins.specs.declared.pin.Pin.TheVariants.{Begin, Publish, Confirm}
 use Rattle.pins.specs.Steps.{generation_in, head_of, head_found, head_found_if, pin_stored}
 use Rattle.pins.specs.Pinning.{pin_script, pin_lowers, confirm_after, confirm_turn}

@@ -1,12 +1,12 @@
 -- A scan in any course, whatever others do between its steps: what it ends with is found in its answers.
 use Rattle.std.proofs.Common.{ℕ, suc, ◌≡◌, ◌+◌, ◌<◌, List, [], ◌∷◌, ◌++◌, length, take, slice_index, refl, subst, sym, ap, ◌∙◌, arith}
 use Rattle.std.proofs.lemmas.List.{length_push, ext_get_or, take_all, get_or_append_left, get_or_push}
-use Rattle.seat_state.specs.Seats.{Seat}
+use Rattle.pmem_words.specs.Seats.{Seat}
 use Rattle.pmem_words.specs.Courses.{Course}
 use Rattle.pmem_words.specs.Drives.{Goes, Ends}
 use Rattle.pmem_words.specs.Leads.{Leads}
 use Rattle.pmem_words.proofs.LeadsLemmas.{leads_with}
-use Rattle.pmem_words.specs.declared.asks.Turn.TheVariants.{Go, Done}
+use Rattle.pmem_words.specs.declared.machine.Turn.TheVariants.{Go, Done}
 use Rattle.pins.specs.declared.scan.Scan.{Scan}
 use Rattle.pins.specs.declared.scan.Scanned.{Scanned}
 use Rattle.pins.specs.Steps.{with_seen, seen_after}

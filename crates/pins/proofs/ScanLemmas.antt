@@ -3,8 +3,8 @@ use Rattle.std.proofs.Common.{ℕ, ◌≡◌, ◌≢◌, ◌+◌, ◌<◌, ◌�
 use Rattle.std.proofs.lemmas.Bool.{ltb-true, ltb-false, leb-true, leb-false, and_parts, and_cases}
 use Rattle.std.proofs.lemmas.List.{length_push, take_all, get_or_append_left, get_or_push}
 use borrow.Author.Count.{below_more}
-use Rattle.seat_state.specs.Seats.{Seat}
-use Rattle.pmem_words.specs.declared.asks.Turn.TheVariants.{Go, Done}
+use Rattle.pmem_words.specs.Seats.{Seat}
+use Rattle.pmem_words.specs.declared.machine.Turn.TheVariants.{Go, Done}
 use Rattle.pins.specs.declared.scan.Scan.{Scan}
 use Rattle.pins.specs.declared.scan.Scanned.{Scanned}
 use Rattle.pins.specs.declared.scan.Scanned.TheVariants.{Clear, Held}

@@ -1,20 +1,21 @@
 -- A scan over a plain memory, for whatever is to hold afterwards.
 use Rattle.std.proofs.Common.{ℕ, zero, suc, ◌≡◌, ◌+◌, ◌<◌, ◌≤◌, List, slice_index, refl, subst, sym, arith}
-use Rattle.seat_state.specs.Seats.{Seat}
-use Rattle.seat_state.specs.declared.TheConstants.{SEATS}
+use Rattle.pmem_words.specs.Seats.{Seat}
+use Rattle.pmem_words.specs.declared.TheConstants.{SEATS}
 use Rattle.pmem_words.specs.Courses.{over}
 use Rattle.pmem_words.specs.Leads.{Leads, LeadsAt}
-use Rattle.pmem_words.specs.PlainWords.{PlainWords, plain}
+use Rattle.asks.specs.SharedWords.{SharedWords}
+use Rattle.pmem_words.specs.PlainWords.{plain}
 use Rattle.pmem_words.proofs.PlainLemmas.{leads_plain_kept}
-use Rattle.pmem_words.specs.declared.asks.Turn.{Turn}
-use Rattle.pmem_words.specs.declared.asks.Turn.TheVariants.{Go, Done}
+use Rattle.pmem_words.specs.declared.machine.Turn.{Turn}
+use Rattle.pmem_words.specs.declared.machine.Turn.TheVariants.{Go, Done}
 use Rattle.pins.specs.declared.scan.Scanned.{Scanned}
 use Rattle.pins.specs.Steps.{with_seen, seen_after}
 use Rattle.pins.specs.Scanning.{needs, scan_at, scan_of, scan_turn, scan_script}
 use Rattle.pins.specs.Endings.{IsFree, IsScan, IsFirst, loads}
 use Rattle.pins.proofs.ScanLemmas.{SoFar, none_yet, one_more, more_seen, goes_free, ends_found}
 
-module _ (Q : Scanned → Seat → PlainWords → Type 0) (generation : ℕ) (s : Seat) (w : PlainWords) (few : s.seats ≤ SEATS)
+module _ (Q : Scanned → Seat → SharedWords → Type 0) (generation : ℕ) (s : Seat) (w : SharedWords) (few : s.seats ≤ SEATS)
     (then : (out : Scanned) (seen : List ℕ) → IsScan generation s.seats w.pins out → IsFirst (loads s.seats out) w.pins seen → Q out (with_seen s seen) w) where
   by_turn : (t : Turn Scanned) (n : ℕ) (seen : List ℕ)
       → (t ≡ Go → Leads scan_script (over scan_script plain) Q (scan_at generation n) (with_seen s seen) w)
@@ -42,13 +43,13 @@ module _ (Q : Scanned → Seat → PlainWords → Type 0) (generation : ℕ) (s 
   scan_over_plain some = scan_rest s.seats 0 s.giving.pins_seen (omega arith) some (none_yet generation w.pins s.giving.pins_seen)
 
 -- what is left after a scan alone
-pub record ScannedAlone (generation : ℕ) (s : Seat) (w : PlainWords) (out : Scanned) (t : Seat) (v : PlainWords) : Type 0 where
+pub record ScannedAlone (generation : ℕ) (s : Seat) (w : SharedWords) (out : Scanned) (t : Seat) (v : SharedWords) : Type 0 where
   pub scan : IsScan generation s.seats w.pins out
   pub seen : IsFirst (loads s.seats out) w.pins t.giving.pins_seen
   pub seat : t ≡ with_seen s t.giving.pins_seen
   pub memory : v ≡ w
 
-pub scanned_alone : (generation : ℕ) (s : Seat) (w : PlainWords) → 0 < s.seats → s.seats ≤ SEATS
+pub scanned_alone : (generation : ℕ) (s : Seat) (w : SharedWords) → 0 < s.seats → s.seats ≤ SEATS
     → Leads scan_script (over scan_script plain) (ScannedAlone generation s w) (scan_of generation) s w
 scanned_alone generation s w some few =
     scan_over_plain (ScannedAlone generation s w) generation s w few

@@ -4,14 +4,14 @@ use Rattle.std.proofs.lemmas.Bool.{eqb-true, eqb-false, ltb-true, ltb-false}
 use Rattle.std.proofs.lemmas.List.{get_or_push, get_or_append_left, get_or-take, length-take-le, length_push}
 use Rattle.log_entry.specs.declared.calls.Held.{Held as HeldPin}
 use Rattle.log_entry.specs.declared.calls.Call.{Call}
-use Rattle.seat_state.specs.Seats.{Seat}
-use Rattle.pmem_words.specs.declared.asks.Turn.TheVariants.{Go, Done}
+use Rattle.pmem_words.specs.Seats.{Seat}
+use Rattle.pmem_words.specs.declared.machine.Turn.TheVariants.{Go, Done}
 use Rattle.log_core.specs.Views.{Ghost}
 use Rattle.log_core.specs.Origin.{Origin}
 use Rattle.log_core.specs.Within.{no_record, adds_at, EntersOffered, Serves}
-use Rattle.log_core.proofs.OneView.{same_or_other}
-use Rattle.log_core.proofs.Serving.{leads_within}
-use Rattle.log_core.proofs.StartMeets.{start_meets}
+use Rattle.log_core.proofs.clauses.OneView.{same_or_other}
+use Rattle.log_core.proofs.machines.Serving.{leads_within}
+use Rattle.log_core.proofs.starts.StartMeets.{start_meets}
 use Rattle.pins.specs.declared.scan.Scan.{Scan}
 use Rattle.pins.specs.declared.scan.Scanned.{Scanned}
 use Rattle.pins.specs.declared.scan.Scanned.TheVariants.{Clear, Held}

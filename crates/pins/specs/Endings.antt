@@ -2,10 +2,9 @@
 use Rattle.std.specs.Prelude.{ℕ, ◌≡◌, ◌+◌, ◌<◌, ◌≤◌, ◌==◌, ◌&&◌, ◌⊎◌, List, [], length, slice_index, true}
 use Rattle.log_entry.specs.declared.calls.Held.{Held}
 use Rattle.log_entry.specs.declared.words.Head.{Head}
-use Rattle.seat_state.specs.Seats.{Seat}
+use Rattle.pmem_words.specs.Seats.{Seat}
 use Rattle.pins.specs.declared.scan.Scanned.{Scanned}
-use Rattle.pins.specs.declared.scan.Scanned.TheVariants.{Clear}
-use Rattle.pins.specs.declared.scan.Scanned.TheVariants.{Held as HeldBy}
+use Rattle.pins.specs.declared.scan.Scanned.TheVariants.{Clear, Held as HeldBy}
 use Rattle.pins.specs.Steps.{generation_in, head_of, with_seen}
 
 -- the seat with a valid pin of the generation of this head word; a map of another generation is not ready, and no word is kept

@@ -4,4 +4,3 @@ pub mod Scanning
 pub mod Steps
 pub mod Unpinning
 pub mod Within
-pub mod Seated

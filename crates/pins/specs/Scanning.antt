@@ -1,13 +1,13 @@
 -- What a scan of the pins means.
 use Rattle.std.specs.Prelude.{ℕ, ◌≡◌, ◌≢◌, ◌+◌, ◌-◌, ◌<◌, ◌≤◌, ◌&&◌, nat_lt, nat_le, Bool, true, false, length}
 use Rattle.std.proofs.Common.{arith}
-use Rattle.seat_state.specs.Seats.{Seat}
-use Rattle.seat_state.specs.declared.TheConstants.{SEATS}
+use Rattle.pmem_words.specs.Seats.{Seat}
+use Rattle.pmem_words.specs.declared.TheConstants.{SEATS}
 use Rattle.pmem_words.specs.Scripts.{After, Script, Lowers}
-use Rattle.pmem_words.specs.declared.asks.Ask.TheVariants.{Load}
-use Rattle.pmem_words.specs.declared.asks.Place.TheVariants.{Pin as PinWord}
-use Rattle.pmem_words.specs.declared.asks.Turn.{Turn}
-use Rattle.pmem_words.specs.declared.asks.Turn.TheVariants.{Go, Done}
+use Rattle.asks.specs.declared.ask.Ask.TheVariants.{Load}
+use Rattle.asks.specs.declared.ask.Place.TheVariants.{Pin as PinWord}
+use Rattle.pmem_words.specs.declared.machine.Turn.{Turn}
+use Rattle.pmem_words.specs.declared.machine.Turn.TheVariants.{Go, Done}
 use Rattle.pins.specs.declared.scan.Scan.{Scan}
 use Rattle.pins.specs.declared.scan.Scanned.{Scanned}
 use Rattle.pins.specs.declared.scan.Scanned.TheVariants.{Clear, Held}

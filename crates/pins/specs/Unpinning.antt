@@ -1,10 +1,10 @@
 -- What giving a pin up means.
 use Rattle.std.specs.Prelude.{ℕ, ◌≡◌}
-use Rattle.seat_state.specs.Seats.{Seat}
+use Rattle.pmem_words.specs.Seats.{Seat}
 use Rattle.pmem_words.specs.Scripts.{Script, Lowers}
-use Rattle.pmem_words.specs.declared.asks.Ask.TheVariants.{Store}
-use Rattle.pmem_words.specs.declared.asks.Place.TheVariants.{Pin as PinWord}
-use Rattle.pmem_words.specs.declared.asks.Turn.TheVariants.{Go, Done}
+use Rattle.asks.specs.declared.ask.Ask.TheVariants.{Store}
+use Rattle.asks.specs.declared.ask.Place.TheVariants.{Pin as PinWord}
+use Rattle.pmem_words.specs.declared.machine.Turn.TheVariants.{Go, Done}
 use Rattle.pins.specs.declared.unpin.Unpin.{Unpin}
 use Rattle.pins.specs.Steps.{pin_stored}
 

@@ -2,9 +2,9 @@
 use Rattle.std.specs.Prelude.{ℕ, ◌+◌, ◌<◌, ◌≤◌, ◌≡◌, ◌≢◌, true, false, List, [], length, slice_index}
 use Rattle.log_entry.specs.declared.words.Head.{Head}
 use Rattle.log_entry.specs.declared.calls.Call.{Call}
-use Rattle.seat_parts.specs.declared.keeps.Task.TheVariants.{Sync}
-use Rattle.seat_state.specs.Seats.{Seat}
-use Rattle.seat_state.specs.declared.TheConstants.{SEATS}
+use Rattle.pmem_words.specs.declared.keeps.Task.TheVariants.{Sync}
+use Rattle.pmem_words.specs.Seats.{Seat}
+use Rattle.pmem_words.specs.declared.TheConstants.{SEATS}
 use Rattle.pmem_words.specs.Leads.{Leads}
 use Rattle.log_core.specs.Views.{View, Ghost}
 use Rattle.log_core.specs.Origin.{Origin}

@@ -1,11 +1,12 @@
 //! The machines driven over a plain memory, where no other seat makes a step.
 
 ghost use Rattle.std.specs.Prelude.{◌≡◌, ◌<◌, ◌≤◌, length, slice_index};
-ghost use Rattle.seat_state.specs.declared.TheConstants.{SEATS};
+ghost use Rattle.pmem_words.specs.declared.TheConstants.{SEATS};
 ghost use Rattle.pmem_words.specs.Courses.{over};
 ghost use Rattle.pmem_words.specs.Drives.{EndsIn};
-ghost use Rattle.pmem_words.specs.PlainWords.{plain, with_word};
-ghost use Rattle.pmem_words.specs.declared.asks.Place.TheVariants.{Pin as PinWord};
+ghost use Rattle.pmem_words.specs.PlainWords.{plain};
+ghost use Rattle.asks.specs.SharedWords.{with_word};
+ghost use Rattle.asks.specs.declared.ask.Place.TheVariants.{Pin as PinWord};
 ghost use Rattle.pins.specs.declared.TheConstants.{HEAD_WORD};
 ghost use Rattle.pins.specs.declared.pin.Pin.TheVariants.{Begin};
 ghost use Rattle.pins.specs.Steps.{head_of, pin_stored, with_seen};

@@ -10,8 +10,6 @@ pub mod steps;
 #[cfg(test)]
 mod tests;
 pub mod unpin;
-#[cfg(test)]
-mod world_tests;
 
 pub use alone::{pin_alone, scan_alone, unpin_alone};
 pub use driven::{pin_over, scan_over};

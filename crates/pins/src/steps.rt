@@ -1,7 +1,7 @@
 //! What a step on the head or on the own pin word makes of a seat.
 
 ghost use Rattle.std.specs.Prelude.{◌≡◌, ◌≢◌, ◌<◌, length};
-ghost use Rattle.seat_state.specs.declared.TheConstants.{SEATS};
+ghost use Rattle.pmem_words.specs.declared.TheConstants.{SEATS};
 ghost use Rattle.pins.specs.Steps.{head_found, pin_stored, pin_found};
 
 use log_entry::layouts::HEAD_GENERATION;

@@ -12,10 +12,10 @@ use Rattle.log_entry.specs.declared.calls.WriteRefusal.{WriteRefusal}
 use Rattle.log_entry.specs.declared.calls.Reply.{Reply}
 use Rattle.log_entry.specs.declared.calls.Reply.TheVariants.{Wrote, Appended}
 use Rattle.log_image.specs.Image.{Shape, total}
-use Rattle.log_image.specs.Holes.{Hole, hole_of}
+use Rattle.log_image.specs.Tails.{Tail, tail_of}
 use Rattle.log_image.specs.Taken.{is_taken}
 use Rattle.plain_engine.specs.Space.{clear_blocks, least_data, least_log, begins_run, lacks_data, is_link, lacks_log}
-use Rattle.plain_engine.specs.Names.{is_in_run, is_linked, slot_chain, entry_hole, chain_after, hole_after, is_taken_after, NamesAfter}
+use Rattle.plain_engine.specs.Names.{is_in_run, is_linked, slot_chain, entry_tail, chain_after, tail_after, is_taken_after, NamesAfter}
 use Rattle.plain_engine.specs.Serving.{wanted_blocks, lacking_for, refused_area, touched_by, written_blocks}
 use Rattle.plain_engine.specs.Served.{IsServed, AreServed}
 use Rattle.plain_engine.specs.Alike.{NameAlike, ops_of, refused_areas, RunsLackAlike}
@@ -41,15 +41,15 @@ lacking_alike : (shape : Shape) (words chain other other_chain : List ℕ) (want
 lacking_alike shape words chain other other_chain None alike = refl
 lacking_alike shape words chain other other_chain (Some count) alike =
     ap (λ (l : List ℕ). if not (begins_run (get_or l 0 0) count l) then Some Data else if lacks_log other shape other_chain then Some Log else None) (data_alike shape words chain other other_chain alike)
-    ∙ ap (λ (h : Hole). if lacks_data words shape chain count then Some Data else if is_link h && length (clear_blocks other shape other_chain (1 + shape.data_blocks) shape.log_blocks) == 0 then Some Log else None) alike.hole
-    ∙ ap (λ (l : List ℕ). if lacks_data words shape chain count then Some Data else if is_link (hole_of words shape chain) && length l == 0 then Some Log else None) (log_alike shape words chain other other_chain alike)
+    ∙ ap (λ (h : Tail). if lacks_data words shape chain count then Some Data else if is_link h && length (clear_blocks other shape other_chain (1 + shape.data_blocks) shape.log_blocks) == 0 then Some Log else None) alike.tail
+    ∙ ap (λ (l : List ℕ). if lacks_data words shape chain count then Some Data else if is_link (tail_of words shape chain) && length l == 0 then Some Log else None) (log_alike shape words chain other other_chain alike)
 
 -- and calls that write as many blocks leave chains that name alike
 next_alike : (shape : Shape) (words chain other other_chain : List ℕ) (written also : Option ℕ) (new longer other_new other_longer : List ℕ) → NameAlike shape words chain other other_chain → also ≡ written → NamesAfter shape words chain written new longer → NamesAfter shape other other_chain also other_new other_longer →
     NameAlike shape new longer other_new other_longer
 next_alike shape words chain other other_chain written also new longer other_new other_longer alike same one two = record {
   chain_is = two.chain_is ∙ ap (λ (w : Option ℕ). chain_after other shape other_chain w) same ∙ chains written ∙ sym one.chain_is;
-  hole = two.hole ∙ ap (λ (w : Option ℕ). hole_after other shape other_chain w) same ∙ holes written ∙ sym one.hole;
+  tail = two.tail ∙ ap (λ (w : Option ℕ). tail_after other shape other_chain w) same ∙ tails written ∙ sym one.tail;
   taken = λ block inside. two.taken block inside ∙ ap (λ (w : Option ℕ). is_taken_after other shape other_chain w block) same ∙ blocks written block inside ∙ sym (one.taken block inside);
 }
   where
@@ -62,21 +62,21 @@ next_alike shape words chain other other_chain written also new longer other_new
     chains : (w : Option ℕ) → chain_after other shape other_chain w ≡ chain_after words shape chain w
     chains None = alike.chain_is
     chains (Some count) =
-        ap (λ (h : Hole). slot_chain h (least_log other shape other_chain) other_chain) alike.hole
-        ∙ ap (λ (n : ℕ). slot_chain (hole_of words shape chain) n other_chain) linked
-        ∙ ap (λ (l : List ℕ). slot_chain (hole_of words shape chain) (least_log words shape chain) l) alike.chain_is
+        ap (λ (h : Tail). slot_chain h (least_log other shape other_chain) other_chain) alike.tail
+        ∙ ap (λ (n : ℕ). slot_chain (tail_of words shape chain) n other_chain) linked
+        ∙ ap (λ (l : List ℕ). slot_chain (tail_of words shape chain) (least_log words shape chain) l) alike.chain_is
 
-    holes : (w : Option ℕ) → hole_after other shape other_chain w ≡ hole_after words shape chain w
-    holes None = alike.hole
-    holes (Some count) = ap (λ (h : Hole). entry_hole shape h (least_log other shape other_chain)) alike.hole ∙ ap (λ (n : ℕ). entry_hole shape (hole_of words shape chain) n) linked
+    tails : (w : Option ℕ) → tail_after other shape other_chain w ≡ tail_after words shape chain w
+    tails None = alike.tail
+    tails (Some count) = ap (λ (h : Tail). entry_tail shape h (least_log other shape other_chain)) alike.tail ∙ ap (λ (n : ℕ). entry_tail shape (tail_of words shape chain) n) linked
 
     blocks : (w : Option ℕ) (block : ℕ) → block < total shape → is_taken_after other shape other_chain w block ≡ is_taken_after words shape chain w block
     blocks None block inside = alike.taken block inside
     blocks (Some count) block inside =
-        ap (λ (b : Bool). (b || is_in_run (least_data other shape other_chain) count block) || is_linked (hole_of other shape other_chain) (least_log other shape other_chain) block) (alike.taken block inside)
-        ∙ ap (λ (n : ℕ). (is_taken words shape chain block || is_in_run n count block) || is_linked (hole_of other shape other_chain) (least_log other shape other_chain) block) least
-        ∙ ap (λ (h : Hole). (is_taken words shape chain block || is_in_run (least_data words shape chain) count block) || is_linked h (least_log other shape other_chain) block) alike.hole
-        ∙ ap (λ (n : ℕ). (is_taken words shape chain block || is_in_run (least_data words shape chain) count block) || is_linked (hole_of words shape chain) n block) linked
+        ap (λ (b : Bool). (b || is_in_run (least_data other shape other_chain) count block) || is_linked (tail_of other shape other_chain) (least_log other shape other_chain) block) (alike.taken block inside)
+        ∙ ap (λ (n : ℕ). (is_taken words shape chain block || is_in_run n count block) || is_linked (tail_of other shape other_chain) (least_log other shape other_chain) block) least
+        ∙ ap (λ (h : Tail). (is_taken words shape chain block || is_in_run (least_data words shape chain) count block) || is_linked h (least_log other shape other_chain) block) alike.tail
+        ∙ ap (λ (n : ℕ). (is_taken words shape chain block || is_in_run (least_data words shape chain) count block) || is_linked (tail_of words shape chain) n block) linked
 
 -- replies to one write that say the same of space are the same
 one_reply : (refusal : Option WriteRefusal) (accepted reply other : Reply) → refused_area accepted ≡ None → AnswersWrite refusal accepted reply → AnswersWrite refusal accepted other → refused_area other ≡ refused_area reply → other ≡ reply

@@ -12,16 +12,17 @@ use Rattle.log_image.specs.Header.{shape_of}
 use Rattle.log_image.specs.Entries.{all_names}
 use Rattle.log_image.specs.Blocks.{slots_of, entry_words, is_closed}
 use Rattle.log_image.specs.Positions.{entries_of}
-use Rattle.log_image.specs.Holes.{AtSlot, AtLink, last_block, hole_in}
+use Rattle.log_image.specs.Tails.{AtSlot, AtLink, last_block, tail_in}
 use Rattle.log_image.specs.Taken.{bit_of}
 use Rattle.log_image.proofs.ImageLemmas.{length_range, allowed_shape}
 use Rattle.log_image.proofs.MadeImages.{by_bytes}
 use Rattle.log_image.proofs.HeaderSteps.{long_words}
-use Rattle.log_image.proofs.NameLemmas.{is_in, test_in, names_in_data}
-use Rattle.image_steps.proofs.SlotLemmas.{hole_inside}
+use Rattle.log_image.specs.Chains.{is_in}
+use Rattle.log_image.proofs.NameLemmas.{test_in, names_in_data}
+use Rattle.log_image.proofs.Clearing.{open_inside}
 use Rattle.log_image.proofs.SetWordLemmas.{tail_inside}
 use Rattle.image_steps.proofs.TailLemmas.{split_chain, AtTail, at_tail, last_of, name_taken, map_in_names}
-use Rattle.plain_engine.specs.Running.{hole_at, Runs, RunsOnSome}
+use Rattle.plain_engine.specs.Running.{tail_at, Runs, RunsOnSome}
 
 -- the bounds
 pub record Bounds (shape : Shape) (words taken : List ℕ) (table : FileMap) (position tail_block tail_slot : ℕ) : Type 0 where
@@ -44,17 +45,17 @@ record AtEnd (tail_block tail_slot last size : ℕ) : Type 0 where
   same : last ≡ tail_block
   slot : tail_slot ≤ size
 
-end_of_chain : (shape : Shape) (words : List ℕ) (last tail_block tail_slot : ℕ) → 3 ≤ words_in shape → length (block_words words shape last) ≡ words_in shape → hole_in last (block_words words shape last) ≡ hole_at shape tail_block tail_slot → AtEnd tail_block tail_slot last (words_in shape)
+end_of_chain : (shape : Shape) (words : List ℕ) (last tail_block tail_slot : ℕ) → 3 ≤ words_in shape → length (block_words words shape last) ≡ words_in shape → tail_in last (block_words words shape last) ≡ tail_at shape tail_block tail_slot → AtEnd tail_block tail_slot last (words_in shape)
 end_of_chain shape words last tail_block tail_slot long size is = go (is_closed (slots_of (block_words words shape last))) refl (tail_slot == words_in shape) refl is
   where
     go : (closed : Bool) → is_closed (slots_of (block_words words shape last)) ≡ closed → (full : Bool) → (tail_slot == words_in shape) ≡ full →
         (if closed then AtLink last else AtSlot last (3 + length (entry_words (slots_of (block_words words shape last))))) ≡ (if full then AtLink tail_block else AtSlot tail_block tail_slot) → AtEnd tail_block tail_slot last (words_in shape)
-    go true closes true full hole = record { same = cc; slot = omega (arith, eqb-true tail_slot (words_in shape) full) }
-    go true closes false full hole = cc
-    go false opens true full hole = cc
-    go false opens false full hole =
+    go true closes true full tail = record { same = cc; slot = omega (arith, eqb-true tail_slot (words_in shape) full) }
+    go true closes false full tail = cc
+    go false opens true full tail = cc
+    go false opens false full tail =
         let slot : 3 + length (entry_words (slots_of (block_words words shape last))) ≡ tail_slot = cc in
-        record { same = cc; slot = omega (arith, slot, long, hole_inside (slots_of (block_words words shape last)) opens, length-drop 3 (block_words words shape last), size) }
+        record { same = cc; slot = omega (arith, slot, long, open_inside (slots_of (block_words words shape last)) opens, length-drop 3 (block_words words shape last), size) }
 
 short_words : (shape : Shape) → (shape.block_bytes ≡ 64) ⊎ ((shape.block_bytes ≡ 512) ⊎ (shape.block_bytes ≡ 4096)) → words_in shape ≤ 512
 short_words shape is = by_bytes (λ (b : ℕ). b / 8 ≤ 512) shape.block_bytes is (omega arith) (omega arith) (omega arith)
@@ -66,7 +67,7 @@ bounds_by words taken table position tail_block tail_slot first_clear front tail
     let inside : tail * words_in (shape_of words) + words_in (shape_of words) ≤ length words = tail_inside words tail runs.stands.header at.area in
     let end : AtEnd tail_block tail_slot tail (words_in (shape_of words)) =
     end_of_chain (shape_of words) words tail tail_block tail_slot (omega (arith, long)) (length_range words (tail * words_in (shape_of words)) (words_in (shape_of words)) inside)
-    (sym (ap (λ (b : ℕ). hole_in b (block_words words (shape_of words) b)) (last_of 0 front tail)) ∙ runs.fits.tail) in
+    (sym (ap (λ (b : ℕ). tail_in b (block_words words (shape_of words) b)) (last_of 0 front tail)) ∙ runs.fits.tail) in
     record {
       whole = runs.stands.header.whole;
       room = runs.fits.bitmap.room;

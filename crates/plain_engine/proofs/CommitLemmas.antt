@@ -10,12 +10,12 @@ use Rattle.log_entry.specs.declared.entries.Entry.TheVariants.{Direct}
 use Rattle.log_entry.specs.declared.layouts.TheConstants.{ENTRY_KIND, DIRECT_VIRT, DIRECT_BLOCK, DIRECT_COUNT, DIRECT_LEFTOVER, DIRECT_UNNAMED}
 use Rattle.log_image.specs.Image.{Shape, words_in, is_in_log}
 use Rattle.log_image.specs.Entries.{Meaning, direct_meaning, meaning}
-use Rattle.log_image.specs.Maps.{end_of}
+use Rattle.log_image.specs.Maps.{entry_end}
 use Rattle.log_image.specs.Positions.{entries_of}
 use Rattle.log_image.specs.Format.{is_log_entry}
 use Rattle.log_image.specs.Taken.{bit_of, is_taken}
 use Rattle.image_steps.specs.Steps.{IsEntryOf, fits_log}
-use Rattle.log_image.proofs.NameLemmas.{is_in}
+use Rattle.log_image.specs.Chains.{is_in}
 use Rattle.log_image.proofs.SetWordLemmas.{past_header}
 use Rattle.std.proofs.lemmas.List.{get_or-set_other}
 use Rattle.log_image.proofs.EntrySteps.{direct_entries}
@@ -76,7 +76,7 @@ commit_runs shape words taken new_taken table new_table position tail_block tail
     entry_put shape words taken new_taken table new_table position tail_block tail_slot first_clear (block + count) chain file new_file word runs slot room entry same_bits
     (λ other. marks other ∙ ap (λ (b : Bool). if b then 1 else bit_of taken other) (sym (in_range_test block count other) ∙ ap (λ (l : List ℕ). is_in l other) (sym is_run)))
     (subst (λ (m : Meaning). HasMap new_table (entries_of words shape chain ++ m ∷ [])) means (maps (entries_of words shape chain) runs.fits.map))
-    ((sizes table.size [] (record { same = refl })).same ∙ ap (λ (m : Meaning). max table.size (end_of shape m)) means ∙ ap (λ (n : ℕ). max n (end_of shape (direct_meaning word))) runs.fits.size ∙ sym entry.size)
+    ((sizes table.size [] (record { same = refl })).same ∙ ap (λ (m : Meaning). max table.size (entry_end shape m)) means ∙ ap (λ (n : ℕ). max n (entry_end shape (direct_meaning word))) runs.fits.size ∙ sym entry.size)
     (λ other some before. go other some before (cases_lt other block))
   where
     go : (other : ℕ) → 1 ≤ other → other < block + count → (other < block) ⊎ (block ≤ other) → (is_taken words shape chain other ≡ true) ⊎ (is_in (direct_meaning word).blocks other ≡ true)

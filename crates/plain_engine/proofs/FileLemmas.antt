@@ -6,7 +6,7 @@ use Rattle.std.proofs.lemmas.List.{get_or-take, get_or-drop, get_or-append-add, 
 use Rattle.std.proofs.Math.ListN.{get_or-append}
 use Rattle.std.proofs.Math.Nat.{mod-lt, mul-le-mul_right}
 use Rattle.std.proofs.lemmas.Nat.{div-add-mod'}
-use Rattle.log_entry.specs.ByteFile.{write, lengthened}
+use Rattle.log_entry.specs.ByteFile.{write, with_zeros_to}
 use Rattle.log_entry.specs.Legal.{touched_blocks}
 use Rattle.log_image.proofs.HoldingLemmas.{zeros_after}
 use Rattle.plain_engine.specs.Bytes.{laid_byte}
@@ -30,45 +30,45 @@ in_three front middle back place = go (cases_lt place (length front)) (cases_lt 
         rw (le-ltb place (length front) past, le-ltb place (length front + length middle) beyond)
         (after (front ++ middle) back place (omega (arith, beyond, length-append front middle)) ∙ ap (λ (n : ℕ). get_or back (place - n) 0) (length-append front middle))
 
-length_lengthened : (file : List ℕ) (end : ℕ) → length (lengthened file end) ≡ max (length file) end
+length_lengthened : (file : List ℕ) (end : ℕ) → length (with_zeros_to file end) ≡ max (length file) end
 length_lengthened file end = length-append file (replicate (end - length file) 0) ∙ omega (arith, length-replicate {A = ℕ} (end - length file) 0)
 
 -- each byte of the file after a write
 pub write_place : (file : List ℕ) (offset : ℕ) (bytes : List ℕ) (place : ℕ) → 0 < length bytes → get_or (write file offset bytes) place 0 ≡ laid_byte offset bytes place (get_or file place 0)
 write_place file offset [] place some = absurd (omega (arith, some))
 write_place file offset (byte ∷ bytes) place some =
-    in_three (take offset (lengthened file offset)) (byte ∷ bytes) (drop (offset + length (byte ∷ bytes)) (lengthened file offset)) place
-    ∙ ap (λ (n : ℕ). if nat_lt place n then get_or (take offset (lengthened file offset)) place 0 else if nat_lt place (n + length (byte ∷ bytes)) then get_or (byte ∷ bytes) (place - n) 0 else get_or (drop (offset + length (byte ∷ bytes)) (lengthened file offset)) (place - (n + length (byte ∷ bytes))) 0) front
+    in_three (take offset (with_zeros_to file offset)) (byte ∷ bytes) (drop (offset + length (byte ∷ bytes)) (with_zeros_to file offset)) place
+    ∙ ap (λ (n : ℕ). if nat_lt place n then get_or (take offset (with_zeros_to file offset)) place 0 else if nat_lt place (n + length (byte ∷ bytes)) then get_or (byte ∷ bytes) (place - n) 0 else get_or (drop (offset + length (byte ∷ bytes)) (with_zeros_to file offset)) (place - (n + length (byte ∷ bytes))) 0) front
     ∙ go (cases_lt place offset) (cases_lt place (offset + length (byte ∷ bytes)))
   where
-    front : length (take offset (lengthened file offset)) ≡ offset
-    front = length-take offset (lengthened file offset) ∙ omega (arith, length_lengthened file offset)
+    front : length (take offset (with_zeros_to file offset)) ≡ offset
+    front = length-take offset (with_zeros_to file offset) ∙ omega (arith, length_lengthened file offset)
 
     go : (place < offset) ⊎ (offset ≤ place) → (place < offset + length (byte ∷ bytes)) ⊎ (offset + length (byte ∷ bytes) ≤ place) →
-        (if nat_lt place offset then get_or (take offset (lengthened file offset)) place 0 else if nat_lt place (offset + length (byte ∷ bytes)) then get_or (byte ∷ bytes) (place - offset) 0 else get_or (drop (offset + length (byte ∷ bytes)) (lengthened file offset)) (place - (offset + length (byte ∷ bytes))) 0)
+        (if nat_lt place offset then get_or (take offset (with_zeros_to file offset)) place 0 else if nat_lt place (offset + length (byte ∷ bytes)) then get_or (byte ∷ bytes) (place - offset) 0 else get_or (drop (offset + length (byte ∷ bytes)) (with_zeros_to file offset)) (place - (offset + length (byte ∷ bytes))) 0)
         ≡ laid_byte offset (byte ∷ bytes) place (get_or file place 0)
     go (inl before) second =
-        rw (lt-ltb place offset before) (get_or-take offset (lengthened file offset) place 0 before ∙ zeros_after file (offset - length file) place ∙ sym (laid_outside offset (byte ∷ bytes) place (get_or file place 0) (inl before)))
+        rw (lt-ltb place offset before) (get_or-take offset (with_zeros_to file offset) place 0 before ∙ zeros_after file (offset - length file) place ∙ sym (laid_outside offset (byte ∷ bytes) place (get_or file place 0) (inl before)))
     go (inr past) (inl before) =
         rw (le-ltb place offset past, lt-ltb place (offset + length (byte ∷ bytes)) before) (rw (le-leb offset place past) refl)
     go (inr past) (inr beyond) =
         let whole : offset + length (byte ∷ bytes) + (place - (offset + length (byte ∷ bytes))) ≡ place = omega (arith, beyond) in
         rw (le-ltb place offset past, le-ltb place (offset + length (byte ∷ bytes)) beyond, le-leb offset place past)
-        (get_or-drop (offset + length (byte ∷ bytes)) (lengthened file offset) (place - (offset + length (byte ∷ bytes))) 0
-        ∙ ap (λ (n : ℕ). get_or (lengthened file offset) n 0) whole ∙ zeros_after file (offset - length file) place)
+        (get_or-drop (offset + length (byte ∷ bytes)) (with_zeros_to file offset) (place - (offset + length (byte ∷ bytes))) 0
+        ∙ ap (λ (n : ℕ). get_or (with_zeros_to file offset) n 0) whole ∙ zeros_after file (offset - length file) place)
 
 pub length_write : (file : List ℕ) (offset : ℕ) (bytes : List ℕ) → 0 < length bytes → length (write file offset bytes) ≡ max (length file) (offset + length bytes)
 length_write file offset [] some = absurd (omega (arith, some))
 length_write file offset (byte ∷ bytes) some =
-    length-append (take offset (lengthened file offset) ++ byte ∷ bytes) (drop (offset + length (byte ∷ bytes)) (lengthened file offset))
-    ∙ omega (arith, length-append (take offset (lengthened file offset)) (byte ∷ bytes), length-take offset (lengthened file offset), length-drop (offset + length (byte ∷ bytes)) (lengthened file offset), length_lengthened file offset)
+    length-append (take offset (with_zeros_to file offset) ++ byte ∷ bytes) (drop (offset + length (byte ∷ bytes)) (with_zeros_to file offset))
+    ∙ omega (arith, length-append (take offset (with_zeros_to file offset)) (byte ∷ bytes), length-take offset (with_zeros_to file offset), length-drop (offset + length (byte ∷ bytes)) (with_zeros_to file offset), length_lengthened file offset)
 
 -- an append is a write at the file's end
 pub append_is_write : (file bytes : List ℕ) → 0 < length bytes → write file (length file) bytes ≡ file ++ bytes
 append_is_write file [] some = absurd (omega (arith, some))
 append_is_write file (byte ∷ bytes) some =
     let none : length file - length file ≡ 0 = omega arith in
-    let same : lengthened file (length file) ≡ file = ap (λ (n : ℕ). file ++ replicate n 0) none ∙ nothing_after file in
+    let same : with_zeros_to file (length file) ≡ file = ap (λ (n : ℕ). file ++ replicate n 0) none ∙ nothing_after file in
     ap (λ (l : List ℕ). take (length file) l ++ (byte ∷ bytes) ++ drop (length file + length (byte ∷ bytes)) l) same
     ∙ ap (λ (l : List ℕ). l ++ (byte ∷ bytes) ++ drop (length file + length (byte ∷ bytes)) file) (take_whole file)
     ∙ ap (λ (l : List ℕ). (file ++ byte ∷ bytes) ++ l) (drop_all (length file + length (byte ∷ bytes)) file (omega arith))

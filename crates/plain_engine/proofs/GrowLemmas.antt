@@ -11,7 +11,7 @@ use Rattle.log_entry.specs.Words.{block_word}
 use Rattle.log_entry.specs.declared.words.BlockKind.TheVariants.{Log}
 use Rattle.log_entry.specs.declared.layouts.TheConstants.{BLOCK_KIND, BLOCK_BASE, BLOCK_UNNAMED, LOG}
 use Rattle.log_image.specs.Image.{Shape, words_in, total, is_in_data, is_in_log, block_words}
-use Rattle.log_image.specs.Holes.{Hole, AtSlot, AtLink, hole_of}
+use Rattle.log_image.specs.Tails.{Tail, AtSlot, AtLink, tail_of}
 use Rattle.log_image.specs.Taken.{bit_of, is_taken, HasTaken}
 use Rattle.log_image.proofs.ImageLemmas.{in_block, length_range}
 use Rattle.image_steps.specs.Steps.{KeepsTaken, IsFreshLog}
@@ -45,13 +45,13 @@ one_passes p first (suc count) b low high passes = go (p first) refl (cases_lt f
 -- the tail is a slot
 pub slot_enough : (shape : Shape) (words taken : List ℕ) (table : FileMap) (position tail_block tail_slot first_clear : ℕ) (chain file : List ℕ) → Runs shape words taken table position tail_block tail_slot first_clear chain file → tail_slot ≢ words_in shape → lacks_log words shape chain ≡ false
 slot_enough shape words taken table position tail_block tail_slot first_clear chain file runs opens =
-    let at : hole_of words shape chain ≡ AtSlot tail_block tail_slot = runs.fits.tail ∙ ap (λ (b : Bool). if b then AtLink tail_block else AtSlot tail_block tail_slot) (ne_eqb tail_slot (words_in shape) opens) in
-    ap (λ (h : Hole). is_link h && length (clear_blocks words shape chain (1 + shape.data_blocks) shape.log_blocks) == 0) at
+    let at : tail_of words shape chain ≡ AtSlot tail_block tail_slot = runs.fits.tail ∙ ap (λ (b : Bool). if b then AtLink tail_block else AtSlot tail_block tail_slot) (ne_eqb tail_slot (words_in shape) opens) in
+    ap (λ (h : Tail). is_link h && length (clear_blocks words shape chain (1 + shape.data_blocks) shape.log_blocks) == 0) at
 
 link_at_end : (shape : Shape) (words taken : List ℕ) (table : FileMap) (position tail_block tail_slot first_clear : ℕ) (chain file : List ℕ) → Runs shape words taken table position tail_block tail_slot first_clear chain file → tail_slot ≡ words_in shape → lacks_log words shape chain ≡ (length (clear_blocks words shape chain (1 + shape.data_blocks) shape.log_blocks) == 0)
 link_at_end shape words taken table position tail_block tail_slot first_clear chain file runs closes =
-    let at : hole_of words shape chain ≡ AtLink tail_block = runs.fits.tail ∙ ap (λ (b : Bool). if b then AtLink tail_block else AtSlot tail_block tail_slot) (eq-eqb tail_slot (words_in shape) closes) in
-    ap (λ (h : Hole). is_link h && length (clear_blocks words shape chain (1 + shape.data_blocks) shape.log_blocks) == 0) at
+    let at : tail_of words shape chain ≡ AtLink tail_block = runs.fits.tail ∙ ap (λ (b : Bool). if b then AtLink tail_block else AtSlot tail_block tail_slot) (eq-eqb tail_slot (words_in shape) closes) in
+    ap (λ (h : Tail). is_link h && length (clear_blocks words shape chain (1 + shape.data_blocks) shape.log_blocks) == 0) at
 
 -- blocks of the log area are in the image
 log_area : (shape : Shape) (block : ℕ) → block < 1 + shape.data_blocks + shape.log_blocks → block < total shape

@@ -7,13 +7,13 @@ use Rattle.std.proofs.Math.Bool.{Bool-set}
 use Rattle.block_table.specs.FileMap.{FileMap, block_at}
 use Rattle.log_image.specs.Image.{Shape}
 use Rattle.log_image.specs.Stands.{StandsBy}
-use Rattle.log_image.specs.Holes.{Hole, AtSlot, AtLink, hole_of, IsClear}
+use Rattle.log_image.specs.Tails.{Tail, AtSlot, AtLink, tail_of, IsClear}
 use Rattle.log_image.specs.Header.{shape_of}
 use Rattle.log_image.specs.Maps.{map_of}
 use Rattle.log_image.specs.Positions.{entries_of}
 use Rattle.log_image.specs.Taken.{is_taken, HasTaken}
 use Rattle.log_image.proofs.OneChain.{one_meaning}
-use Rattle.plain_engine.specs.Running.{hole_at, Fits, RunsOnSome}
+use Rattle.plain_engine.specs.Running.{tail_at, Fits, RunsOnSome}
 
 shape_set : IsSet Shape
 shape_set = hlevel ℕ_set
@@ -25,22 +25,22 @@ option_same (Some a) (Some b) same = (let inner : a ≡ b = ∥∥₁_elim same 
 option_same None (Some b) same = (let wrong : 0 ≡ 1 = ∥∥₁_elim same (ℕ_set _ _) (λ (e : None ≡ Some b). cc) in absurd (omega (arith, wrong)))
 option_same (Some a) None same = (let wrong : 0 ≡ 1 = ∥∥₁_elim same (ℕ_set _ _) (λ (e : Some a ≡ None). cc) in absurd (omega (arith, wrong)))
 
--- two holes that are merely the same are the same
-hole_same : (first second : Hole) → ∥ first ≡ second ∥₁ → first ≡ second
-hole_same (AtSlot block slot) (AtSlot other place) same =
+-- two tails that are merely the same are the same
+tail_same : (first second : Tail) → ∥ first ≡ second ∥₁ → first ≡ second
+tail_same (AtSlot block slot) (AtSlot other place) same =
     let block_is : block ≡ other = ∥∥₁_elim same (ℕ_set _ _) (λ (e : AtSlot block slot ≡ AtSlot other place). cc) in
     let slot_is : slot ≡ place = ∥∥₁_elim same (ℕ_set _ _) (λ (e : AtSlot block slot ≡ AtSlot other place). cc) in
     ap (λ (b : ℕ). AtSlot b slot) block_is ∙ ap (λ (n : ℕ). AtSlot other n) slot_is
-hole_same (AtLink block) (AtLink other) same =
+tail_same (AtLink block) (AtLink other) same =
     let block_is : block ≡ other = ∥∥₁_elim same (ℕ_set _ _) (λ (e : AtLink block ≡ AtLink other). cc) in
     ap (λ (b : ℕ). AtLink b) block_is
-hole_same (AtSlot block slot) (AtLink other) same = (let wrong : 0 ≡ 1 = ∥∥₁_elim same (ℕ_set _ _) (λ (e : AtSlot block slot ≡ AtLink other). cc) in absurd (omega (arith, wrong)))
-hole_same (AtLink block) (AtSlot other place) same = (let wrong : 0 ≡ 1 = ∥∥₁_elim same (ℕ_set _ _) (λ (e : AtLink block ≡ AtSlot other place). cc) in absurd (omega (arith, wrong)))
+tail_same (AtSlot block slot) (AtLink other) same = (let wrong : 0 ≡ 1 = ∥∥₁_elim same (ℕ_set _ _) (λ (e : AtSlot block slot ≡ AtLink other). cc) in absurd (omega (arith, wrong)))
+tail_same (AtLink block) (AtSlot other place) same = (let wrong : 0 ≡ 1 = ∥∥₁_elim same (ℕ_set _ _) (λ (e : AtLink block ≡ AtSlot other place). cc) in absurd (omega (arith, wrong)))
 
 -- all but the tail and the map
 record PartFits (shape : Shape) (words taken : List ℕ) (table : FileMap) (first_clear : ℕ) (chain file : List ℕ) : Type 0 where
   same_shape : shape_of words ≡ shape
-  clear : IsClear words shape (hole_of words shape chain)
+  clear : IsClear words shape (tail_of words shape chain)
   bitmap : HasTaken words shape chain taken
   size : table.size ≡ length file
   low : (block : ℕ) → 1 ≤ block → block < first_clear → is_taken words shape chain block ≡ true
@@ -56,7 +56,7 @@ opened shape words taken table position tail_block tail_slot first_clear kept ch
   record {
     same_shape = part.same_shape;
     clear = part.clear;
-    tail = hole_same (hole_of words shape chain) (hole_at shape tail_block tail_slot) (∥∥₁_map kept (λ (some : RunsOnSome shape words taken table position tail_block tail_slot first_clear). (whole some).tail));
+    tail = tail_same (tail_of words shape chain) (tail_at shape tail_block tail_slot) (∥∥₁_map kept (λ (some : RunsOnSome shape words taken table position tail_block tail_slot first_clear). (whole some).tail));
     bitmap = part.bitmap;
     map = record { each = λ virt. option_same (block_at table virt) (map_of (entries_of words shape chain) virt) (∥∥₁_map kept (λ (some : RunsOnSome shape words taken table position tail_block tail_slot first_clear). (whole some).map.each virt)) };
     size = part.size;

@@ -1,9 +1,8 @@
 -- The calls answered so far, one more, and all of them.
 use Rattle.std.proofs.Common.{◌≡◌, ℕ, ◌+◌, List, [], ◌∷◌, ◌++◌, refl, sym, ap, ◌∙◌, subst}
 use Rattle.log_entry.specs.Legal.{Legal, Answers, last_file, last_position_of, file_after, position_after}
-use Rattle.log_image.specs.Image.{Shape}
+use Rattle.log_image.specs.Image.{Shape, shape_by}
 use Rattle.log_image.specs.Stands.{StandsBy}
-use Rattle.chain_reader.specs.Tables.{shape_by}
 use Rattle.log_entry.specs.declared.shapes.Geometry.{Geometry}
 use Rattle.log_entry.specs.declared.calls.Call.{Call}
 use Rattle.log_entry.specs.declared.calls.Job.{Job}

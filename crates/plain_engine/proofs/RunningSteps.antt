@@ -9,13 +9,14 @@ use Rattle.log_image.specs.Header.{shape_of}
 use Rattle.log_image.specs.Entries.{Meaning, direct_meaning, names, all_names}
 use Rattle.log_image.specs.Maps.{map_of}
 use Rattle.log_image.specs.Positions.{entries_of}
-use Rattle.log_image.specs.Holes.{AtSlot, AtLink, hole_of, IsClear}
+use Rattle.log_image.specs.Tails.{AtSlot, AtLink, tail_of, IsClear}
 use Rattle.log_image.specs.Taken.{bit_of, is_taken}
 use Rattle.image_steps.specs.Steps.{StandsClear, KeepsTaken, StandsAsBefore, IsEntryOf, TakesEntry, IsFreshLog, TakesBlock}
 use Rattle.image_steps.proofs.StoreStep.{stores_mean_nothing, nothing_after}
 use Rattle.image_steps.proofs.EntryStep.{entries_are_writes}
 use Rattle.image_steps.proofs.LinkStep.{links_grow_the_log}
-use Rattle.log_image.proofs.NameLemmas.{is_in, or_left, or_right}
+use Rattle.log_image.specs.Chains.{is_in}
+use Rattle.log_image.proofs.NameLemmas.{or_left, or_right}
 use Rattle.chain_reader.specs.Tables.{HasMap}
 use Rattle.plain_engine.specs.Running.{Runs}
 
@@ -36,8 +37,8 @@ store_step words new taken table position tail_block tail_slot first_clear chain
       stands = is.stands.stands;
       fits = record {
         same_shape = is.header.same_shape;
-        clear = subst (λ (s : Shape). IsClear new s (hole_of new s chain)) is.header.same_shape is.stands.clear;
-        tail = is.hole ∙ runs.fits.tail;
+        clear = subst (λ (s : Shape). IsClear new s (tail_of new s chain)) is.header.same_shape is.stands.clear;
+        tail = is.tail ∙ runs.fits.tail;
         bitmap = record { room = runs.fits.bitmap.room; bits = λ block inside. runs.fits.bitmap.bits block inside ∙ ap (λ (b : Bool). if b then 1 else 0) (sym (taken_same words new (shape_of words) chain is.entries block)) };
         map = record { each = λ virt. runs.fits.map.each virt ∙ ap (λ (l : List Meaning). map_of l virt) (sym is.entries) };
         size = runs.fits.size;
@@ -68,7 +69,7 @@ pub entry_step : (words taken new_taken : List ℕ) (table new_table : FileMap) 
     ((block : ℕ) → 1 ≤ block → block < new_clear → (is_taken words (shape_of words) chain block ≡ true) ⊎ (is_in (direct_meaning word).blocks block ≡ true)) →
     Runs (shape_of words) (set words (tail_block * words_in (shape_of words) + tail_slot) word) new_taken new_table (position + 1) tail_block (tail_slot + 1) new_clear chain new_file
 entry_step words taken new_taken table new_table position tail_block tail_slot first_clear new_clear chain file new_file word runs opens room entry same_bits bits maps size low =
-    let at : hole_of words (shape_of words) chain ≡ AtSlot tail_block tail_slot = runs.fits.tail ∙ ap (λ (b : Bool). if b then AtLink tail_block else AtSlot tail_block tail_slot) (ne_eqb tail_slot (words_in (shape_of words)) opens) in
+    let at : tail_of words (shape_of words) chain ≡ AtSlot tail_block tail_slot = runs.fits.tail ∙ ap (λ (b : Bool). if b then AtLink tail_block else AtSlot tail_block tail_slot) (ne_eqb tail_slot (words_in (shape_of words)) opens) in
     let new : List ℕ = set words (tail_block * words_in (shape_of words) + tail_slot) word in
     let is : TakesEntry words (set words (tail_block * words_in (shape_of words) + tail_slot) word) chain new_file position tail_block tail_slot word =
     entries_are_writes words chain file new_file position tail_block tail_slot word (stands_clear words taken table position tail_block tail_slot first_clear chain file runs) at room entry in
@@ -78,8 +79,8 @@ entry_step words taken new_taken table new_table position tail_block tail_slot f
       stands = is.stands.stands;
       fits = record {
         same_shape = is.header.same_shape;
-        clear = subst (λ (s : Shape). IsClear (set words (tail_block * words_in (shape_of words) + tail_slot) word) s (hole_of (set words (tail_block * words_in (shape_of words) + tail_slot) word) s chain)) is.header.same_shape is.stands.clear;
-        tail = is.hole;
+        clear = subst (λ (s : Shape). IsClear (set words (tail_block * words_in (shape_of words) + tail_slot) word) s (tail_of (set words (tail_block * words_in (shape_of words) + tail_slot) word) s chain)) is.header.same_shape is.stands.clear;
+        tail = is.tail;
         bitmap = record {
           room = subst (λ (n : ℕ). total (shape_of words) ≤ 64 * n) (sym same_bits) runs.fits.bitmap.room;
           bits = λ block inside.
@@ -125,7 +126,7 @@ pub link_step : (words taken new_taken : List ℕ) (table : FileMap) (position t
     length new_taken ≡ length taken → ((block : ℕ) → bit_of new_taken block ≡ (if block == next then 1 else bit_of taken block)) →
     Runs (shape_of words) (set words (tail_block * words_in (shape_of words)) next) new_taken table position next 3 first_clear (chain ++ next ∷ []) file
 link_step words taken new_taken table position tail_block tail_slot first_clear next chain file runs closes long area untaken fresh same_bits bits =
-    let at : hole_of words (shape_of words) chain ≡ AtLink tail_block = runs.fits.tail ∙ ap (λ (b : Bool). if b then AtLink tail_block else AtSlot tail_block tail_slot) (eq-eqb tail_slot (words_in (shape_of words)) closes) in
+    let at : tail_of words (shape_of words) chain ≡ AtLink tail_block = runs.fits.tail ∙ ap (λ (b : Bool). if b then AtLink tail_block else AtSlot tail_block tail_slot) (eq-eqb tail_slot (words_in (shape_of words)) closes) in
     let is : TakesBlock words (set words (tail_block * words_in (shape_of words)) next) chain file position next =
     links_grow_the_log words chain file position tail_block next (stands_clear words taken table position tail_block tail_slot first_clear chain file runs) at area untaken fresh in
     let takes : (block : ℕ) → is_taken (set words (tail_block * words_in (shape_of words)) next) (shape_of words) (chain ++ next ∷ []) block ≡ (is_taken words (shape_of words) chain block || next == block) =
@@ -134,8 +135,8 @@ link_step words taken new_taken table position tail_block tail_slot first_clear 
       stands = is.stands.stands;
       fits = record {
         same_shape = is.header.same_shape;
-        clear = subst (λ (s : Shape). IsClear (set words (tail_block * words_in (shape_of words)) next) s (hole_of (set words (tail_block * words_in (shape_of words)) next) s (chain ++ next ∷ []))) is.header.same_shape is.stands.clear;
-        tail = is.hole ∙ ap (λ (b : Bool). if b then AtLink next else AtSlot next 3) (sym (ne_eqb 3 (words_in (shape_of words)) (λ e. omega (arith, e, long))));
+        clear = subst (λ (s : Shape). IsClear (set words (tail_block * words_in (shape_of words)) next) s (tail_of (set words (tail_block * words_in (shape_of words)) next) s (chain ++ next ∷ []))) is.header.same_shape is.stands.clear;
+        tail = is.tail ∙ ap (λ (b : Bool). if b then AtLink next else AtSlot next 3) (sym (ne_eqb 3 (words_in (shape_of words)) (λ e. omega (arith, e, long))));
         bitmap = record {
           room = subst (λ (n : ℕ). total (shape_of words) ≤ 64 * n) (sym same_bits) runs.fits.bitmap.room;
           bits = λ block inside.
@@ -168,14 +169,14 @@ store_at shape words new taken table position tail_block tail_slot first_clear c
     subst (λ (s : Shape). Runs s words taken table position tail_block tail_slot first_clear chain file → KeepsTaken s chain words new → Runs s new taken table position tail_block tail_slot first_clear chain file) runs.fits.same_shape
     (store_step words new taken table position tail_block tail_slot first_clear chain file) runs keeps
 
--- the chain names the same, and has the same hole
+-- the chain names the same, and has the same tail
 pub store_names : (shape : Shape) (words new taken : List ℕ) (table : FileMap) (position tail_block tail_slot first_clear : ℕ) (chain file : List ℕ) → Runs shape words taken table position tail_block tail_slot first_clear chain file →
-    KeepsTaken shape chain words new → ((block : ℕ) → is_taken new shape chain block ≡ is_taken words shape chain block) × (hole_of new shape chain ≡ hole_of words shape chain)
+    KeepsTaken shape chain words new → ((block : ℕ) → is_taken new shape chain block ≡ is_taken words shape chain block) × (tail_of new shape chain ≡ tail_of words shape chain)
 store_names shape words new taken table position tail_block tail_slot first_clear chain file runs keeps =
-    subst (λ (s : Shape). Runs s words taken table position tail_block tail_slot first_clear chain file → KeepsTaken s chain words new → ((block : ℕ) → is_taken new s chain block ≡ is_taken words s chain block) × (hole_of new s chain ≡ hole_of words s chain)) runs.fits.same_shape
+    subst (λ (s : Shape). Runs s words taken table position tail_block tail_slot first_clear chain file → KeepsTaken s chain words new → ((block : ℕ) → is_taken new s chain block ≡ is_taken words s chain block) × (tail_of new s chain ≡ tail_of words s chain)) runs.fits.same_shape
     (λ here keep.
     let is : StandsAsBefore words new chain file position = stores_mean_nothing words new chain file position (stands_clear words taken table position tail_block tail_slot first_clear chain file here) keep in
-    (taken_same words new (shape_of words) chain is.entries, is.hole)) runs keeps
+    (taken_same words new (shape_of words) chain is.entries, is.tail)) runs keeps
 
 pub entry_put : (shape : Shape) (words taken new_taken : List ℕ) (table new_table : FileMap) (position tail_block tail_slot first_clear new_clear : ℕ) (chain file new_file : List ℕ) (word : ℕ) → Runs shape words taken table position tail_block tail_slot first_clear chain file →
     tail_slot ≢ words_in shape → position + 1 < 2 ^ 40 → IsEntryOf words shape chain file new_file word →

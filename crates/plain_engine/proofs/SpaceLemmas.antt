@@ -8,7 +8,7 @@ use Rattle.std.proofs.lemmas.Nat.{div-add-mod'}
 use Rattle.log_entry.specs.Legal.{touched_blocks}
 use Rattle.log_entry.specs.declared.shapes.Area.TheVariants.{Data, Log}
 use Rattle.log_image.specs.Image.{Shape}
-use Rattle.log_image.specs.Holes.{Hole, hole_of}
+use Rattle.log_image.specs.Tails.{Tail, tail_of}
 use Rattle.log_image.specs.Taken.{is_taken, HasTaken}
 use Rattle.log_image.proofs.HoldingLemmas.{both_right}
 use Rattle.plain_engine.specs.Clear.{IsFirstClear, IsLeastRun}
@@ -202,15 +202,15 @@ no_run_lacks words shape chain taken first_clear count some is none = go (begins
             differ : (b : Bool) → b ≡ true → b ≡ false → ⊥
             differ b yes_b no_b = cc
 
--- what is lacking is the same where the chain names the same and has the same hole
+-- what is lacking is the same where the chain names the same and has the same tail
 filter_same : (p q : ℕ → Bool) (xs : List ℕ) → ((x : ℕ) → p x ≡ q x) → filter p xs ≡ filter q xs
 filter_same p q [] same = refl
 filter_same p q (x ∷ xs) same = rw (same x, filter_same p q xs same) refl
 
-pub lacks_log_same : (words new : List ℕ) (shape : Shape) (chain : List ℕ) → ((block : ℕ) → is_taken new shape chain block ≡ is_taken words shape chain block) → hole_of new shape chain ≡ hole_of words shape chain → lacks_log new shape chain ≡ lacks_log words shape chain
-lacks_log_same words new shape chain taken hole =
-    ap (λ (h : Hole). is_link h && length (clear_blocks new shape chain (1 + shape.data_blocks) shape.log_blocks) == 0) hole
-    ∙ ap (λ (l : List ℕ). is_link (hole_of words shape chain) && length l == 0) (filter_same (λ (b : ℕ). not (is_taken new shape chain b)) (λ (b : ℕ). not (is_taken words shape chain b)) (range_with_len (1 + shape.data_blocks) shape.log_blocks) (λ b. ap (λ (t : Bool). not t) (taken b)))
+pub lacks_log_same : (words new : List ℕ) (shape : Shape) (chain : List ℕ) → ((block : ℕ) → is_taken new shape chain block ≡ is_taken words shape chain block) → tail_of new shape chain ≡ tail_of words shape chain → lacks_log new shape chain ≡ lacks_log words shape chain
+lacks_log_same words new shape chain taken tail =
+    ap (λ (h : Tail). is_link h && length (clear_blocks new shape chain (1 + shape.data_blocks) shape.log_blocks) == 0) tail_there
+    ∙ ap (λ (l : List ℕ). is_link (tail_of words shape chain) && length l == 0) (filter_same (λ (b : ℕ). not (is_taken new shape chain b)) (λ (b : ℕ). not (is_taken words shape chain b)) (range_with_len (1 + shape.data_blocks) shape.log_blocks) (λ b. ap (λ (t : Bool). not t) (taken b)))
 
 pub least_log_same : (words new : List ℕ) (shape : Shape) (chain : List ℕ) → ((block : ℕ) → is_taken new shape chain block ≡ is_taken words shape chain block) → least_log new shape chain ≡ least_log words shape chain
 least_log_same words new shape chain taken =

@@ -14,7 +14,7 @@ use Rattle.log_entry.specs.declared.layouts.TheConstants.{ENTRY_KIND, DIRECT_UNN
 use Rattle.block_table.specs.FileMap.{FileMap, block_at}
 use Rattle.log_image.specs.Image.{Shape, total, is_in_data, block_content}
 use Rattle.log_image.specs.Entries.{Meaning, direct_meaning}
-use Rattle.log_image.specs.Maps.{block_in, map_of, end_of}
+use Rattle.log_image.specs.Maps.{block_in, map_of, entry_end}
 use Rattle.log_image.specs.Positions.{entries_of}
 use Rattle.log_image.specs.Format.{is_direct, fits}
 use Rattle.log_image.specs.Stands.{HoldsFile}
@@ -118,7 +118,7 @@ pub run_entry : (words : List ℕ) (shape : Shape) (chain file bytes : List ℕ)
 run_entry words shape chain file bytes virt block count leftover offset is free stored = record {
   fitting = run_fits shape virt block count leftover offset (length bytes) is;
   free = subst (λ (m : Meaning). list_all (λ (b : ℕ). not (is_taken words shape chain b)) m.blocks ≡ true) (sym means) (all_free block count (λ k inside. free k inside));
-  size = length_write file offset bytes is.some ∙ ap (λ (n : ℕ). max (length file) n) (sym (ap (λ (m : Meaning). end_of shape m) means ∙ ends (length (range_with_len block count)) (length-range_with_len block count)));
+  size = length_write file offset bytes is.some ∙ ap (λ (n : ℕ). max (length file) n) (sym (ap (λ (m : Meaning). entry_end shape m) means ∙ ends (length (range_with_len block count)) (length-range_with_len block count)));
   holds = λ at held found place inside. (let run : (k : ℕ) × (k < count) × (at ≡ virt + k) × (held ≡ block + k) = in_run virt block count leftover at held (sym (ap (λ (m : Meaning). block_in m at) means) ∙ found) in
       ap (λ (b : ℕ). get_or (block_content words shape b) place 0) run.3
       ∙ stored run.0 place run.1 inside

@@ -9,14 +9,13 @@ use Rattle.log_entry.specs.Words.{entry_word}
 use Rattle.log_entry.specs.declared.entries.Entry.TheVariants.{Direct}
 use Rattle.log_entry.specs.declared.shapes.Geometry.{Geometry}
 use Rattle.block_table.specs.FileMap.{block_at}
-use Rattle.log_image.specs.Image.{Shape, total, is_in_data, block_words, block_content}
+use Rattle.log_image.specs.Image.{Shape, total, is_in_data, block_words, block_content, shape_by}
 use Rattle.log_image.specs.Positions.{entries_of}
 use Rattle.log_image.specs.Stands.{HoldsFile}
 use Rattle.log_image.specs.Taken.{bit_of, is_taken}
 use Rattle.log_image.proofs.ClearedChains.{both}
 use Rattle.log_image.proofs.OneChain.{one_meaning}
 use Rattle.image_steps.specs.Steps.{IsEntryOf}
-use Rattle.chain_reader.specs.Tables.{shape_by}
 use Rattle.plain_engine.specs.Bytes.{laid_byte, present_byte}
 use Rattle.plain_engine.specs.Clear.{IsLeastRun}
 use Rattle.plain_engine.specs.Running.{Runs, RunsOnSome, AllTakenBefore}
@@ -119,16 +118,16 @@ way_entry before stored slotted virt block count leftover offset bytes is chain 
 -- whether the log lacks a block is the same after the blocks are stored
 pub log_lack : (before stored : PlainEngine) (chain : List ℕ) → SameBesideWords before stored → SameNames before stored chain → (lack : Bool) → lacks_log stored.words.items (shape_in stored) chain ≡ lack → lacks_log before.words.items (shape_in before) chain ≡ lack
 log_lack before stored chain same names lack is =
-    sym (lacks_log_same before.words.items stored.words.items (shape_in before) chain names.taken names.hole)
+    sym (lacks_log_same before.words.items stored.words.items (shape_in before) chain names.taken names.tail)
     ∙ subst (λ (s : Shape). lacks_log stored.words.items s chain ≡ lack) (shape_stored before stored same) is
 
--- the blocks that the chain names after it, and its hole
+-- the blocks that the chain names after it, and its tail
 pub way_names : (before stored slotted new : PlainEngine) (virt block count leftover offset : ℕ) (bytes chain file : List ℕ) → IsWay before stored slotted virt block count leftover offset bytes → Running before chain file → SameNames before stored chain → (slot : HasSlot stored slotted chain file) →
     TakesRun (shape_in slotted) slotted.words.items slot.longer new.words.items block count → NamesAfter (shape_in before) before.words.items chain (Some count) new.words.items slot.longer
 way_names before stored slotted new virt block count leftover offset bytes chain file is runs names slot run =
     names_written (shape_in before) before.words.items stored.words.items slotted.words.items new.words.items chain slot.longer block count
     (bounds (shape_in before) before.words.items before.taken.items before.table before.position before.tail_block before.tail_slot before.first_clear before.kept).long
     (run_is_least before.words.items (shape_in before) chain before.taken.items before.first_clear count block is.run.first (record { has = runs.fits.bitmap; low = runs.fits.low }) is.least)
-    names.taken names.hole
+    names.taken names.tail
     (subst (λ (s : Shape). MakesSlot s stored.words.items chain slotted.words.items slot.longer) (shape_stored before stored is.same) slot.names)
     (subst (λ (s : Shape). TakesRun s slotted.words.items slot.longer new.words.items block count) (shape_slotted before stored slotted is.same is.same_tail) run)

@@ -1,19 +1,19 @@
--- Two runs of the same calls: what each finds lacking is told by the chain, its hole and the taken blocks at the start.
+-- Two runs of the same calls: what each finds lacking is told by the chain, its tail and the taken blocks at the start.
 use Rattle.std.specs.Prelude.{ℕ, ◌≡◌, ◌<◌, List, map, Option}
 use Rattle.log_entry.specs.Legal.{Legal}
 use Rattle.log_entry.specs.declared.calls.Call.{Call}
 use Rattle.log_entry.specs.declared.calls.Op.{Op}
 use Rattle.log_entry.specs.declared.shapes.Area.{Area}
 use Rattle.log_image.specs.Image.{Shape, total}
-use Rattle.log_image.specs.Holes.{hole_of}
+use Rattle.log_image.specs.Tails.{tail_of}
 use Rattle.log_image.specs.Taken.{is_taken}
 use Rattle.plain_engine.specs.Serving.{refused_area}
 use Rattle.plain_engine.specs.Served.{AreServed}
 
--- the two chains are the same, with the same hole, and the same blocks of the image are taken
+-- the two chains are the same, with the same tail, and the same blocks of the image are taken
 pub record NameAlike (shape : Shape) (words chain other other_chain : List ℕ) : Type 0 where
   pub chain_is : other_chain ≡ chain
-  pub hole : hole_of other shape other_chain ≡ hole_of words shape chain
+  pub tail : tail_of other shape other_chain ≡ tail_of words shape chain
   pub taken : (block : ℕ) → block < total shape → is_taken other shape other_chain block ≡ is_taken words shape chain block
 
 -- what the calls ask

@@ -6,10 +6,9 @@ use Rattle.log_entry.specs.ByteFile.{write}
 use Rattle.log_entry.specs.Legal.{touched_blocks}
 use Rattle.log_entry.specs.declared.shapes.Area.{Area}
 use Rattle.log_entry.specs.declared.entries.Entry.TheVariants.{Direct}
-use Rattle.log_image.specs.Image.{Shape, is_in_data, block_words}
-use Rattle.log_image.specs.Holes.{hole_of}
+use Rattle.log_image.specs.Image.{Shape, is_in_data, block_words, shape_by}
+use Rattle.log_image.specs.Tails.{tail_of}
 use Rattle.log_image.specs.Taken.{bit_of, is_taken}
-use Rattle.chain_reader.specs.Tables.{shape_by}
 use Rattle.plain_engine.specs.Running.{Runs}
 use Rattle.plain_engine.specs.Space.{lacks_log, lacking}
 use Rattle.plain_engine.specs.Names.{MakesSlot, NamesAfter}
@@ -35,10 +34,10 @@ pub record SameBesideWords (old new : PlainEngine) : Type 0 where
   pub first_clear : new.first_clear ≡ old.first_clear
   pub head : slice_index new.words.items 3 ≡ slice_index old.words.items 3
 
--- the chain names the same blocks, and has the same hole
+-- the chain names the same blocks, and has the same tail
 pub record SameNames (old new : PlainEngine) (chain : List ℕ) : Type 0 where
   pub taken : (block : ℕ) → is_taken new.words.items (shape_in old) chain block ≡ is_taken old.words.items (shape_in old) chain block
-  pub hole : hole_of new.words.items (shape_in old) chain ≡ hole_of old.words.items (shape_in old) chain
+  pub tail : tail_of new.words.items (shape_in old) chain ≡ tail_of old.words.items (shape_in old) chain
 
 -- the tail is a slot: it was one, or the least clear block of the log area is linked
 pub record HasSlot (old new : PlainEngine) (chain file : List ℕ) : Type 0 where

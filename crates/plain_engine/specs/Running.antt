@@ -5,20 +5,20 @@ use Rattle.log_image.specs.Image.{Shape, words_in}
 use Rattle.log_image.specs.Header.{shape_of}
 use Rattle.log_image.specs.Positions.{entries_of}
 use Rattle.log_image.specs.Stands.{StandsBy}
-use Rattle.log_image.specs.Holes.{Hole, AtSlot, AtLink, hole_of, IsClear}
+use Rattle.log_image.specs.Tails.{Tail, AtSlot, AtLink, tail_of, IsClear}
 use Rattle.log_image.specs.Taken.{is_taken, HasTaken}
 use Rattle.chain_reader.specs.Tables.{HasMap}
 
 -- the tail: a slot of a block, or the block's link where the slot is past its last
-abbrev pub hole_at : Shape → ℕ → ℕ → Hole
-hole_at shape block slot = if slot == words_in shape then AtLink block else AtSlot block slot
+abbrev pub tail_at : Shape → ℕ → ℕ → Tail
+tail_at shape block slot = if slot == words_in shape then AtLink block else AtSlot block slot
 
--- nothing stands after the chain's hole, which is the tail; the bitmap has the blocks that the chain names, the table has the
+-- nothing stands after the chain's tail, which is the tail; the bitmap has the blocks that the chain names, the table has the
 -- map and the size, and no data block before the first that may be clear is clear
 pub record Fits (shape : Shape) (words taken : List ℕ) (table : FileMap) (tail_block tail_slot first_clear : ℕ) (chain file : List ℕ) : Type 0 where
   pub same_shape : shape_of words ≡ shape
-  pub clear : IsClear words shape (hole_of words shape chain)
-  pub tail : hole_of words shape chain ≡ hole_at shape tail_block tail_slot
+  pub clear : IsClear words shape (tail_of words shape chain)
+  pub tail : tail_of words shape chain ≡ tail_at shape tail_block tail_slot
   pub bitmap : HasTaken words shape chain taken
   pub map : HasMap table (entries_of words shape chain)
   pub size : table.size ≡ length file

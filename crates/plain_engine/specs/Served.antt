@@ -11,7 +11,7 @@ use Rattle.plain_engine.specs.Serving.{wanted_blocks, lacking_for, refused_area,
 
 -- a call on words that stand for a file at a position by a chain: the words after it stand for the file after it, by a chain, in the
 -- same shape; its reply says that an area has no space exactly where the blocks that it wants find none by the words before it; and
--- the chain, its hole and the blocks that it names are those before it, with the least clear blocks that the call writes
+-- the chain, its tail and the blocks that it names are those before it, with the least clear blocks that the call writes
 pub record IsServed (shape : Shape) (words chain file : List ℕ) (position : ℕ) (call : Call) (after longer : List ℕ) : Type 0 where
   pub stands : StandsBy after longer (file_after file call.op call.reply) (position_after position call.op call.reply)
   pub same_shape : shape_of after ≡ shape

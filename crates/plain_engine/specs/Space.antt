@@ -4,7 +4,7 @@ use Rattle.std.specs.List.{range_with_len}
 use Rattle.log_entry.specs.declared.shapes.Area.{Area}
 use Rattle.log_entry.specs.declared.shapes.Area.TheVariants.{Data, Log}
 use Rattle.log_image.specs.Image.{Shape}
-use Rattle.log_image.specs.Holes.{Hole, AtSlot, AtLink, hole_of}
+use Rattle.log_image.specs.Tails.{Tail, AtSlot, AtLink, tail_of}
 use Rattle.log_image.specs.Taken.{is_taken}
 
 -- the blocks of a range that are not taken, the least first
@@ -30,15 +30,15 @@ abbrev pub lacks_data : List ℕ → Shape → List ℕ → ℕ → Bool
 lacks_data words shape chain count =
     not (begins_run (least_data words shape chain) count (clear_blocks words shape chain 1 shape.data_blocks))
 
--- the hole is a link
-abbrev pub is_link : Hole → Bool
+-- the tail is a link
+abbrev pub is_link : Tail → Bool
 is_link (AtSlot block slot) = false
 is_link (AtLink block) = true
 
 -- an entry needs a new log block, and no block of the log area is clear
 abbrev pub lacks_log : List ℕ → Shape → List ℕ → Bool
 lacks_log words shape chain =
-    is_link (hole_of words shape chain) && length (clear_blocks words shape chain (1 + shape.data_blocks) shape.log_blocks) == 0
+    is_link (tail_of words shape chain) && length (clear_blocks words shape chain (1 + shape.data_blocks) shape.log_blocks) == 0
 
 -- the area in which a write of so many blocks finds no space, if there is one
 abbrev pub lacking : List ℕ → Shape → List ℕ → ℕ → Option Area

@@ -4,8 +4,7 @@ ghost use Rattle.std.specs.Prelude.{◌≡◌, ◌≢◌, ℕ, ◌+◌, ◌-◌,
 ghost use Rattle.std.specs.Option.{ForSome};
 ghost use Rattle.block_table.specs.FileMap.{block_at};
 ghost use Rattle.block_table.specs.declared.TheConstants.{VIRTUAL_BLOCKS};
-ghost use Rattle.log_image.specs.Image.{words_in, total, block_words, block_content};
-ghost use Rattle.chain_reader.specs.Tables.{shape_by};
+ghost use Rattle.log_image.specs.Image.{words_in, total, block_words, block_content, shape_by};
 ghost use Rattle.plain_engine.specs.Bytes.{byte_of, laid_byte, present_byte, source_word, IsLaid};
 
 use block_table::{MapRun, Table};

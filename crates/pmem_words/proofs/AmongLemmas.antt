@@ -1,10 +1,10 @@
 -- A machine whose steps stand among those of others.
 use Rattle.std.proofs.Common.{ℕ, ◌≡◌}
-use Rattle.seat_state.specs.Seats.{Seat}
+use Rattle.pmem_words.specs.Seats.{Seat}
 use Rattle.pmem_words.specs.Scripts.{Script}
 use Rattle.pmem_words.specs.Courses.{Course, Others, among}
 use Rattle.pmem_words.specs.Leads.{Leads, asking}
-use Rattle.pmem_words.specs.declared.asks.Turn.TheVariants.{Go, Done}
+use Rattle.pmem_words.specs.declared.machine.Turn.TheVariants.{Go, Done}
 
 module _ {M W Out : Type 0} (script : Script M Out) (others : Others W) (course : Course M W) (Q : Out → Seat → W → Type 0) where
   -- a step of another changes nothing of what the machine promises

@@ -1,10 +1,10 @@
 -- A list of answers and one more.
 use Rattle.std.proofs.Common.{ℕ, ◌≡◌, List, [], ◌∷◌, ◌++◌, refl, subst, sym}
-use Rattle.seat_state.specs.Seats.{Seat}
+use Rattle.pmem_words.specs.Seats.{Seat}
 use Rattle.pmem_words.specs.Scripts.{Script}
 use Rattle.pmem_words.specs.Courses.{Course}
 use Rattle.pmem_words.specs.Drives.{Goes}
-use Rattle.pmem_words.specs.declared.asks.Turn.TheVariants.{Go}
+use Rattle.pmem_words.specs.declared.machine.Turn.TheVariants.{Go}
 
 module _ {M W Out : Type 0} (script : Script M Out) (course : Course M W) where
   pub goes_more : (answers : List ℕ) (m : M) (s : Seat) (w : W) (n : M) (t : Seat) (v : W) (a : ℕ) (u : W) → Goes script course m s w answers n t v → course.step n t v a u → (script.after n t a).turn ≡ Go → Goes script course m s w (answers ++ a ∷ []) (script.after n t a).machine (script.after n t a).seat u

@@ -1,12 +1,12 @@
 -- What follows from a machine's promise, and how it is shown.
 use Rattle.std.proofs.Common.{ℕ, zero, suc, ◌≡◌, ◌+◌, ◌<◌, List, [], ◌∷◌, subst, arith}
-use Rattle.seat_state.specs.Seats.{Seat}
+use Rattle.pmem_words.specs.Seats.{Seat}
 use Rattle.pmem_words.specs.Scripts.{Script, Lowers}
 use Rattle.pmem_words.specs.Courses.{Course}
 use Rattle.pmem_words.specs.Drives.{Goes, IsSafe, Ends}
 use Rattle.pmem_words.specs.Leads.{Leads, asking, LeadsAt, LeadsAfter, Keeps}
-use Rattle.pmem_words.specs.declared.asks.Turn.{Turn}
-use Rattle.pmem_words.specs.declared.asks.Turn.TheVariants.{Go, Done}
+use Rattle.pmem_words.specs.declared.machine.Turn.{Turn}
+use Rattle.pmem_words.specs.declared.machine.Turn.TheVariants.{Go, Done}
 
 module _ {M W Out : Type 0} (script : Script M Out) (course : Course M W) (Q : Out → Seat → W → Type 0) where
   pub ready_now : {m : M} {s : Seat} {w : W} → Leads script course Q m s w → course.ready m s w

@@ -1,3 +1,8 @@
+mod MapLemmas
+mod RoomLemmas
+pub mod MapLaws
+pub mod PlaceLemmas
+pub mod LeavingLemmas
 mod GoesMore
 pub mod AmongLemmas
 pub mod LeadsLemmas

@@ -1,14 +1,14 @@
 -- A part's promise is the promise of the whole at that stage.
 use Rattle.std.proofs.Common.{ℕ, ◌≡◌, refl, subst, sym, ap, ◌∙◌}
-use Rattle.seat_state.specs.Seats.{Seat}
+use Rattle.pmem_words.specs.Seats.{Seat}
 use Rattle.pmem_words.specs.Scripts.{After, Script}
 use Rattle.pmem_words.specs.Conducts.{Conduct}
 use Rattle.pmem_words.specs.Courses.{Course, over}
 use Rattle.pmem_words.specs.Leads.{Leads, asking}
 use Rattle.pmem_words.specs.Parts.{Next, Into, End, moved, onward, onward_at, Embeds, LeadsOn}
-use Rattle.pmem_words.specs.declared.asks.Ask.{Ask}
-use Rattle.pmem_words.specs.declared.asks.Turn.{Turn}
-use Rattle.pmem_words.specs.declared.asks.Turn.TheVariants.{Go, Done}
+use Rattle.asks.specs.declared.ask.Ask.{Ask}
+use Rattle.pmem_words.specs.declared.machine.Turn.{Turn}
+use Rattle.pmem_words.specs.declared.machine.Turn.TheVariants.{Go, Done}
 
 module _ {A C OutA Out W : Type 0} (whole : Script C Out) (course : Course C W) (inject : A → C) (next : OutA → Seat → Next C Out) (Q : Out → Seat → W → Type 0) where
   go_moved : (m : C) (n : Next C Out) (w : W) → LeadsOn whole course Q n w → (moved m n).turn ≡ Go → Leads whole course Q (moved m n).machine (moved m n).seat w

@@ -1,11 +1,11 @@
 -- A machine whose every step lowers the measure by one, and which ends at 0, makes as many steps as that and one more.
 use Rattle.std.proofs.Common.{ℕ, ◌≡◌, ◌+◌, List, [], ◌∷◌, length, sym, subst, arith}
-use Rattle.seat_state.specs.Seats.{Seat}
+use Rattle.pmem_words.specs.Seats.{Seat}
 use Rattle.pmem_words.specs.Scripts.{Script}
 use Rattle.pmem_words.specs.Courses.{Course}
 use Rattle.pmem_words.specs.Drives.{Goes, Ends}
 use Rattle.pmem_words.specs.Leads.{Leads, asking}
-use Rattle.pmem_words.specs.declared.asks.Turn.TheVariants.{Go, Done}
+use Rattle.pmem_words.specs.declared.machine.Turn.TheVariants.{Go, Done}
 
 module _ {M W Out : Type 0} (script : Script M Out) (course : Course M W) (Q : Out → Seat → W → Type 0)
     (admitted : (m : M) (s : Seat) (w : W) (a : ℕ) (v : W) → course.ready m s w → course.step m s w a v → script.admits m s a)

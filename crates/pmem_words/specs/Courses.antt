@@ -1,6 +1,6 @@
 -- What surrounds a machine: a memory, a core, or a memory that others use too.
 use Rattle.std.specs.Prelude.{ℕ}
-use Rattle.seat_state.specs.Seats.{Seat}
+use Rattle.pmem_words.specs.Seats.{Seat}
 use Rattle.pmem_words.specs.Scripts.{Script}
 use Rattle.pmem_words.specs.Conducts.{Conduct}
 

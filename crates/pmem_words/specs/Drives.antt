@@ -1,9 +1,9 @@
 -- What a list of answers leads to, and what it is to drive a machine.
 use Rattle.std.specs.Prelude.{ℕ, ◌≡◌, ◌+◌, List, [], ◌∷◌, length}
-use Rattle.seat_state.specs.Seats.{Seat}
+use Rattle.pmem_words.specs.Seats.{Seat}
 use Rattle.pmem_words.specs.Scripts.{Script}
 use Rattle.pmem_words.specs.Courses.{Course}
-use Rattle.pmem_words.specs.declared.asks.Turn.TheVariants.{Go, Done}
+use Rattle.pmem_words.specs.declared.machine.Turn.TheVariants.{Go, Done}
 
 -- these answers, in order, lead from one machine, seat and memory to another, and the machine goes on after each
 abbrev pub Goes : {M W Out : Type 0} → Script M Out → Course M W → M → Seat → W → List ℕ → M → Seat → W → Type 0

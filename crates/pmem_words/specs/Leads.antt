@@ -1,10 +1,10 @@
 -- What a machine promises: from here each way is safe and comes to an end, and each end is one of these.
 use Rattle.std.specs.Prelude.{ℕ, ◌≡◌}
-use Rattle.seat_state.specs.Seats.{Seat}
+use Rattle.pmem_words.specs.Seats.{Seat}
 use Rattle.pmem_words.specs.Scripts.{After, Script}
 use Rattle.pmem_words.specs.Courses.{Course}
-use Rattle.pmem_words.specs.declared.asks.Turn.{Turn}
-use Rattle.pmem_words.specs.declared.asks.Turn.TheVariants.{Go, Done}
+use Rattle.pmem_words.specs.declared.machine.Turn.{Turn}
+use Rattle.pmem_words.specs.declared.machine.Turn.TheVariants.{Go, Done}
 
 -- the ask may be performed, and after each answer either the same holds again or the end is one of these
 pub data Leads {M W Out : Type 0} (script : Script M Out) (course : Course M W) (Q : Out → Seat → W → Type 0) : M → Seat → W → Type 0 where

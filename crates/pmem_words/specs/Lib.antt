@@ -1,8 +1,10 @@
-pub mod Asks
-pub mod Conducts
+pub mod Maps
+pub mod Owned
+pub mod Seats
+pub mod Scripts
 pub mod Courses
+pub mod Conducts
 pub mod Drives
 pub mod Leads
 pub mod Parts
 pub mod PlainWords
-pub mod Scripts

@@ -1,11 +1,11 @@
 -- How machines are composed: a stage of the whole does what a part does, and goes on where the part has ended.
 use Rattle.std.specs.Prelude.{ℕ, ◌≡◌, ◌<◌, refl}
-use Rattle.seat_state.specs.Seats.{Seat}
+use Rattle.pmem_words.specs.Seats.{Seat}
 use Rattle.pmem_words.specs.Scripts.{After, Script}
 use Rattle.pmem_words.specs.Courses.{Course}
 use Rattle.pmem_words.specs.Leads.{Leads}
-use Rattle.pmem_words.specs.declared.asks.Turn.{Turn}
-use Rattle.pmem_words.specs.declared.asks.Turn.TheVariants.{Go, Done}
+use Rattle.pmem_words.specs.declared.machine.Turn.{Turn}
+use Rattle.pmem_words.specs.declared.machine.Turn.TheVariants.{Go, Done}
 
 -- where the whole goes when a part of it has ended: into another stage, or to its end, with the seat that it leaves
 pub data Next (C Out : Type 0) : Type 0 where

@@ -5,9 +5,16 @@ ghost use Rattle.pmem_words.specs.Scripts.{Script, Lowers};
 ghost use Rattle.pmem_words.specs.Courses.{over};
 ghost use Rattle.pmem_words.specs.Drives.{IsSafe, Ends};
 
-use crate::asks::{Ask, Turn};
 use crate::memory::Memory;
-use seat_state::SeatState;
+use crate::seat::SeatState;
+use asks::Ask;
+
+/// Whether a machine goes on after an answer, or has ended.
+#[derive(Debug, Drop)]
+pub enum Turn<Out> {
+    Go,
+    Done(Out),
+}
 
 /// A call or a part of one, step by step: it has one ask at a time, and each answer moves it on. All that it knows
 /// stands in it and in its seat's state.

@@ -2,7 +2,7 @@
 
 ghost use Rattle.pmem_words.specs.Conducts.{Conduct};
 
-use crate::asks::Ask;
+use asks::Ask;
 
 /// Words that perform asks.
 pub trait Memory {

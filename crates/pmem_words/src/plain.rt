@@ -1,11 +1,11 @@
 //! A memory over vectors, for one seat alone.
 
 ghost use Rattle.std.specs.Prelude.{◌≡◌, IfOk, replicate};
-ghost use Rattle.seat_state.specs.declared.TheConstants.{SEATS};
+ghost use Rattle.pmem_words.specs.declared.TheConstants.{SEATS};
 
-use crate::asks::{Ask, Place};
+use crate::SEATS;
 use crate::memory::Memory;
-use seat_state::SEATS;
+use asks::{Ask, Place};
 use std::alloc::{AllocError, Global};
 use std::marker::Model;
 
@@ -19,10 +19,10 @@ pub struct Plain {
 
 impl Model for Plain {
     ghost use Rattle.std.specs.Prelude.{◌≡◌, vec_len};
-    ghost use Rattle.pmem_words.specs.PlainWords.{PlainWords};
-    ghost use Rattle.seat_state.specs.declared.TheConstants.{SEATS};
+    ghost use Rattle.asks.specs.SharedWords.{SharedWords};
+    ghost use Rattle.pmem_words.specs.declared.TheConstants.{SEATS};
 
-    ghost Value = { PlainWords };
+    ghost Value = { SharedWords };
 
     ghost view = { λ p. record { words = p.words.items; taken = p.taken.items; pins = p.pins.items } };
 
@@ -30,7 +30,7 @@ impl Model for Plain {
 }
 
 impl Plain {
-    ghost use Rattle.pmem_words.specs.PlainWords.{word_at, with_word, HasWord};
+    ghost use Rattle.asks.specs.SharedWords.{word_at, with_word, HasWord};
 
     /// A memory of these image words and these words of the bitmap. All pin words are 0.
     pub fn new(alloc: Global, words: Vec<u64>, taken: Vec<u64>) -> Result<Plain, AllocError>
@@ -50,7 +50,7 @@ impl Plain {
 
     #[inline(always)]
     fn word(&self, place: Place) -> u64
-        requires { HasWord self.now place }
+        requires { HasWord SEATS self.now place }
         ensures { result ≡ word_at self.now place }
     {
         match place {
@@ -63,7 +63,7 @@ impl Plain {
 
     #[inline(always)]
     fn set_word(&mut self, place: Place, value: u64)
-        requires { HasWord self.old place }
+        requires { HasWord SEATS self.old place }
         ensures { self.new ≡ with_word self.old place value }
     {
         match place {

@@ -6,9 +6,8 @@ use Rattle.std.proofs.lemmas.Bool.{eqb-true, eqb-false, eq-eqb, ne_eqb}
 use Rattle.std.proofs.lemmas.List.Folds.{list_any-append}
 use Rattle.std.proofs.lemmas.Nat.Bits.{bit_at_set_same, bit_at_set_other}
 use Rattle.log_image.specs.Image.{Shape, total}
-use Rattle.log_image.specs.Taken.{bit_of}
+use Rattle.log_image.specs.Taken.{bit_of, HasBits}
 use Rattle.opening_rules.specs.SlotChecks.{is_among}
-use Rattle.recovery.specs.Agrees.{HasBits}
 
 -- one more block stands among these
 pub among_more : (block other : ℕ) (blocks : List ℕ) → is_among block (blocks ++ other ∷ []) ≡ (is_among block blocks || other == block)

@@ -16,8 +16,8 @@ use Rattle.opening_rules.specs.declared.refusals.BadImage.{BadImage}
 use Rattle.opening_rules.specs.declared.refusals.BadImage.TheVariants.{BadBase, BadLink}
 use Rattle.opening_rules.proofs.Firsts.{skip, hit}
 use Rattle.recovery.specs.declared.slots.LogSlots.{LogSlots}
-use Rattle.recovery.specs.Slots.{HasEntries, Reads, ReadsLogSlots, meanings_of}
-use Rattle.recovery.specs.BlockAnswers.{ReadsSlots, Follows}
+use Rattle.recovery.specs.Slots.{HasEntries, ReadsEntries, ReadsLogSlots, meanings_of}
+use Rattle.recovery.specs.BlockAnswers.{ReadsSlots, FollowsLink}
 
 -- a list of blocks is empty where it has none
 pub first_by : (blocks : List ℕ) → (length blocks == 0) ≡ is_first blocks
@@ -50,7 +50,7 @@ size_due shape place block snapshot due begun =
 
 -- the slots of a snapshot block are read
 pub snapshot_block : (words : List ℕ) (shape : Shape) (place : Place) (number : ℕ) (block : List ℕ) (table next : FileMap) (taken chain : List ℕ) → is_snapshot block ≡ true → is_bad_third shape place block ≡ false → (is_first place.before ≡ true → place.size ≡ 0) →
-    Reads (Ok tt) shape table taken chain (snapshot_slot_checks shape number place.entries (entry_count block) 3 (slots_of block)) place.size (place.entries ++ map direct_meaning (take (entry_count block) (slots_of block))) →
+    ReadsEntries (Ok tt) shape table taken chain (snapshot_slot_checks shape number place.entries (entry_count block) 3 (slots_of block)) place.size (place.entries ++ map direct_meaning (take (entry_count block) (slots_of block))) →
     next ≡ record table { size = max table.size (file_size block) } → ReadsSlots (Ok (record { closed = true; position = base_of block })) words shape next taken chain place number block
 snapshot_block words shape place number block table next taken chain snapshot due begun reads grown = (
   ap (λ (b : Bool). first (if b then snapshot_slot_checks shape number place.entries (entry_count block) 3 (slots_of block) else log_slot_checks words shape number place.position place.entries false 3 (slots_of block))) snapshot ∙ reads.0,
@@ -107,7 +107,7 @@ third_found shape place number block due bad =
 
 -- a link that is followed
 pub link_followed : (shape : Shape) (passed : List ℕ) (number : ℕ) (block : List ℕ) → leads_on block ≡ true → (not (is_in_log shape (link_of block)) || is_among (link_of block) passed) ≡ false →
-    Follows (Ok (Some (link_of block))) shape passed number block
+    FollowsLink (Ok (Some (link_of block))) shape passed number block
 link_followed shape passed number block leads good =
     let parts = or_parts (not (is_in_log shape (link_of block))) (is_among (link_of block) passed) good in
     (ap (λ (b : Bool). leads_on block && b) good ∙ none (leads_on block), leads, refl, not-false (is_in_log shape (link_of block)) parts.0, parts.1)
@@ -117,7 +117,7 @@ link_followed shape passed number block leads good =
     none false = refl
 
 pub link_refused : (shape : Shape) (passed : List ℕ) (number : ℕ) (block : List ℕ) → leads_on block ≡ true → (not (is_in_log shape (link_of block)) || is_among (link_of block) passed) ≡ true →
-    Follows (Err (BadLink number (link_of block))) shape passed number block
+    FollowsLink (Err (BadLink number (link_of block))) shape passed number block
 link_refused shape passed number block leads bad =
     hit (is_bad_link shape passed block) (BadLink number (link_of block)) [] (ap (λ (b : Bool). b && (not (is_in_log shape (link_of block)) || is_among (link_of block) passed)) leads ∙ bad)
 
@@ -127,8 +127,8 @@ log_below shape block far = ltb-true block (total shape) (and_parts (nat_lt shap
 
 -- what reading a snapshot's slots says, by the numbers that are read of the block
 pub snapshot_as : (shape : Shape) (place : Place) (number : ℕ) (block : List ℕ) (table : FileMap) (taken chain : List ℕ) (count : ℕ) (slots : List ℕ) → count ≡ entry_count block → slots ≡ slots_of block →
-    Reads (Ok tt) shape table taken chain (snapshot_slot_checks shape number place.entries count 3 slots) place.size (place.entries ++ map direct_meaning (take count slots)) →
-    Reads (Ok tt) shape table taken chain (snapshot_slot_checks shape number place.entries (entry_count block) 3 (slots_of block)) place.size (place.entries ++ map direct_meaning (take (entry_count block) (slots_of block)))
+    ReadsEntries (Ok tt) shape table taken chain (snapshot_slot_checks shape number place.entries count 3 slots) place.size (place.entries ++ map direct_meaning (take count slots)) →
+    ReadsEntries (Ok tt) shape table taken chain (snapshot_slot_checks shape number place.entries (entry_count block) 3 (slots_of block)) place.size (place.entries ++ map direct_meaning (take (entry_count block) (slots_of block)))
 snapshot_as shape place number block table taken chain count slots same also reads =
-    subst (λ (l : List ℕ). Reads (Ok tt) shape table taken chain (snapshot_slot_checks shape number place.entries (entry_count block) 3 l) place.size (place.entries ++ map direct_meaning (take (entry_count block) l))) also
-    (subst (λ (n : ℕ). Reads (Ok tt) shape table taken chain (snapshot_slot_checks shape number place.entries n 3 slots) place.size (place.entries ++ map direct_meaning (take n slots))) same reads)
+    subst (λ (l : List ℕ). ReadsEntries (Ok tt) shape table taken chain (snapshot_slot_checks shape number place.entries (entry_count block) 3 l) place.size (place.entries ++ map direct_meaning (take (entry_count block) l))) also
+    (subst (λ (n : ℕ). ReadsEntries (Ok tt) shape table taken chain (snapshot_slot_checks shape number place.entries n 3 slots) place.size (place.entries ++ map direct_meaning (take n slots))) same reads)

@@ -9,14 +9,15 @@ use Rattle.log_image.specs.Entries.{all_names}
 use Rattle.log_image.specs.Blocks.{is_snapshot, link_of}
 use Rattle.opening_rules.specs.Checks.{Check, check, first}
 use Rattle.opening_rules.specs.SlotChecks.{is_among}
-use Rattle.opening_rules.specs.BlockChecks.{Place, is_first, is_bad_second, is_bad_third, is_bad_link, slot_checks, block_checks, after}
+use Rattle.opening_rules.specs.BlockChecks.{Place, is_first, is_bad_second, is_bad_third, is_bad_link, slot_checks, block_checks, place_after}
 use Rattle.opening_rules.specs.declared.refusals.BadImage.{BadImage}
 use Rattle.opening_rules.specs.declared.refusals.BadImage.TheVariants.{BadBase, BadLink}
 use Rattle.opening_rules.proofs.Firsts.{skip, pass_over, found_in}
 use Rattle.recovery.specs.declared.reading.Reading.{Reading}
-use Rattle.recovery.specs.Agrees.{Agrees, HasBits}
+use Rattle.log_image.specs.Taken.{HasBits}
+use Rattle.recovery.specs.Readings.{HasRead}
 use Rattle.recovery.specs.Slots.{HasEntries}
-use Rattle.recovery.specs.BlockAnswers.{ChecksWords, Follows, ChecksBlock}
+use Rattle.recovery.specs.BlockAnswers.{ChecksWords, FollowsLink, ChecksBlock}
 use Rattle.recovery.specs.ReadBlocks.{ReadsBlock}
 use Rattle.recovery.proofs.BitsLemmas.{bit_if}
 use Rattle.recovery.proofs.BlockLemmas.{log_below}
@@ -44,7 +45,7 @@ bits_moved shape taken before named block has = record {
         swap false false false = refl
 
 -- before the slots of a block, whose bit is set
-pub begins : (shape : Shape) (reading : Reading) (place : Place) (block : ℕ) (taken : List ℕ) → Agrees shape reading place → is_in_log shape block ≡ true →
+pub begins : (shape : Shape) (reading : Reading) (place : Place) (block : ℕ) (taken : List ℕ) → HasRead shape reading place → is_in_log shape block ≡ true →
     ((blocks : List ℕ) → block < total shape → HasBits shape reading.taken.items blocks → HasBits shape taken (blocks ++ block ∷ [])) →
     HasEntries shape reading.table taken (place.before ++ block ∷ []) place.size place.entries
 begins shape reading place block taken agrees far sets = record {
@@ -92,16 +93,16 @@ refused_as words shape place number block why reading same found = subst (λ (l 
 -- what the reading has after the block
 pub record Reached (words : List ℕ) (shape : Shape) (place : Place) (number : ℕ) (block : List ℕ) (reading : Reading) : Type 0 where
   pub in_logs : reading.in_logs ≡ not (is_snapshot block)
-  pub position : reading.position ≡ (after words shape place number block).position
+  pub position : reading.position ≡ (place_after words shape place number block).position
   pub below : reading.position < 2 ^ 40
-  pub has : HasEntries shape reading.table reading.taken.items (place.before ++ number ∷ []) (after words shape place number block).size (after words shape place number block).entries
+  pub has : HasEntries shape reading.table reading.taken.items (place.before ++ number ∷ []) (place_after words shape place number block).size (place_after words shape place number block).entries
 
 not_first : (blocks : List ℕ) (block : ℕ) → is_first (blocks ++ block ∷ []) ≡ false
 not_first [] block = refl
 not_first (other ∷ blocks) block = refl
 
 agrees_after : (words : List ℕ) (shape : Shape) (place : Place) (number : ℕ) (block : List ℕ) (reading : Reading) → Reached words shape place number block reading →
-    (chain : Vec ℕ) → chain.items ≡ place.before ++ number ∷ [] → Agrees shape (record reading { chain = chain }) (after words shape place number block)
+    (chain : Vec ℕ) → chain.items ≡ place.before ++ number ∷ [] → HasRead shape (record reading { chain = chain }) (place_after words shape place number block)
 agrees_after words shape place number block reading is chain same = record {
   chain = same;
   in_logs = is.in_logs;
@@ -121,16 +122,16 @@ agrees_after words shape place number block reading is chain same = record {
 
 -- what the block's link answers is what the block answers
 pub link_checked : (result : Result (Option ℕ) BadImage) (words : List ℕ) (shape : Shape) (place : Place) (number : ℕ) (block : List ℕ) (reading : Reading) → block ≡ block_words words shape number →
-    ChecksWords (Ok tt) shape place number block → first (slot_checks words shape place number block) ≡ None → Reached words shape place number block reading → Follows result shape (place.before ++ number ∷ []) number block →
+    ChecksWords (Ok tt) shape place number block → first (slot_checks words shape place number block) ≡ None → Reached words shape place number block reading → FollowsLink result shape (place.before ++ number ∷ []) number block →
     ChecksBlock result words shape place number reading
 link_checked (Err why) words shape place number block reading same due clean is follows = refused_as words shape place number block why reading same (after_slots words shape place number block due clean ∙ follows)
 link_checked (Ok None) words shape place number block reading same due clean is follows =
-    subst (λ (l : List ℕ). (first (block_checks words shape place number l) ≡ None) × Follows (Ok None) shape (place.before ++ number ∷ []) number l
-    × ((chain : Vec ℕ) → chain.items ≡ place.before ++ number ∷ [] → Agrees shape (record reading { chain = chain }) (after words shape place number l))) same
+    subst (λ (l : List ℕ). (first (block_checks words shape place number l) ≡ None) × FollowsLink (Ok None) shape (place.before ++ number ∷ []) number l
+    × ((chain : Vec ℕ) → chain.items ≡ place.before ++ number ∷ [] → HasRead shape (record reading { chain = chain }) (place_after words shape place number l))) same
     (after_slots words shape place number block due clean ∙ skip (is_bad_link shape (place.before ++ number ∷ []) block) (BadLink number (link_of block)) [] follows.0, follows, agrees_after words shape place number block reading is)
 link_checked (Ok (Some next)) words shape place number block reading same due clean is follows =
-    subst (λ (l : List ℕ). (first (block_checks words shape place number l) ≡ None) × Follows (Ok (Some next)) shape (place.before ++ number ∷ []) number l
-    × ((chain : Vec ℕ) → chain.items ≡ place.before ++ number ∷ [] → Agrees shape (record reading { chain = chain }) (after words shape place number l))) same
+    subst (λ (l : List ℕ). (first (block_checks words shape place number l) ≡ None) × FollowsLink (Ok (Some next)) shape (place.before ++ number ∷ []) number l
+    × ((chain : Vec ℕ) → chain.items ≡ place.before ++ number ∷ [] → HasRead shape (record reading { chain = chain }) (place_after words shape place number l))) same
     (after_slots words shape place number block due clean ∙ skip (is_bad_link shape (place.before ++ number ∷ []) block) (BadLink number (link_of block)) [] follows.0, follows, agrees_after words shape place number block reading is)
 
 -- with its number among the reading's, the block is read

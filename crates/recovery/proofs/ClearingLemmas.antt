@@ -1,4 +1,4 @@
--- An opened image, cleared after its hole.
+-- An opened image, cleared after its tail.
 use Rattle.std.proofs.Common.{◌≡◌, ◌<◌, ◌+◌, ◌*◌, ◌==◌, ◌||◌, nat_lt, ℕ, zero, suc, Bool, true, false, List, [], ◌∷◌, ◌++◌, length, take, drop, if◌then◌else◌, refl, sym, ap, ◌∙◌, subst, append-nil, arith}
 use Rattle.std.specs.List.{list_all, list_any}
 use Rattle.std.proofs.Math.Logic.{∥∥₁_elim, ∥∥₁_map}
@@ -9,23 +9,22 @@ use Rattle.std.proofs.lemmas.List.{length-drop, take_all}
 use Rattle.log_entry.specs.Geometry.{HasShape}
 use Rattle.log_entry.specs.declared.layouts.TheConstants.{EMPTY, SEAL}
 use Rattle.log_entry.specs.declared.shapes.Geometry.{Geometry}
-use Rattle.log_image.specs.Image.{Shape, words_in, total, is_in_log, block_words}
+use Rattle.log_image.specs.Image.{Shape, words_in, total, is_in_log, block_words, shape_by}
 use Rattle.log_image.specs.Header.{shape_of}
 use Rattle.log_image.specs.Blocks.{slots_of, entry_words, is_closed}
-use Rattle.log_image.specs.Holes.{Hole as Place, AtSlot, AtLink, last_block, hole_in, hole_of, IsClear, IsCleared}
+use Rattle.log_image.specs.Tails.{Tail as ImageTail, AtSlot, AtLink, last_block, tail_in, tail_of, IsClear, IsCleared}
 use Rattle.log_image.specs.Taken.{HasTaken, named_blocks}
 use Rattle.log_image.specs.Stands.{StandsBy}
-use Rattle.log_image.specs.Keeps.{Keeps}
+use Rattle.log_image.specs.MayStart.{MayStart}
 use Rattle.log_image.specs.Recovered.{Recovered}
 use Rattle.log_image.specs.declared.starts.Start.{Start}
 use Rattle.log_image.proofs.ClearedImages.{clearing_keeps}
 use Rattle.log_image.proofs.OneChain.{one_chain}
 use Rattle.log_image.proofs.ImageLemmas.{length_range}
 use Rattle.log_image.proofs.HoldingLemmas.{both_left, both_right}
-use Rattle.chain_reader.specs.Tables.{shape_by}
 use Rattle.opening_rules.specs.Opening.{chain_of}
-use Rattle.recovery.specs.declared.holes.Hole.{Hole}
-use Rattle.recovery.specs.Openings.{Holds, place_of}
+use Rattle.recovery.specs.declared.tails.Tail.{Tail}
+use Rattle.recovery.specs.Openings.{IsOpened, as_tail}
 use Rattle.recovery.specs.Clearing.{is_inside}
 
 -- slots that are not closed have an empty one
@@ -44,9 +43,9 @@ last_is : (p : ℕ → Bool) (block : ℕ) (rest : List ℕ) → list_all p (blo
 last_is p block [] all = both_left (p block) true all
 last_is p block (next ∷ rest) all = last_is p next rest (both_right (p block) (list_all p (next ∷ rest)) all)
 
--- the hole in a block of the image
-hole_in_inside : (words : List ℕ) (shape : Shape) (block : ℕ) → length words ≡ total shape * words_in shape → block < total shape → is_inside shape (hole_in block (block_words words shape block)) ≡ true
-hole_in_inside words shape block whole below = at (is_closed (slots_of (block_words words shape block))) refl
+-- the tail in a block of the image
+tail_in_inside : (words : List ℕ) (shape : Shape) (block : ℕ) → length words ≡ total shape * words_in shape → block < total shape → is_inside shape (tail_in block (block_words words shape block)) ≡ true
+tail_in_inside words shape block whole below = at (is_closed (slots_of (block_words words shape block))) refl
   where
     long : length (block_words words shape block) ≡ words_in shape
     long = length_range words (block * words_in shape) (words_in shape) (omega (arith, whole, mul-le-mul_right (words_in shape) below))
@@ -65,29 +64,29 @@ hole_in_inside words shape block whole below = at (is_closed (slots_of (block_wo
 same_shape : (geometry : Geometry) (shape : Shape) → HasShape geometry shape.data_blocks shape.log_blocks shape.block_bytes → shape_by geometry ≡ shape
 same_shape geometry shape same = rw (same.same_data, same.same_log, same.same_bytes) refl
 
--- the hole of an opened image is inside
-pub inside_by : (geometry : Geometry) (words taken : List ℕ) (generation position size : ℕ) (hole : Hole) → Holds geometry words taken generation position size hole →
-    is_inside (shape_by geometry) (place_of hole) ≡ true
-inside_by geometry words taken generation position size hole holds =
+-- the tail of an opened image is inside
+pub inside_by : (geometry : Geometry) (words taken : List ℕ) (generation position size : ℕ) (tail : Tail) → IsOpened geometry words taken generation position size tail →
+    is_inside (shape_by geometry) (as_tail tail) ≡ true
+inside_by geometry words taken generation position size tail holds =
     let shape : shape_by geometry ≡ shape_of words = same_shape geometry (shape_of words) holds.same_geometry in
     let log : is_in_log (shape_of words) (last_block 0 (chain_of words holds.rest)) ≡ true = last_is (is_in_log (shape_of words)) _ holds.rest holds.stands.stands.format.areas in
     let below : last_block 0 (chain_of words holds.rest) < total (shape_of words) = grind (arith, nat_tests, log) in
-    rw (shape, holds.same_hole) (hole_in_inside words (shape_of words) (last_block 0 (chain_of words holds.rest)) holds.stands.header.whole below)
+    rw (shape, holds.same_tail) (tail_in_inside words (shape_of words) (last_block 0 (chain_of words holds.rest)) holds.stands.header.whole below)
 
 -- there are as many words as the shape says
-pub whole_by : (geometry : Geometry) (words taken : List ℕ) (generation position size : ℕ) (hole : Hole) → Holds geometry words taken generation position size hole →
+pub whole_by : (geometry : Geometry) (words taken : List ℕ) (generation position size : ℕ) (tail : Tail) → IsOpened geometry words taken generation position size tail →
     length words ≡ total (shape_by geometry) * words_in (shape_by geometry)
-whole_by geometry words taken generation position size hole holds =
+whole_by geometry words taken generation position size tail holds =
     holds.stands.header.whole ∙ ap (λ (s : Shape). total s * words_in s) (sym (same_shape geometry (shape_of words) holds.same_geometry))
 
 -- both, of an image of which it is known only that it holds something
-pub whole_kept : (geometry : Geometry) (words taken : List ℕ) (generation position size : ℕ) (hole : Hole) → ∥ Holds geometry words taken generation position size hole ∥₁ →
+pub whole_kept : (geometry : Geometry) (words taken : List ℕ) (generation position size : ℕ) (tail : Tail) → ∥ IsOpened geometry words taken generation position size tail ∥₁ →
     length words ≡ total (shape_by geometry) * words_in (shape_by geometry)
-whole_kept geometry words taken generation position size hole kept = ∥∥₁_elim kept (ℕ_set _ _) (whole_by geometry words taken generation position size hole)
+whole_kept geometry words taken generation position size tail kept = ∥∥₁_elim kept (ℕ_set _ _) (whole_by geometry words taken generation position size tail)
 
-pub inside_kept : (geometry : Geometry) (words taken : List ℕ) (generation position size : ℕ) (hole : Hole) → ∥ Holds geometry words taken generation position size hole ∥₁ →
-    is_inside (shape_by geometry) (place_of hole) ≡ true
-inside_kept geometry words taken generation position size hole kept = ∥∥₁_elim kept (Bool-set _ _) (inside_by geometry words taken generation position size hole)
+pub inside_kept : (geometry : Geometry) (words taken : List ℕ) (generation position size : ℕ) (tail : Tail) → ∥ IsOpened geometry words taken generation position size tail ∥₁ →
+    is_inside (shape_by geometry) (as_tail tail) ≡ true
+inside_kept geometry words taken generation position size tail kept = ∥∥₁_elim kept (Bool-set _ _) (inside_by geometry words taken generation position size tail)
 
 -- the words after a change of all of them in place
 pub changed_words : (words new : List ℕ) (count : ℕ) → count ≡ length words → length new ≡ length words → take count (new ++ drop (length new) words) ≡ new
@@ -101,12 +100,12 @@ changed_words words new count counted same =
     drop_length (suc count) [] is = refl
     drop_length (suc count) (number ∷ numbers) is = drop_length count numbers (omega (arith, is))
 
--- what stood after the hole is cleared, by the hole that the chain says
-cleared_by : (geometry : Geometry) (old new taken : List ℕ) (generation position size : ℕ) (hole : Hole) (holds : Holds geometry old taken generation position size hole) →
-    IsCleared (shape_by geometry) (place_of hole) old new → IsCleared (shape_of old) (hole_of old (shape_of old) (chain_of old holds.rest)) old new
-cleared_by geometry old new taken generation position size hole holds cleared =
-    subst (λ (h : Place). IsCleared (shape_of old) h old new) holds.same_hole
-    (subst (λ (s : Shape). IsCleared s (place_of hole) old new) (same_shape geometry (shape_of old) holds.same_geometry) cleared)
+-- what stood after the tail is cleared, by the tail that the chain says
+cleared_by : (geometry : Geometry) (old new taken : List ℕ) (generation position size : ℕ) (tail : Tail) (holds : IsOpened geometry old taken generation position size tail) →
+    IsCleared (shape_by geometry) (as_tail tail) old new → IsCleared (shape_of old) (tail_of old (shape_of old) (chain_of old holds.rest)) old new
+cleared_by geometry old new taken generation position size tail holds cleared =
+    subst (λ (h : ImageTail). IsCleared (shape_of old) h old new) holds.same_tail
+    (subst (λ (s : Shape). IsCleared s (as_tail tail) old new) (same_shape geometry (shape_of old) holds.same_geometry) cleared)
 
 -- the bitmap has the blocks that the cleared chain names
 taken_after : (old new : List ℕ) (shape after : Shape) (chain taken : List ℕ) → HasTaken old shape chain taken → after ≡ shape → named_blocks new shape chain ≡ named_blocks old shape chain → HasTaken new after chain taken
@@ -115,11 +114,11 @@ taken_after old new shape after chain taken has same names =
     (record { room = has.room; bits = λ block inside. has.bits block inside ∙ ap (λ (l : List ℕ). if block == 0 || list_any (λ (named : ℕ). named == block) l then 1 else 0) (sym names) })
 
 -- what a run may start from
-keeps_by : (geometry : Geometry) (old new taken : List ℕ) (generation position size : ℕ) (hole : Hole) → IsCleared (shape_by geometry) (place_of hole) old new →
-    Holds geometry old taken generation position size hole → Keeps geometry new taken generation position size
-keeps_by geometry old new taken generation position size hole cleared holds =
+keeps_by : (geometry : Geometry) (old new taken : List ℕ) (generation position size : ℕ) (tail : Tail) → IsCleared (shape_by geometry) (as_tail tail) old new →
+    IsOpened geometry old taken generation position size tail → MayStart geometry new taken generation position size
+keeps_by geometry old new taken generation position size tail cleared holds =
     let chain : List ℕ = chain_of old holds.rest in
-    let stays = clearing_keeps old new chain holds.file position holds.stands (cleared_by geometry old new taken generation position size hole holds cleared) in
+    let stays = clearing_keeps old new chain holds.file position holds.stands (cleared_by geometry old new taken generation position size tail holds cleared) in
     record {
       chain = chain;
       file = holds.file;
@@ -127,19 +126,19 @@ keeps_by geometry old new taken generation position size hole cleared holds =
       same_size = holds.same_size;
       same_geometry = subst (λ (s : Shape). HasShape geometry s.data_blocks s.log_blocks s.block_bytes) (sym stays.same_shape) holds.same_geometry;
       same_generation = stays.same_generation ∙ holds.same_generation;
-      clear = subst (λ (s : Shape). IsClear new s (hole_of new s chain)) (sym stays.same_shape) (subst (λ (h : Place). IsClear new (shape_of old) h) (sym stays.same_hole) stays.clear);
+      clear = subst (λ (s : Shape). IsClear new s (tail_of new s chain)) (sym stays.same_shape) (subst (λ (h : ImageTail). IsClear new (shape_of old) h) (sym stays.same_tail) stays.clear);
       bitmap = taken_after old new (shape_of old) (shape_of new) chain taken holds.bitmap stays.same_shape stays.same_names;
     }
 
-pub kept_after : (geometry : Geometry) (old new taken : List ℕ) (generation position size : ℕ) (hole : Hole) → IsCleared (shape_by geometry) (place_of hole) old new →
-    ∥ Holds geometry old taken generation position size hole ∥₁ → ∥ Keeps geometry new taken generation position size ∥₁
-kept_after geometry old new taken generation position size hole cleared kept = ∥∥₁_map kept (keeps_by geometry old new taken generation position size hole cleared)
+pub kept_after : (geometry : Geometry) (old new taken : List ℕ) (generation position size : ℕ) (tail : Tail) → IsCleared (shape_by geometry) (as_tail tail) old new →
+    ∥ IsOpened geometry old taken generation position size tail ∥₁ → ∥ MayStart geometry new taken generation position size ∥₁
+kept_after geometry old new taken generation position size tail cleared kept = ∥∥₁_map kept (keeps_by geometry old new taken generation position size tail cleared)
 
 -- what is recovered by a chain of the words
-pub recovered_by : (geometry : Geometry) (old taken : List ℕ) (generation position size : ℕ) (hole : Hole) (start : Start) → IsCleared (shape_by geometry) (place_of hole) old start.words.items →
-    ∥ Holds geometry old taken generation position size hole ∥₁ → (chain file : List ℕ) (at : ℕ) → StandsBy old chain file at → Recovered old start file at
-recovered_by geometry old taken generation position size hole start cleared kept chain file at stands =
-    let same : (holds : Holds geometry old taken generation position size hole) → chain_of old holds.rest ≡ chain = λ holds. one_chain old (shape_of old) (chain_of old holds.rest) chain holds.stands.stands.is_chain stands.stands.is_chain in
-    let here : IsCleared (shape_of old) (hole_of old (shape_of old) chain) old start.words.items =
-    ∥∥₁_elim kept (hlevel ℕ_set) (λ holds. subst (λ (l : List ℕ). IsCleared (shape_of old) (hole_of old (shape_of old) l) old start.words.items) (same holds) (cleared_by geometry old start.words.items taken generation position size hole holds cleared)) in
+pub recovered_by : (geometry : Geometry) (old taken : List ℕ) (generation position size : ℕ) (tail : Tail) (start : Start) → IsCleared (shape_by geometry) (as_tail tail) old start.words.items →
+    ∥ IsOpened geometry old taken generation position size tail ∥₁ → (chain file : List ℕ) (at : ℕ) → StandsBy old chain file at → Recovered old start file at
+recovered_by geometry old taken generation position size tail start cleared kept chain file at stands =
+    let same : (holds : IsOpened geometry old taken generation position size tail) → chain_of old holds.rest ≡ chain = λ holds. one_chain old (shape_of old) (chain_of old holds.rest) chain holds.stands.stands.is_chain stands.stands.is_chain in
+    let here : IsCleared (shape_of old) (tail_of old (shape_of old) chain) old start.words.items =
+    ∥∥₁_elim kept (hlevel ℕ_set) (λ holds. subst (λ (l : List ℕ). IsCleared (shape_of old) (tail_of old (shape_of old) l) old start.words.items) (same holds) (cleared_by geometry old start.words.items taken generation position size tail holds cleared)) in
     record { chain = chain; of_words = stands.stands.is_chain; cleared = here; stands = (chain, (clearing_keeps old start.words.items chain file at stands here).stands) }

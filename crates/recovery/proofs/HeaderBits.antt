@@ -4,7 +4,7 @@ use Rattle.std.specs.Int.{bit_at}
 use Rattle.std.proofs.lemmas.Bool.Decides.{nat_tests}
 use Rattle.std.proofs.lemmas.Nat.Bits.{bit_at_above, bit_at-zero}
 use Rattle.log_image.specs.Image.{Shape, total}
-use Rattle.recovery.specs.Agrees.{HasBits}
+use Rattle.log_image.specs.Taken.{HasBits}
 
 -- a number that is not 0 has no bit set by the test for 0
 not_first : (number : ℕ) → ◌≡◌ {A = ℕ} (if (suc number == 0) || false then 1 else 0) 0

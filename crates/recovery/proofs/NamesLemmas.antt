@@ -11,12 +11,11 @@ use Rattle.log_entry.specs.declared.layouts.TheConstants.{ENTRY_KIND, DIRECT, IN
 use Rattle.log_image.specs.Entries.{names, run_words, run_blocks, indirect_blocks, direct_meaning, indirect_meaning, meaning}
 use Rattle.log_image.specs.Format.{fits, is_run, is_direct, is_indirect, has_runs, is_indirect_block, is_log_entry}
 use Rattle.log_image.specs.Image.{Shape, total, words_in, is_in_log, is_in_data, block_words}
-use Rattle.log_image.specs.Taken.{bit_of}
+use Rattle.log_image.specs.Taken.{bit_of, HasBits}
 use Rattle.opening_rules.specs.Checks.{Check, check, first}
 use Rattle.opening_rules.specs.SlotChecks.{is_among, share_checks}
 use Rattle.opening_rules.specs.declared.refusals.BadImage.{BadImage}
 use Rattle.opening_rules.specs.declared.refusals.BadImage.TheVariants.{BadShare}
-use Rattle.recovery.specs.Agrees.{HasBits}
 use Rattle.recovery.specs.Names.{HasNamed, TakesNames}
 use Rattle.chain_reader.proofs.FitsLemmas.{fitting, row_inside, not_direct, fits_more}
 use Rattle.chain_reader.proofs.RunsLemmas.{RunsFit, runs_fit}

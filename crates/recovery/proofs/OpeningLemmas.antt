@@ -11,8 +11,8 @@ use Rattle.log_image.specs.Image.{Shape, block_words}
 use Rattle.log_image.specs.Header.{shape_of, generation_of}
 use Rattle.log_image.specs.Entries.{Meaning, all_names}
 use Rattle.log_image.specs.Positions.{entries_of, position_of, size_at_end}
-use Rattle.log_image.specs.Taken.{HasTaken}
-use Rattle.log_image.specs.Holes.{Hole as Place, last_block, hole_in, hole_of}
+use Rattle.log_image.specs.Taken.{HasTaken, HasBits}
+use Rattle.log_image.specs.Tails.{Tail as ImageTail, last_block, tail_in, tail_of}
 use Rattle.log_image.specs.Stands.{StandsBy}
 use Rattle.log_image.proofs.HoldingLemmas.{both_left, both_right}
 use Rattle.opening_rules.specs.Walks.{end_place}
@@ -20,12 +20,11 @@ use Rattle.opening_rules.specs.Opening.{Refuses, AcceptsBytes, chain_of}
 use Rattle.opening_rules.proofs.Accepted.{accepted_chain, file_of, stands_by}
 use Rattle.recovery.specs.declared.refusals.OpenRefusal.{OpenRefusal}
 use Rattle.recovery.specs.declared.refusals.OpenRefusal.TheVariants.{Bad, NoMemory}
-use Rattle.recovery.specs.declared.holes.Hole.{Hole}
+use Rattle.recovery.specs.declared.tails.Tail.{Tail}
 use Rattle.recovery.specs.declared.reading.Reading.{Reading}
-use Rattle.recovery.specs.Agrees.{HasBits}
-use Rattle.recovery.specs.Openings.{Holds, place_of}
+use Rattle.recovery.specs.Openings.{IsOpened, as_tail}
 use Rattle.recovery.specs.OpenAnswers.{OpensWords, OpensBytes}
-use Rattle.recovery.specs.Passing.{HasPassed, PassAnswers}
+use Rattle.recovery.specs.Passing.{PassesConditions, PassAnswers}
 
 -- the last of some blocks, by its place
 last_at : (block : ℕ) (rest : List ℕ) → get_or (block ∷ rest) (length rest) 0 ≡ last_block block rest
@@ -37,14 +36,14 @@ last_of_chain chain block rest same =
     let place : length (block ∷ rest) - 1 ≡ length rest = omega arith in
     subst (λ (l : List ℕ). get_or l (length l - 1) 0 ≡ last_block 0 l) (sym same) (rw place (last_at block rest))
 
--- the hole in the last block is that of the chain
-pub hole_by : (words : List ℕ) (shape : Shape) (chain : List ℕ) (block : ℕ) (rest : List ℕ) (count last : ℕ) (content : List ℕ) (hole : Place) → chain ≡ block ∷ rest → count ≡ length chain →
-    last ≡ get_or chain (count - 1) last → content ≡ block_words words shape last → shape ≡ shape_of words → hole ≡ hole_in last content → hole ≡ hole_of words (shape_of words) chain
-hole_by words shape chain block rest count last content hole same counted at content_is shape_is is =
+-- the tail in the last block is that of the chain
+pub tail_by : (words : List ℕ) (shape : Shape) (chain : List ℕ) (block : ℕ) (rest : List ℕ) (count last : ℕ) (content : List ℕ) (tail : ImageTail) → chain ≡ block ∷ rest → count ≡ length chain →
+    last ≡ get_or chain (count - 1) last → content ≡ block_words words shape last → shape ≡ shape_of words → tail ≡ tail_in last content → tail ≡ tail_of words (shape_of words) chain
+tail_by words shape chain block rest count last content tail same counted at content_is shape_is is =
     let some : length chain ≡ suc (length rest) = ap length same ∙ omega arith in
     let place : last ≡ get_or chain (length chain - 1) 0 = at ∙ ap (λ (n : ℕ). get_or chain (n - 1) last) counted ∙ get_or_default chain (length chain - 1) last 0 (omega (arith, some)) in
-    is ∙ ap (hole_in last) (content_is ∙ ap (λ (s : Shape). block_words words s last) shape_is)
-    ∙ ap (λ (b : ℕ). hole_in b (block_words words (shape_of words) b)) (place ∙ last_of_chain chain block rest same)
+    is ∙ ap (tail_in last) (content_is ∙ ap (λ (s : Shape). block_words words s last) shape_is)
+    ∙ ap (λ (b : ℕ). tail_in b (block_words words (shape_of words) b)) (place ∙ last_of_chain chain block rest same)
 
 -- what all blocks are, each is
 pub each_of_chain : (p : ℕ → Bool) (chain : List ℕ) (place : ℕ) → list_all p chain ≡ true → place < length chain → p (get_or chain place 0) ≡ true
@@ -55,14 +54,12 @@ each_of_chain p (block ∷ chain) (suc place) all inside = each_of_chain p chain
 -- the bitmap has the blocks that the chain names
 taken_by : (words : List ℕ) (shape : Shape) (chain taken blocks : List ℕ) (entries : List Meaning) → HasBits shape taken (blocks ++ all_names entries) → blocks ≡ chain → entries ≡ entries_of words shape chain → HasTaken words shape chain taken
 taken_by words shape chain taken blocks entries bits same_blocks same_entries =
-    let here : HasBits shape taken (chain ++ all_names (entries_of words shape chain)) =
-    subst (λ (l : List ℕ). HasBits shape taken (l ++ all_names (entries_of words shape chain))) same_blocks (subst (λ (l : List Meaning). HasBits shape taken (blocks ++ all_names l)) same_entries bits) in
-    record { room = here.room; bits = here.bits }
+    subst (λ (l : List ℕ). HasBits shape taken (l ++ all_names (entries_of words shape chain))) same_blocks (subst (λ (l : List Meaning). HasBits shape taken (blocks ++ all_names l)) same_entries bits)
 
 -- what an image holds
-pub holds_by : (words : List ℕ) (geometry : Geometry) (reading : Reading) (generation : ℕ) (hole : Hole) → HasPassed (8 * length words) words geometry reading →
-    generation_of words ≡ generation → place_of hole ≡ hole_of words (shape_of words) reading.chain.items → Holds geometry words reading.taken.items generation reading.position reading.table.size hole
-holds_by words geometry reading generation hole passed same_generation same_hole =
+pub holds_by : (words : List ℕ) (geometry : Geometry) (reading : Reading) (generation : ℕ) (tail : Tail) → PassesConditions (8 * length words) words geometry reading →
+    generation_of words ≡ generation → as_tail tail ≡ tail_of words (shape_of words) reading.chain.items → IsOpened geometry words reading.taken.items generation reading.position reading.table.size tail
+holds_by words geometry reading generation tail passed same_generation same_tail =
     let walked = accepted_chain (8 * length words) words passed.rest passed.accepts in
     let chain : List ℕ = chain_of words passed.rest in
     let agrees = passed.ends.agrees in
@@ -83,7 +80,7 @@ holds_by words geometry reading generation hole passed same_generation same_hole
       };
       same_generation = same_generation;
       bitmap = taken_by words (shape_of words) chain reading.taken.items (end_place words (shape_of words) passed.rest).before (end_place words (shape_of words) passed.rest).entries agrees.bits before walked.entries;
-      same_hole = subst (λ (l : List ℕ). place_of hole ≡ hole_of words (shape_of words) l) passed.ends.chain same_hole;
+      same_tail = subst (λ (l : List ℕ). as_tail tail ≡ tail_of words (shape_of words) l) passed.ends.chain same_tail;
     }
 
 -- the generation, as it is read
@@ -114,7 +111,7 @@ none_left bytes [] none = append-nil bytes
 none_left bytes (byte ∷ rest) none = absurd (omega (arith, none))
 
 -- an accepted image of such bytes
-pub bytes_accepted : (words rest : List ℕ) (bytes : ℕ) (geometry : Geometry) (reading : Reading) (opened : List ℕ) → HasPassed bytes words geometry reading → bytes ≡ 8 * length words + length rest → opened ≡ words →
+pub bytes_accepted : (words rest : List ℕ) (bytes : ℕ) (geometry : Geometry) (reading : Reading) (opened : List ℕ) → PassesConditions bytes words geometry reading → bytes ≡ 8 * length words + length rest → opened ≡ words →
     ((index : ℕ) → get_or words index 0 < 2 ^ 64) → (chain : List ℕ) × AcceptsBytes (word_bytes words ++ rest) opened chain
 bytes_accepted words rest bytes geometry reading opened passed count same small =
     rw same (

@@ -4,12 +4,12 @@ use Rattle.std.specs.List.{list_all, slice_get}
 use Rattle.std.specs.Option.{option_or}
 use Rattle.std.proofs.lemmas.Bool.Decides.{nat_tests}
 use Rattle.log_entry.specs.declared.shapes.Geometry.{Geometry}
-use Rattle.log_image.specs.Image.{Shape, total, is_in_data}
+use Rattle.log_image.specs.Image.{Shape, total, is_in_data, shape_by}
 use Rattle.log_image.specs.Header.{shape_of}
 use Rattle.log_image.specs.Entries.{Meaning, names, all_names}
 use Rattle.log_image.specs.Maps.{block_in, map_of}
 use Rattle.log_image.proofs.HoldingLemmas.{both_left, both_right}
-use Rattle.chain_reader.specs.Tables.{shape_by, HasMap}
+use Rattle.chain_reader.specs.Tables.{HasMap}
 use Rattle.opening_rules.specs.Checks.{first}
 use Rattle.opening_rules.specs.HeaderChecks.{header_checks}
 use Rattle.opening_rules.specs.BlockChecks.{Place}
@@ -20,10 +20,10 @@ use Rattle.opening_rules.specs.declared.refusals.BadImage.TheVariants.{BadSlack}
 use Rattle.recovery.specs.declared.refusals.OpenRefusal.{OpenRefusal}
 use Rattle.recovery.specs.declared.refusals.OpenRefusal.TheVariants.{Bad, NoMemory}
 use Rattle.recovery.specs.declared.reading.Reading.{Reading}
-use Rattle.recovery.specs.Agrees.{Agrees}
-use Rattle.recovery.specs.WalkAnswers.{Ends, WalkAnswers}
+use Rattle.recovery.specs.Readings.{HasRead}
+use Rattle.recovery.specs.WalkAnswers.{EndsWalk, WalkAnswers}
 use Rattle.recovery.specs.Slacks.{MapsInside}
-use Rattle.recovery.specs.Passing.{HasPassed, PassAnswers}
+use Rattle.recovery.specs.Passing.{PassesConditions, PassAnswers}
 
 -- what each of two parts is, all of them are, and the other way round
 all_left : (p : ℕ → Bool) (blocks others : List ℕ) → list_all p (blocks ++ others) ≡ true → list_all p blocks ≡ true
@@ -63,7 +63,7 @@ mapped_named p (entry ∷ entries) virt block all found =
     ]
 
 -- the table of a reading maps to blocks of the image
-pub maps_inside : (shape : Shape) (reading : Reading) (place : Place) → Agrees shape reading place → MapsInside shape reading.table
+pub maps_inside : (shape : Shape) (reading : Reading) (place : Place) → HasRead shape reading place → MapsInside shape reading.table
 maps_inside shape reading place agrees = record { each = λ virt block found. inside block (mapped_named (is_in_data shape) place.entries virt block agrees.in_data (sym (agrees.map.each virt) ∙ found)) }
   where
     inside : (block : ℕ) → is_in_data shape block ≡ true → block < total shape
@@ -79,19 +79,19 @@ refused_by_walk bytes words shape NoMemory header same walk = tt
 pub refused_by_slack : (bytes : ℕ) (words : List ℕ) (shape : Shape) (reading : Reading) (block : ℕ) → first (header_checks bytes words) ≡ None → shape ≡ shape_of words →
     WalkAnswers (Ok reading) words shape → ((entries : List Meaning) → HasMap reading.table entries → FirstSlack words shape entries reading.table.size block) → Refuses bytes words (BadSlack block)
 refused_by_slack bytes words shape reading block header same walk slack =
-    let ends : Ends words shape reading walk.0 = walk.1 in
+    let ends : EndsWalk words shape reading walk.0 = walk.1 in
     let here : FirstSlack words shape (end_place words shape walk.0).entries (end_place words shape walk.0).size block =
     subst (λ (size : ℕ). FirstSlack words shape (end_place words shape walk.0).entries size block) ends.agrees.size (slack (end_place words shape walk.0).entries ends.agrees.map) in
     BySlack header (subst (λ (s : Shape). SlackRefuses words s (BadSlack block)) same (record { rest = walk.0; passes = ends.passes; block = block; slack = here; gives = refl }))
 
 -- no condition holds
 pub all_passed : (bytes : ℕ) (words : List ℕ) (geometry : Geometry) (reading : Reading) → first (header_checks bytes words) ≡ None → shape_by geometry ≡ shape_of words → bytes ≡ 8 * length words → 4 ≤ length words →
-    WalkAnswers (Ok reading) words (shape_by geometry) → ((entries : List Meaning) → HasMap reading.table entries → HasNoSlack words (shape_by geometry) entries reading.table.size) → HasPassed bytes words geometry reading
+    WalkAnswers (Ok reading) words (shape_by geometry) → ((entries : List Meaning) → HasMap reading.table entries → HasNoSlack words (shape_by geometry) entries reading.table.size) → PassesConditions bytes words geometry reading
 all_passed bytes words geometry reading header same exact long walk none =
-    let ends : Ends words (shape_by geometry) reading walk.0 = walk.1 in
+    let ends : EndsWalk words (shape_by geometry) reading walk.0 = walk.1 in
     let here : HasNoSlack words (shape_by geometry) (end_place words (shape_by geometry) walk.0).entries (end_place words (shape_by geometry) walk.0).size =
     subst (λ (size : ℕ). HasNoSlack words (shape_by geometry) (end_place words (shape_by geometry) walk.0).entries size) ends.agrees.size (none (end_place words (shape_by geometry) walk.0).entries ends.agrees.map) in
-    let ends_here : Ends words (shape_of words) reading walk.0 = subst (λ (s : Shape). Ends words s reading walk.0) same ends in
+    let ends_here : EndsWalk words (shape_of words) reading walk.0 = subst (λ (s : Shape). EndsWalk words s reading walk.0) same ends in
     record {
       rest = walk.0;
       accepts = record { header = header; passes = ends_here.passes; slack = subst (λ (s : Shape). HasNoSlack words s (end_place words s walk.0).entries (end_place words s walk.0).size) same here };

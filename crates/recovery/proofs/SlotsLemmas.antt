@@ -17,7 +17,7 @@ use Rattle.opening_rules.specs.declared.refusals.BadImage.{BadImage}
 use Rattle.opening_rules.specs.declared.refusals.BadImage.TheVariants.{BadEntry}
 use Rattle.opening_rules.proofs.Firsts.{skip, hit, pass_over, found_in}
 use Rattle.recovery.specs.Names.{HasNamed, TakesNames}
-use Rattle.recovery.specs.Slots.{HasEntries, Reads, ReadsLogSlots, entries_in, used_slot_checks, meanings_of}
+use Rattle.recovery.specs.Slots.{HasEntries, ReadsEntries, ReadsLogSlots, entries_in, used_slot_checks, meanings_of}
 
 -- the blocks that entries and one more name
 names_more : (entries : List Meaning) (entry : Meaning) → all_names (entries ++ entry ∷ []) ≡ all_names entries ++ names entry
@@ -26,7 +26,7 @@ names_more entries entry = flat_map-append names entries (entry ∷ []) ∙ ap (
 -- the blocks of an entry are taken, and then its map
 pub entry_taken : (shape : Shape) (table : FileMap) (taken chain : List ℕ) (size : ℕ) (entries : List Meaning) (entry : Meaning) →
     TakesNames (Ok tt) shape taken chain (all_names entries) (names entry) → HasMap table (entries ++ entry ∷ []) → table.size ≡ size →
-    Reads (Ok tt) shape table taken chain (share_checks (all_names entries) (names entry)) size (entries ++ entry ∷ [])
+    ReadsEntries (Ok tt) shape table taken chain (share_checks (all_names entries) (names entry)) size (entries ++ entry ∷ [])
 entry_taken shape table taken chain size entries entry takes mapped sized = (
   takes.0,
   record { map = mapped; sized = sized; named = subst (λ (blocks : List ℕ). HasNamed shape taken chain blocks) (sym (names_more entries entry)) takes.1 },
@@ -42,8 +42,8 @@ slot_clean words shape block position entries after_seal slot word good other =
 -- what reading an entry says of its slot
 pub slot_read : (result : Result Unit BadImage) (words : List ℕ) (shape : Shape) (block position : ℕ) (after_seal : Bool) (slot word : ℕ) (table : FileMap) (taken chain : List ℕ) (size : ℕ) (entries : List Meaning) →
     (after_seal || is_bad_slot words shape position slot word) ≡ false → (word == SEAL) ≡ false →
-    Reads result shape table taken chain (share_checks (all_names entries) (names (meaning words shape word))) (size_after shape size (meaning words shape word ∷ [])) (entries ++ meaning words shape word ∷ []) →
-    Reads result shape table taken chain (used_slot_checks words shape block position entries after_seal slot word) (size_after shape size (entries_in words shape word)) (entries ++ entries_in words shape word)
+    ReadsEntries result shape table taken chain (share_checks (all_names entries) (names (meaning words shape word))) (size_after shape size (meaning words shape word ∷ [])) (entries ++ meaning words shape word ∷ []) →
+    ReadsEntries result shape table taken chain (used_slot_checks words shape block position entries after_seal slot word) (size_after shape size (entries_in words shape word)) (entries ++ entries_in words shape word)
 slot_read (Err why) words shape block position after_seal slot word table taken chain size entries good other reads = slot_clean words shape block position entries after_seal slot word good other ∙ reads
 slot_read (Ok done) words shape block position after_seal slot word table taken chain size entries good other reads =
     let is : entries_in words shape word ≡ meaning words shape word ∷ [] = ap (λ (b : Bool). if b then [] else meaning words shape word ∷ []) other in (
@@ -60,7 +60,7 @@ slot_bad words shape block position entries after_seal slot word bad =
 -- a seal
 pub seal_read : (words : List ℕ) (shape : Shape) (block position : ℕ) (after_seal : Bool) (slot word : ℕ) (table : FileMap) (taken chain : List ℕ) (size : ℕ) (entries : List Meaning) →
     (after_seal || is_bad_slot words shape position slot word) ≡ false → (word == SEAL) ≡ true → HasEntries shape table taken chain size entries →
-    Reads (Ok tt) shape table taken chain (used_slot_checks words shape block position entries after_seal slot word) (size_after shape size (entries_in words shape word)) (entries ++ entries_in words shape word)
+    ReadsEntries (Ok tt) shape table taken chain (used_slot_checks words shape block position entries after_seal slot word) (size_after shape size (entries_in words shape word)) (entries ++ entries_in words shape word)
 seal_read words shape block position after_seal slot word table taken chain size entries good seal has =
     let is : entries_in words shape word ≡ [] = ap (λ (b : Bool). if b then [] else meaning words shape word ∷ []) seal in (
       skip (after_seal || is_bad_slot words shape position slot word) (BadEntry block slot word) (if word == SEAL then [] else share_checks (all_names entries) (names (meaning words shape word))) good
@@ -189,7 +189,7 @@ module _ (words : List ℕ) (shape : Shape) (block position : ℕ) (chain : List
     (far : ReadTo words shape block position chain size entries slots table taken after_seal place count) where
   -- one more slot
   pub slot_more : (next : FileMap) (bits : List ℕ) (word total : ℕ) → total ≡ count + length (entries_in words shape word) → drop place slots ≡ word ∷ drop (suc place) slots → word ≢ EMPTY →
-      Reads (Ok tt) shape next bits chain (used_slot_checks words shape block (position + count) far.now after_seal (3 + place) word) (size_after shape far.size_now (entries_in words shape word)) (far.now ++ entries_in words shape word) →
+      ReadsEntries (Ok tt) shape next bits chain (used_slot_checks words shape block (position + count) far.now after_seal (3 + place) word) (size_after shape far.size_now (entries_in words shape word)) (far.now ++ entries_in words shape word) →
       ReadTo words shape block position chain size entries slots next bits (word == SEAL) (place + 1) total
   slot_more next bits word total total_is front some reads = record {
     now = far.now ++ entries_in words shape word;

@@ -10,7 +10,7 @@ use Rattle.opening_rules.specs.SlotChecks.{share_checks, snapshot_slot_checks}
 use Rattle.opening_rules.specs.declared.refusals.BadImage.{BadImage}
 use Rattle.opening_rules.specs.declared.refusals.BadImage.TheVariants.{BadEntry}
 use Rattle.opening_rules.proofs.Firsts.{skip, pass_over, found_in}
-use Rattle.recovery.specs.Slots.{HasEntries, Reads, entries_if, one_slot_checks}
+use Rattle.recovery.specs.Slots.{HasEntries, ReadsEntries, entries_if, one_slot_checks}
 
 -- what is left of a block's entries where so many are left
 abbrev pub entries_of_first : ℕ → List ℕ → List Meaning
@@ -75,7 +75,7 @@ module _ (shape : Shape) (block : ℕ) (chain : List ℕ) (size : ℕ) (entries 
 
   -- one more slot
   pub snapshot_more : (next : FileMap) (bits : List ℕ) (word : ℕ) → drop place slots ≡ word ∷ drop (suc place) slots →
-      Reads (Ok tt) shape next bits chain (one_slot_checks shape block far.now (nat_lt place count) (3 + place) word) size (far.now ++ entries_if (nat_lt place count) word) →
+      ReadsEntries (Ok tt) shape next bits chain (one_slot_checks shape block far.now (nat_lt place count) (3 + place) word) size (far.now ++ entries_if (nat_lt place count) word) →
       SnapshotTo shape block chain size entries count slots next bits (place + 1)
   snapshot_more next bits word front reads = record {
     now = far.now ++ entries_if (nat_lt place count) word;
@@ -91,7 +91,7 @@ module _ (shape : Shape) (block : ℕ) (chain : List ℕ) (size : ℕ) (entries 
       first (snapshot_slot_checks shape block entries count 3 slots) ≡ Some why
   snapshot_refused word why front found = split word front ∙ found_in (one_slot_checks shape block far.now (nat_lt place count) (3 + place) word) _ why found
 
-  pub snapshot_read : drop place slots ≡ [] → Reads (Ok tt) shape table taken chain (snapshot_slot_checks shape block entries count 3 slots) size (entries ++ entries_of_first count slots)
+  pub snapshot_read : drop place slots ≡ [] → ReadsEntries (Ok tt) shape table taken chain (snapshot_slot_checks shape block entries count 3 slots) size (entries ++ entries_of_first count slots)
   snapshot_read front = (
     far.checks ∙ ap (λ (l : List ℕ). first (snapshot_slot_checks shape block far.now (count - place) (3 + place) l)) front ∙ no_checks shape block far.now (count - place) (3 + place),
     subst (λ (l : List Meaning). HasEntries shape table taken chain size l)
@@ -100,8 +100,8 @@ module _ (shape : Shape) (block : ℕ) (chain : List ℕ) (size : ℕ) (entries 
 
 -- what reading an entry says of its slot
 pub entry_read : (result : Result Unit BadImage) (shape : Shape) (table : FileMap) (taken chain : List ℕ) (size : ℕ) (entries : List Meaning) (block : ℕ) (used : Bool) (slot word : ℕ) → used ≡ true → is_snapshot_entry shape word ≡ true →
-    Reads result shape table taken chain (share_checks (all_names entries) (names (direct_meaning word))) size (entries ++ direct_meaning word ∷ []) →
-    Reads result shape table taken chain (one_slot_checks shape block entries used slot word) size (entries ++ entries_if used word)
+    ReadsEntries result shape table taken chain (share_checks (all_names entries) (names (direct_meaning word))) size (entries ++ direct_meaning word ∷ []) →
+    ReadsEntries result shape table taken chain (one_slot_checks shape block entries used slot word) size (entries ++ entries_if used word)
 entry_read result shape table taken chain size entries block false slot word is good reads = cc
 entry_read (Err why) shape table taken chain size entries block true slot word is good reads =
     skip (not (is_snapshot_entry shape word)) (BadEntry block slot word) (share_checks (all_names entries) (names (direct_meaning word))) (ap not good) ∙ reads

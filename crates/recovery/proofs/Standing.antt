@@ -6,15 +6,15 @@ use Rattle.log_image.specs.Image.{Shape, total, is_in_log, block_words}
 use Rattle.log_image.specs.Header.{head_block}
 use Rattle.opening_rules.specs.Checks.{first}
 use Rattle.opening_rules.specs.SlotChecks.{is_among}
-use Rattle.opening_rules.specs.BlockChecks.{Place, start, after}
+use Rattle.opening_rules.specs.BlockChecks.{Place, start, place_after}
 use Rattle.opening_rules.specs.Walks.{PassesFrom, RefusesFrom, end_from, Passes, end_place, WalkRefuses}
 use Rattle.opening_rules.specs.declared.refusals.BadImage.{BadImage}
 use Rattle.recovery.specs.declared.refusals.OpenRefusal.{OpenRefusal}
 use Rattle.recovery.specs.declared.refusals.OpenRefusal.TheVariants.{Bad, NoMemory}
 use Rattle.recovery.specs.declared.reading.Reading.{Reading}
-use Rattle.recovery.specs.Agrees.{Agrees}
+use Rattle.recovery.specs.Readings.{HasRead}
 use Rattle.recovery.specs.ReadBlocks.{ReadsBlock}
-use Rattle.recovery.specs.WalkAnswers.{Ends, WalkAnswers}
+use Rattle.recovery.specs.WalkAnswers.{EndsWalk, WalkAnswers}
 
 -- the numbers below one that are not among these
 abbrev pub unseen : List ℕ → ℕ → ℕ
@@ -69,14 +69,14 @@ unseen_falls blocks block (suc count) below fresh = rw (is_among-more count bloc
 -- is what the whole walk gives
 pub record Standing (words : List ℕ) (shape : Shape) (reading : Reading) (block : ℕ) : Type 0 where
   pub place : Place
-  pub agrees : Agrees shape reading place
+  pub agrees : HasRead shape reading place
   pub inside : is_in_log shape block ≡ true
   pub fresh : is_among block place.before ≡ false
   pub refuses : (rest : List ℕ) (why : BadImage) → RefusesFrom words shape place block rest why → WalkRefuses words shape why
   pub passes : (rest : List ℕ) → PassesFrom words shape place block rest → (whole : List ℕ) × Passes words shape whole × (end_place words shape whole ≡ end_from words shape place block rest)
 
 -- before the first block
-pub stands_first : (words : List ℕ) (shape : Shape) (reading : Reading) → Agrees shape reading start → is_in_log shape (head_block words) ≡ true → Standing words shape reading (head_block words)
+pub stands_first : (words : List ℕ) (shape : Shape) (reading : Reading) → HasRead shape reading start → is_in_log shape (head_block words) ≡ true → Standing words shape reading (head_block words)
 stands_first words shape reading agrees inside = record {
   place = start;
   agrees = agrees;
@@ -96,7 +96,7 @@ refused_by words shape reading new block NoMemory stands reads = tt
 pub stands_next : (words : List ℕ) (shape : Shape) (reading new : Reading) (block next : ℕ) (stands : Standing words shape reading block) →
     ReadsBlock (Ok (Some next)) words shape stands.place block new → Standing words shape new next
 stands_next words shape reading new block next stands reads = record {
-  place = after words shape stands.place block (block_words words shape block);
+  place = place_after words shape stands.place block (block_words words shape block);
   agrees = reads.5;
   inside = reads.3;
   fresh = reads.4;
@@ -115,12 +115,12 @@ stands_falls words shape reading new block next stands reads =
 end_before : (words : List ℕ) (shape : Shape) (place : Place) (block : ℕ) (rest : List ℕ) → (end_from words shape place block rest).before ≡ place.before ++ block ∷ rest
 end_before words shape place block [] = refl
 end_before words shape place block (next ∷ rest) =
-    end_before words shape (after words shape place block (block_words words shape block)) next rest ∙ append_assoc place.before (block ∷ []) (next ∷ rest)
+    end_before words shape (place_after words shape place block (block_words words shape block)) next rest ∙ append_assoc place.before (block ∷ []) (next ∷ rest)
 
 -- a block that leads on to none
 pub stands_last : (words : List ℕ) (shape : Shape) (reading new : Reading) (block : ℕ) (stands : Standing words shape reading block) →
-    ReadsBlock (Ok None) words shape stands.place block new → (rest : List ℕ) × Ends words shape new rest
+    ReadsBlock (Ok None) words shape stands.place block new → (rest : List ℕ) × EndsWalk words shape new rest
 stands_last words shape reading new block stands reads =
     let all = stands.passes [] (reads.0, reads.1) in
-    let agrees : Agrees shape new (end_place words shape all.0) = subst (λ (p : Place). Agrees shape new p) (sym all.2) reads.2 in
+    let agrees : HasRead shape new (end_place words shape all.0) = subst (λ (p : Place). HasRead shape new p) (sym all.2) reads.2 in
     (all.0, record { passes = all.1; agrees = agrees; chain = agrees.chain ∙ end_before words shape start (head_block words) all.0 })

@@ -1,4 +1,4 @@
-pub mod Agrees
+pub mod Readings
 pub mod BlockAnswers
 pub mod Clearing
 pub mod Limits

@@ -5,7 +5,7 @@ use Rattle.log_image.specs.Image.{Shape, is_in_log, is_in_data}
 use Rattle.opening_rules.specs.Checks.{first}
 use Rattle.opening_rules.specs.SlotChecks.{share_checks}
 use Rattle.opening_rules.specs.declared.refusals.BadImage.{BadImage}
-use Rattle.recovery.specs.Agrees.{HasBits}
+use Rattle.log_image.specs.Taken.{HasBits}
 
 -- the bitmap has these blocks of a chain, which are of the log or spare area, and these that its entries name, which are of the data area
 pub record HasNamed (shape : Shape) (taken chain named : List ℕ) : Type 0 where

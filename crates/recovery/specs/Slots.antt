@@ -22,9 +22,9 @@ pub record HasEntries (shape : Shape) (table : FileMap) (taken chain : List ℕ)
   pub named : HasNamed shape taken chain (all_names entries)
 
 -- the refusal of the first of these conditions that holds; or none holds, and the table and the bitmap have these entries and this size
-abbrev pub Reads : Result Unit BadImage → Shape → FileMap → List ℕ → List ℕ → List Check → ℕ → List Meaning → Type 0
-Reads (Ok done) shape table taken chain checks size entries = (first checks ≡ None) × HasEntries shape table taken chain size entries
-Reads (Err why) shape table taken chain checks size entries = first checks ≡ Some why
+abbrev pub ReadsEntries : Result Unit BadImage → Shape → FileMap → List ℕ → List ℕ → List Check → ℕ → List Meaning → Type 0
+ReadsEntries (Ok done) shape table taken chain checks size entries = (first checks ≡ None) × HasEntries shape table taken chain size entries
+ReadsEntries (Err why) shape table taken chain checks size entries = first checks ≡ Some why
 
 -- the entries of a used slot: one, or none where it is a seal
 abbrev pub entries_in : List ℕ → Shape → ℕ → List Meaning

@@ -2,8 +2,7 @@
 
 ghost use Rattle.std.specs.Prelude.{◌≡◌, ◌<◌, ◌==◌, ◌++◌, ◌∷◌, [], List, ℕ};
 ghost use Rattle.log_image.specs.Image.{Shape, total};
-ghost use Rattle.log_image.specs.Taken.{bit_of};
-ghost use Rattle.recovery.specs.Agrees.{HasBits};
+ghost use Rattle.log_image.specs.Taken.{bit_of, HasBits};
 
 /// Whether the bit of a block is set. Where the bitmap has none, it is not.
 pub fn is_set(taken: &[u64], block: u16) -> bool

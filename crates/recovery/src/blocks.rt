@@ -2,15 +2,14 @@
 
 ghost use Rattle.std.specs.Prelude.{◌≡◌, ◌≤◌, ◌<◌, ◌+◌, ◌-◌, ◌*◌, ◌^◌, ◌==◌, ◌&&◌, ◌||◌, not, nat_lt, if◌then◌else◌, ◌++◌, ◌∷◌, [], ℕ, List, length, slice_index, true, false, IfOk};
 ghost use Rattle.log_entry.specs.Shape.{limit_of};
-ghost use Rattle.log_image.specs.Image.{Shape, total, words_in, is_in_log};
+ghost use Rattle.log_image.specs.Image.{Shape, total, words_in, is_in_log, shape_by};
 ghost use Rattle.log_image.specs.Blocks.{kind_of, is_snapshot as is_snapshot_block, base_of, entry_count, file_size, slots_of, is_closed, leads_on as is_followed};
-ghost use Rattle.chain_reader.specs.Tables.{shape_by};
-ghost use Rattle.opening_rules.specs.BlockChecks.{Place, is_first, is_bad_second as is_second_not_due, is_bad_third as is_third_not_due, after};
+ghost use Rattle.opening_rules.specs.BlockChecks.{Place, is_first, is_bad_second as is_second_not_due, is_bad_third as is_third_not_due, place_after};
 ghost use Rattle.opening_rules.specs.SlotChecks.{is_among};
-ghost use Rattle.recovery.specs.Agrees.{Agrees};
+ghost use Rattle.recovery.specs.Readings.{HasRead};
 ghost use Rattle.recovery.specs.Names.{HasNamed};
 ghost use Rattle.recovery.specs.Slots.{HasEntries};
-ghost use Rattle.recovery.specs.BlockAnswers.{ChecksWords, ReadsSlots, Follows, ChecksBlock};
+ghost use Rattle.recovery.specs.BlockAnswers.{ChecksWords, ReadsSlots, FollowsLink, ChecksBlock};
 ghost use Rattle.recovery.specs.ReadBlocks.{ReadsBlock};
 
 use crate::reading::Reading;
@@ -96,7 +95,7 @@ fn check_words(
     own: &[u64],
 ) -> Result<(), BadImage>
     requires { length own.now ≡ words_in (shape_by geometry) }
-    ensures { (place : Place) → Agrees (shape_by geometry) reading.now place → ChecksWords result (shape_by geometry) place block own.now }
+    ensures { (place : Place) → HasRead (shape_by geometry) reading.now place → ChecksWords result (shape_by geometry) place block own.now }
 {
     let first = reading.chain.is_empty();
     if is_bad_second(reading.in_logs, first, reading.position, own) {
@@ -183,7 +182,7 @@ fn follow(
 ) -> Result<Option<u16>, BadImage>
     requires { 3 ≤ length own.now }
     ensures { (passed named : List ℕ) → HasNamed (shape_by geometry) taken.now passed named → closed ≡ (is_snapshot_block own.now || is_closed (slots_of own.now)) →
-        Follows result (shape_by geometry) passed block own.now }
+        FollowsLink result (shape_by geometry) passed block own.now }
 {
     if !leads_on(own, closed) {
         return Ok(None);
@@ -205,7 +204,7 @@ fn check_block(
     requires whole { length words.now ≡ total (shape_by geometry) * words_in (shape_by geometry) }
     requires inside { is_in_log (shape_by geometry) block ≡ true }
     ensures chain { reading.new.chain ≡ reading.old.chain }
-    ensures answer { (place : Place) → Agrees (shape_by geometry) reading.old place → ChecksBlock result words.now (shape_by geometry) place block reading.new }
+    ensures answer { (place : Place) → HasRead (shape_by geometry) reading.old place → ChecksBlock result words.now (shape_by geometry) place block reading.new }
 {
     let own = block_at(words, geometry, u64::from(block));
     check_words(reading, geometry, block, own)?;
@@ -234,7 +233,7 @@ pub fn read_block(
 ) -> Result<Option<u16>, OpenRefusal>
     requires whole { length words.now ≡ total (shape_by geometry) * words_in (shape_by geometry) }
     requires inside { is_in_log (shape_by geometry) block ≡ true }
-    ensures answer { (place : Place) → Agrees (shape_by geometry) reading.old place → is_among block place.before ≡ false →
+    ensures answer { (place : Place) → HasRead (shape_by geometry) reading.old place → is_among block place.before ≡ false →
         ReadsBlock result words.now (shape_by geometry) place block reading.new }
 {
     match check_block(reading, words, geometry, block) {

@@ -1,24 +1,23 @@
-//! Clearing what stands after the hole of an opened image.
+//! Clearing what stands after the tail of an opened image.
 
 ghost use Rattle.std.specs.Prelude.{◌≡◌, ℕ, ◌+◌, ◌*◌, ◌<◌, ◌≤◌, ◌==◌, ◌&&◌, ◌||◌, nat_lt, if◌then◌else◌, true, length, slice_index};
-ghost use Rattle.log_image.specs.Image.{total, words_in};
-ghost use Rattle.log_image.specs.Holes.{IsCleared};
-ghost use Rattle.chain_reader.specs.Tables.{shape_by};
-ghost use Rattle.recovery.specs.Openings.{place_of};
+ghost use Rattle.log_image.specs.Image.{total, words_in, shape_by};
+ghost use Rattle.log_image.specs.Tails.{IsCleared};
+ghost use Rattle.recovery.specs.Openings.{as_tail};
 ghost use Rattle.recovery.specs.Clearing.{is_inside};
 
-use crate::holes::Hole;
+use crate::tails::Tail;
 use log_entry::Geometry;
 
-/// Clears the slots after the hole in its block and, where the hole is a slot, that block's link.
-pub fn clear_after(words: &mut [u64], geometry: Geometry, hole: Hole)
+/// Clears the slots after the tail in its block and, where the tail is a slot, that block's link.
+pub fn clear_after(words: &mut [u64], geometry: Geometry, tail: Tail)
     requires whole { length words.old ≡ total (shape_by geometry) * words_in (shape_by geometry) }
-    requires inside { is_inside (shape_by geometry) (place_of hole) ≡ true }
-    ensures { IsCleared (shape_by geometry) (place_of hole) words.old words.new }
+    requires inside { is_inside (shape_by geometry) (as_tail tail) ≡ true }
+    ensures { IsCleared (shape_by geometry) (as_tail tail) words.old words.new }
 {
-    match hole {
-        Hole::Link { .. } => {}
-        Hole::Slot { block, slot } => {
+    match tail {
+        Tail::Link { .. } => {}
+        Tail::Slot { block, slot } => {
             let count = geometry.q() as usize;
             clear_slots(words, block as usize * count, slot as usize, count);
         }

@@ -1,9 +1,8 @@
 //! The header of an image: the conditions on its size and its first four words.
 
 ghost use Rattle.std.specs.Prelude.{◌≡◌, ◌≤◌, ◌<◌, ◌+◌, ◌*◌, length, true, false, Some, None, MatchResult, MatchOption, IfOk};
-ghost use Rattle.log_image.specs.Image.{total, words_in, is_in_log};
+ghost use Rattle.log_image.specs.Image.{total, words_in, is_in_log, shape_by};
 ghost use Rattle.log_image.specs.Header.{shape_of, head_block};
-ghost use Rattle.chain_reader.specs.Tables.{shape_by};
 ghost use Rattle.opening_rules.specs.Checks.{first};
 ghost use Rattle.opening_rules.specs.HeaderChecks.{header_checks, is_bad_geometry, is_bad_head, image_bytes};
 

@@ -1,4 +1,4 @@
-//! Decides what an image holds: opens it, or refuses it for the first condition that holds, and clears what stands after the hole.
+//! Decides what an image holds: opens it, or refuses it for the first condition that holds, and clears what stands after the tail.
 #![tactic(auto)]
 
 mod bits;
@@ -7,7 +7,7 @@ mod block_tests;
 mod blocks;
 mod clearing;
 mod headers;
-pub mod holes;
+pub mod tails;
 pub mod opened;
 pub mod openings;
 mod passing;
@@ -21,7 +21,7 @@ mod slots;
 mod tests;
 mod walks;
 
-pub use holes::Hole;
+pub use tails::Tail;
 pub use opened::Opened;
 pub use openings::{open_bytes, open_words, open_words_with_rest};
 pub use refusals::OpenRefusal;

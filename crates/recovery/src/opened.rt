@@ -1,15 +1,15 @@
 //! An image that opening accepts.
 
 ghost use Rattle.std.specs.Prelude.{◌≡◌, ◌*◌, length};
-ghost use Rattle.recovery.specs.Openings.{Holds};
+ghost use Rattle.recovery.specs.Openings.{IsOpened};
 
 use crate::clearing::clear_after;
-use crate::holes::Hole;
+use crate::tails::Tail;
 use log_entry::Geometry;
 use log_image::Start;
 
-/// An image that opening accepts: its words, which stand for a file, a bitmap of the blocks that its chain names, and the hole
-/// that its chain ends with. What stands after the hole in its block is as it was.
+/// An image that opening accepts: its words, which stand for a file, a bitmap of the blocks that its chain names, and the tail
+/// that its chain ends with. What stands after the tail in its block is as it was.
 #[derive(Drop)]
 pub struct Opened {
     geometry: Geometry,
@@ -18,20 +18,20 @@ pub struct Opened {
     generation: u32,
     position: u64,
     size: u64,
-    hole: Hole,
-    pub ghost kept: { ∥ Holds geometry words.items taken.items generation position size hole ∥₁ },
+    tail: Tail,
+    pub ghost kept: { ∥ IsOpened geometry words.items taken.items generation position size tail ∥₁ },
 }
 
 impl Opened {
     ghost use Rattle.std.specs.Prelude.{List, ℕ};
-    ghost use Rattle.log_image.specs.Holes.{IsCleared};
+    ghost use Rattle.log_image.specs.Tails.{IsCleared};
     ghost use Rattle.log_image.specs.Stands.{StandsBy};
     ghost use Rattle.log_image.specs.Recovered.{Recovered};
-    ghost use Rattle.chain_reader.specs.Tables.{shape_by};
-    ghost use Rattle.recovery.specs.Openings.{place_of};
+    ghost use Rattle.log_image.specs.Image.{shape_by};
+    ghost use Rattle.recovery.specs.Openings.{as_tail};
 
     /// The opened image of these parts: the shape of the image, its words, the bitmap of its taken blocks (64 blocks a word), the
-    /// generation of its chain, the position of its file, the file's size in bytes, and the hole.
+    /// generation of its chain, the position of its file, the file's size in bytes, and the tail.
     pub fn new(
         geometry: Geometry,
         words: Vec<u64>,
@@ -39,16 +39,16 @@ impl Opened {
         generation: u32,
         position: u64,
         size: u64,
-        hole: Hole,
+        tail: Tail,
     ) -> Opened
-        requires { ∥ Holds geometry words.items taken.items generation position size hole ∥₁ }
+        requires { ∥ IsOpened geometry words.items taken.items generation position size tail ∥₁ }
         ensures same_geometry { result.geometry ≡ geometry }
         ensures same_words { result.words ≡ words }
         ensures same_taken { result.taken ≡ taken }
         ensures same_generation { result.generation ≡ generation }
         ensures same_position { result.position ≡ position }
         ensures same_size { result.size ≡ size }
-        ensures same_hole { result.hole ≡ hole }
+        ensures same_tail { result.tail ≡ tail }
     {
         Opened {
             geometry,
@@ -57,7 +57,7 @@ impl Opened {
             generation,
             position,
             size,
-            hole,
+            tail,
         }
     }
 
@@ -71,7 +71,7 @@ impl Opened {
     /// The words of the image. They stand for a file of the size that `size` gives, at the position that `position` gives.
     pub fn words(&self) -> &[u64]
         ensures value { result.now ≡ self.now.words.items }
-        ensures kept { ∥ Holds self.now.geometry result.now self.now.taken.items self.now.generation self.now.position self.now.size self.now.hole ∥₁ }
+        ensures kept { ∥ IsOpened self.now.geometry result.now self.now.taken.items self.now.generation self.now.position self.now.size self.now.tail ∥₁ }
     {
         &self.words
     }
@@ -104,17 +104,17 @@ impl Opened {
         self.size
     }
 
-    /// The hole that the chain ends with.
-    pub fn hole(&self) -> Hole
-        ensures { result ≡ self.now.hole }
+    /// The tail that the chain ends with.
+    pub fn tail(&self) -> Tail
+        ensures { result ≡ self.now.tail }
     {
-        self.hole
+        self.tail
     }
 
-    /// What a run may start from: the image, with 0 in each slot after the hole in the hole's block and, where the hole is a slot,
+    /// What a run may start from: the image, with 0 in each slot after the tail in the tail's block and, where the tail is a slot,
     /// in that block's link. It stands for the same file at the same position.
     pub fn clear(self) -> Start
-        ensures cleared { IsCleared (shape_by self.geometry) (place_of self.hole) self.words.items result.words.items }
+        ensures cleared { IsCleared (shape_by self.geometry) (as_tail self.tail) self.words.items result.words.items }
         ensures recovered { (chain file : List ℕ) (position : ℕ) → StandsBy self.words.items chain file position → Recovered self.words.items result file position }
         ensures same_geometry { result.geometry ≡ self.geometry }
         ensures same_taken { result.taken ≡ self.taken }
@@ -124,7 +124,7 @@ impl Opened {
     {
         let geometry = self.geometry;
         let mut words = self.words;
-        clear_after(&mut words, geometry, self.hole);
+        clear_after(&mut words, geometry, self.tail);
         Start::new(
             geometry,
             words,

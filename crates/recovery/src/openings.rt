@@ -3,12 +3,12 @@
 ghost use Rattle.std.specs.Prelude.{◌≡◌, ◌<◌, ◌*◌, ◌^◌, ◌++◌, ℕ, length, slice_index};
 ghost use Rattle.log_entry.specs.WordBytes.{word_bytes};
 ghost use Rattle.log_image.specs.Header.{shape_of};
-ghost use Rattle.log_image.specs.Holes.{hole_of};
-ghost use Rattle.recovery.specs.Openings.{place_of};
+ghost use Rattle.log_image.specs.Tails.{tail_of};
+ghost use Rattle.recovery.specs.Openings.{as_tail};
 ghost use Rattle.recovery.specs.OpenAnswers.{OpensWords, OpensBytes};
-ghost use Rattle.recovery.specs.Passing.{HasPassed};
+ghost use Rattle.recovery.specs.Passing.{PassesConditions};
 
-use crate::holes::{Hole, hole_in};
+use crate::tails::{Tail, tail_in};
 use crate::opened::Opened;
 use crate::passing::{Passed, pass};
 use crate::reading::Reading;
@@ -72,12 +72,12 @@ fn note_range(words: &[u64])
 
 /// The opened image of these words, of which no condition holds.
 fn opened_by(words: Vec<u64>, passed: Passed) -> Opened
-    requires { HasPassed (8 * length words.items) words.items passed.geometry passed.reading }
+    requires { PassesConditions (8 * length words.items) words.items passed.geometry passed.reading }
     ensures { result.words ≡ words }
 {
     let Passed { geometry, reading } = passed;
     let generation = HEAD_GENERATION.of(words[3]) as u32;
-    let hole = end_hole(&words, geometry, &reading);
+    let tail = end_tail(&words, geometry, &reading);
     let size = reading.table.size();
     let position = reading.position;
     Opened::new(
@@ -87,15 +87,15 @@ fn opened_by(words: Vec<u64>, passed: Passed) -> Opened
         generation,
         position,
         size,
-        hole,
+        tail,
     )
 }
 
-/// The hole that the chain of an image ends with of which no condition holds.
-fn end_hole(words: &[u64], geometry: Geometry, reading: &Reading) -> Hole
-    requires { HasPassed (8 * length words.now) words.now geometry reading.now }
-    ensures { place_of result ≡ hole_of words.now (shape_of words.now) reading.now.chain.items }
+/// The tail that the chain of an image ends with of which no condition holds.
+fn end_tail(words: &[u64], geometry: Geometry, reading: &Reading) -> Tail
+    requires { PassesConditions (8 * length words.now) words.now geometry reading.now }
+    ensures { as_tail result ≡ tail_of words.now (shape_of words.now) reading.now.chain.items }
 {
     let last = reading.chain[reading.chain.len() - 1];
-    hole_in(last, block_at(words, geometry, u64::from(last)))
+    tail_in(last, block_at(words, geometry, u64::from(last)))
 }

@@ -21,14 +21,14 @@ pub struct Reading {
 
 impl Reading {
     ghost use Rattle.std.specs.Prelude.{◌≡◌, ℕ, ◌≤◌, ◌*◌, ◌∷◌, [], length, slice_index, IfOk};
-    ghost use Rattle.log_image.specs.Image.{total};
-    ghost use Rattle.chain_reader.specs.Tables.{shape_by};
+    ghost use Rattle.log_image.specs.Image.{total, shape_by};
     ghost use Rattle.opening_rules.specs.BlockChecks.{start};
-    ghost use Rattle.recovery.specs.Agrees.{Agrees, HasBits};
+    ghost use Rattle.log_image.specs.Taken.{HasBits};
+    ghost use Rattle.recovery.specs.Readings.{HasRead};
 
     /// A reading of no block, with an empty map. Only want of memory refuses it.
     pub fn new(alloc: Global, geometry: Geometry) -> Result<Reading, AllocError>
-        ensures { IfOk result (λ reading. Agrees (shape_by geometry) reading start) }
+        ensures { IfOk result (λ reading. HasRead (shape_by geometry) reading start) }
     {
         let taken = Reading::only_the_header(alloc, geometry)?;
         let table = Table::new(alloc, geometry.block_bytes())?;

@@ -3,13 +3,12 @@
 ghost use Rattle.std.specs.Prelude.{◌≡◌, ◌≤◌, ◌<◌, ◌+◌, ◌*◌, ◌^◌, ℕ, length, slice_index, true, drop};
 ghost use Rattle.std.specs.List.{list_all, flat_map, range_with_len};
 ghost use Rattle.log_entry.specs.Fields.{field};
-ghost use Rattle.log_image.specs.Image.{total, words_in, is_in_data as is_data_block, is_in_log as is_log_area_block};
+ghost use Rattle.log_image.specs.Image.{total, words_in, is_in_data as is_data_block, is_in_log as is_log_area_block, shape_by};
 ghost use Rattle.log_image.specs.Entries.{direct_meaning, indirect_meaning, run_words, run_blocks};
 ghost use Rattle.log_image.specs.Format.{fits, is_run as is_run_word, all_zero, is_indirect_block as is_block_of_runs, is_log_entry as is_entry_of_log, is_snapshot_entry as is_entry_of_snapshot};
-ghost use Rattle.chain_reader.specs.Tables.{shape_by};
 ghost use Rattle.recovery.specs.Limits.{are_limits};
 
-use chain_reader::block_at;
+use chain_reader::{block_at, runs_in};
 use log_entry::Geometry;
 use log_entry::layouts::{
     DIRECT, DIRECT_BLOCK, DIRECT_COUNT, DIRECT_LEFTOVER, DIRECT_UNNAMED, DIRECT_VIRT, ENTRY_KIND,
@@ -123,16 +122,6 @@ fn runs_in_data(geometry: Geometry, runs: &[u64]) -> bool
         }
     }
     true
-}
-
-/// The run words of an indirect block.
-pub fn runs_in(block: &[u64]) -> &[u64]
-    requires some { 1 ≤ length block.now }
-    requires inside { field RUNS_RUNS (slice_index block.now 0) < length block.now }
-    ensures { result.now ≡ run_words block.now }
-{
-    let runs = RUNS_RUNS.of(block[0]) as usize;
-    &block[1..1 + runs]
 }
 
 /// The words of a block from one on.

@@ -2,14 +2,13 @@
 
 ghost use Rattle.std.specs.Prelude.{◌≡◌, ◌+◌, ◌*◌, ◌≤◌, ◌∷◌, [], List, ℕ, true, length};
 ghost use Rattle.std.specs.List.{list_all, flat_map, range_with_len};
-ghost use Rattle.log_image.specs.Image.{Shape, is_in_data, total, words_in};
+ghost use Rattle.log_image.specs.Image.{Shape, is_in_data, total, words_in, shape_by};
 ghost use Rattle.log_image.specs.Entries.{direct_meaning, meaning, names, run_blocks};
 ghost use Rattle.log_image.specs.Format.{fits, is_run, is_log_entry};
-ghost use Rattle.chain_reader.specs.Tables.{shape_by};
 ghost use Rattle.recovery.specs.Names.{HasNamed, TakesNames};
 
-use crate::{bits, rules};
-use chain_reader::block_at;
+use crate::bits;
+use chain_reader::{block_at, runs_in};
 use log_entry::Geometry;
 use log_entry::layouts::{
     DIRECT, DIRECT_BLOCK, DIRECT_COUNT, ENTRY_KIND, INDIRECT_BLOCK, RUN_BLOCK, RUN_COUNT,
@@ -87,6 +86,6 @@ pub fn take_names(
     take_runs(
         taken,
         geometry,
-        rules::runs_in(block_at(words, geometry, holder)),
+        runs_in(block_at(words, geometry, holder)),
     )
 }

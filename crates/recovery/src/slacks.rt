@@ -2,10 +2,10 @@
 
 ghost use Rattle.std.specs.Prelude.{◌≡◌, ℕ, ◌*◌, ◌<◌, ◌≤◌, List, drop, length, true, false, Some};
 ghost use Rattle.log_entry.specs.WordBytes.{word_bytes};
-ghost use Rattle.log_image.specs.Image.{total, words_in};
+ghost use Rattle.log_image.specs.Image.{total, words_in, shape_by};
 ghost use Rattle.log_image.specs.Entries.{Meaning};
 ghost use Rattle.log_image.specs.Maps.{map_of};
-ghost use Rattle.chain_reader.specs.Tables.{shape_by, HasMap};
+ghost use Rattle.chain_reader.specs.Tables.{HasMap};
 ghost use Rattle.opening_rules.specs.Slack.{HasSlack};
 ghost use Rattle.recovery.specs.Slacks.{is_some_nonzero, MapsInside, LooksForSlack};
 

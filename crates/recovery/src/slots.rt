@@ -1,13 +1,12 @@
 //! The slots of a chain block, checked in order and taken in.
 
 ghost use Rattle.std.specs.Prelude.{◌≡◌, ◌≢◌, ◌+◌, ◌*◌, ◌^◌, ◌≤◌, ◌<◌, ◌++◌, ◌∷◌, [], List, ℕ, true, false, length, map, take, IfOk};
-ghost use Rattle.log_image.specs.Image.{total, words_in};
+ghost use Rattle.log_image.specs.Image.{total, words_in, shape_by};
 ghost use Rattle.log_image.specs.Entries.{Meaning, direct_meaning, meaning, names, all_names};
 ghost use Rattle.log_image.specs.Maps.{size_after};
 ghost use Rattle.log_image.specs.Format.{is_log_entry, is_snapshot_entry};
-ghost use Rattle.chain_reader.specs.Tables.{shape_by};
 ghost use Rattle.opening_rules.specs.SlotChecks.{share_checks, log_slot_checks, snapshot_slot_checks, is_bad_slot as is_bad_log_slot};
-ghost use Rattle.recovery.specs.Slots.{HasEntries, Reads, entries_in, used_slot_checks, ReadsLogSlots, entries_if, one_slot_checks};
+ghost use Rattle.recovery.specs.Slots.{HasEntries, ReadsEntries, entries_in, used_slot_checks, ReadsLogSlots, entries_if, one_slot_checks};
 
 use crate::{rules, shares};
 use block_table::Table;
@@ -47,7 +46,7 @@ fn take_log_entry(
     requires whole { length words.now ≡ total (shape_by geometry) * words_in (shape_by geometry) }
     requires entry { is_log_entry words.now (shape_by geometry) word ≡ true }
     ensures { (chain : List ℕ) (size : ℕ) (entries : List Meaning) → HasEntries (shape_by geometry) table.old taken.old chain size entries →
-        Reads result (shape_by geometry) table.new taken.new chain
+        ReadsEntries result (shape_by geometry) table.new taken.new chain
         (share_checks (all_names entries) (names (meaning words.now (shape_by geometry) word)))
         (size_after (shape_by geometry) size (meaning words.now (shape_by geometry) word ∷ []))
         (entries ++ meaning words.now (shape_by geometry) word ∷ []) }
@@ -66,7 +65,7 @@ fn take_snapshot_entry(
 ) -> Result<(), BadImage>
     requires { is_snapshot_entry (shape_by geometry) word ≡ true }
     ensures { (chain : List ℕ) (size : ℕ) (entries : List Meaning) → HasEntries (shape_by geometry) table.old taken.old chain size entries →
-        Reads result (shape_by geometry) table.new taken.new chain
+        ReadsEntries result (shape_by geometry) table.new taken.new chain
         (share_checks (all_names entries) (names (direct_meaning word))) size (entries ++ direct_meaning word ∷ []) }
 {
     shares::take_direct(taken, geometry, word)?;
@@ -101,7 +100,7 @@ fn read_log_slot(
     requires small { position ≤ 2 ^ 40 }
     ensures below { IfOk result (λ done. slot.word ≢ SEAL → position + 1 < 2 ^ 40) }
     ensures answer { (chain : List ℕ) (size : ℕ) (entries : List Meaning) → HasEntries (shape_by geometry) table.old taken.old chain size entries →
-        Reads result (shape_by geometry) table.new taken.new chain
+        ReadsEntries result (shape_by geometry) table.new taken.new chain
         (used_slot_checks words.now (shape_by geometry) slot.block position entries after_seal slot.number slot.word)
         (size_after (shape_by geometry) size (entries_in words.now (shape_by geometry) slot.word))
         (entries ++ entries_in words.now (shape_by geometry) slot.word) }
@@ -174,7 +173,7 @@ fn read_snapshot_slot(
     slot: Slot,
 ) -> Result<(), BadImage>
     ensures { (chain : List ℕ) (size : ℕ) (entries : List Meaning) → HasEntries (shape_by geometry) table.old taken.old chain size entries →
-        Reads result (shape_by geometry) table.new taken.new chain
+        ReadsEntries result (shape_by geometry) table.new taken.new chain
         (one_slot_checks (shape_by geometry) slot.block entries used slot.number slot.word) size (entries ++ entries_if used slot.word) }
 {
     if used && rules::is_snapshot_entry(geometry, slot.word) {
@@ -201,7 +200,7 @@ pub fn read_snapshot_slots(
 ) -> Result<(), BadImage>
     requires { length slots.now ≤ 509 }
     ensures { (chain : List ℕ) (size : ℕ) (entries : List Meaning) → HasEntries (shape_by geometry) table.old taken.old chain size entries →
-        Reads result (shape_by geometry) table.new taken.new chain
+        ReadsEntries result (shape_by geometry) table.new taken.new chain
         (snapshot_slot_checks (shape_by geometry) block entries count 3 slots.now) size (entries ++ map direct_meaning (take count slots.now)) }
 {
     for i in 0..slots.len() {

@@ -2,7 +2,7 @@
 
 ghost use Rattle.std.specs.Prelude.{◌<◌, length};
 
-use crate::{Hole, OpenRefusal, open_bytes, open_words, open_words_with_rest};
+use crate::{Tail, OpenRefusal, open_bytes, open_words, open_words_with_rest};
 use log_entry::to_bytes;
 use opening_rules::BadImage;
 use std::alloc::{AllocError, Global};
@@ -151,13 +151,13 @@ fn words_with_a_rest_are_the_bytes(rt: HostRuntime) -> Result<(), Fail> {
 }
 
 #[test]
-fn what_stands_after_the_hole_is_cleared(rt: HostRuntime) -> Result<(), Fail> {
+fn what_stands_after_the_tail_is_cleared(rt: HostRuntime) -> Result<(), Fail> {
     let alloc = rt.alloc();
     let opened = open_words(alloc, image(alloc, &[(332, ENTRY)])?)?;
     assert_eq!(rt; opened.position(), 0);
     assert_eq!(rt; opened.size(), 0);
-    let slot = Hole::Slot { block: 41, slot: 3 };
-    assert_eq!(rt; opened.hole(), slot);
+    let slot = Tail::Slot { block: 41, slot: 3 };
+    assert_eq!(rt; opened.tail(), slot);
     let start = opened.clear();
     assert_eq!(rt; start.words().get(332).copied(), Some(0));
     assert_eq!(rt;

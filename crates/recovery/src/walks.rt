@@ -1,9 +1,8 @@
-//! The walk of the chain from the head to the first hole.
+//! The walk of the chain from the head to the tail.
 
 ghost use Rattle.std.specs.Prelude.{◌≡◌, ◌≤◌, ◌*◌, length, true};
-ghost use Rattle.log_image.specs.Image.{total, words_in, is_in_log};
+ghost use Rattle.log_image.specs.Image.{total, words_in, is_in_log, shape_by};
 ghost use Rattle.log_image.specs.Header.{head_block};
-ghost use Rattle.chain_reader.specs.Tables.{shape_by};
 ghost use Rattle.recovery.specs.WalkAnswers.{WalkAnswers};
 
 use crate::blocks::read_block;
@@ -13,7 +12,7 @@ use log_entry::Geometry;
 use log_entry::layouts::HEAD_BLOCK;
 use std::alloc::Global;
 
-/// Walks from the head's block to the first hole, and answers what the blocks come to, or the refusal of the first condition on
+/// Walks from the head's block to the tail, and answers what the blocks come to, or the refusal of the first condition on
 /// them that holds.
 pub fn walk_chain(alloc: Global, words: &[u64], geometry: Geometry) -> Result<Reading, OpenRefusal>
     requires whole { length words.now ≡ total (shape_by geometry) * words_in (shape_by geometry) }

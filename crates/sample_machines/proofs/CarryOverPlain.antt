@@ -3,10 +3,11 @@ use Rattle.std.proofs.Common.{ℕ, zero, suc, ◌≡◌, ◌+◌, ◌<◌, ◌�
 use Rattle.std.specs.Prelude.{None, Some}
 use Rattle.std.proofs.lemmas.Bool.{ltb-true, ltb-false}
 use Rattle.std.proofs.lemmas.List.{get_or-drop}
-use Rattle.seat_state.specs.Seats.{Seat}
+use Rattle.pmem_words.specs.Seats.{Seat}
 use Rattle.pmem_words.specs.Courses.{over}
 use Rattle.pmem_words.specs.Leads.{Leads, LeadsAt}
-use Rattle.pmem_words.specs.PlainWords.{PlainWords, plain}
+use Rattle.asks.specs.SharedWords.{SharedWords}
+use Rattle.pmem_words.specs.PlainWords.{plain}
 use Rattle.pmem_words.proofs.PlainLemmas.{leads_plain, leads_plain_kept}
 use Rattle.sample_machines.specs.Carrying.{carry_script}
 use Rattle.sample_machines.specs.Laid.{IsLaid}
@@ -22,7 +23,7 @@ one_more from to n before words laid apart inside =
     let same : slice_index (drop from before) n ≡ slice_index words (from + n) = get_or-drop from before n 0 ∙ sym (laid_before to n (drop from before) before words (from + n) laid apart) in
     subst (λ (x : ℕ). IsLaid to (n + 1) (drop from before) before (slice_set words (to + n) x)) same (more_laid to n (drop from before) before words laid inside)
 
-module _ (Q : Unit {0} → Seat → PlainWords → Type 0) (from to count : ℕ) (s : Seat) (w : PlainWords) (few : count < 65536) (apart : from + count ≤ to) (room : to + count ≤ length w.words)
+module _ (Q : Unit {0} → Seat → SharedWords → Type 0) (from to count : ℕ) (s : Seat) (w : SharedWords) (few : count < 65536) (apart : from + count ≤ to) (room : to + count ≤ length w.words)
     (then : (words : List ℕ) → IsLaid to count (drop from w.words) w.words words → Q tt s (with_words w words)) where
   -- about to load the next word
   abbrev loading : ℕ → Carry
@@ -55,12 +56,12 @@ module _ (Q : Unit {0} → Seat → PlainWords → Type 0) (from to count : ℕ)
   carry_over_plain some = carry_rest count 0 w.words (omega arith) some (none_laid to (drop from w.words) w.words)
 
 -- what is left after carrying alone
-pub record CarriedAlone (from to count : ℕ) (s : Seat) (w : PlainWords) (o : Unit {0}) (t : Seat) (v : PlainWords) : Type 0 where
+pub record CarriedAlone (from to count : ℕ) (s : Seat) (w : SharedWords) (o : Unit {0}) (t : Seat) (v : SharedWords) : Type 0 where
   pub seat : t ≡ s
   pub others : v ≡ with_words w v.words
   pub carried : IsLaid to count (drop from w.words) w.words v.words
 
-pub carried_alone : (from to count : ℕ) (s : Seat) (w : PlainWords) → 0 < count → count < 65536 → from + count ≤ to → to + count ≤ length w.words
+pub carried_alone : (from to count : ℕ) (s : Seat) (w : SharedWords) → 0 < count → count < 65536 → from + count ≤ to → to + count ≤ length w.words
     → Leads carry_script (over carry_script plain) (CarriedAlone from to count s w) (record { from = from; to = to; count = count; next = 0; held = None }) s w
 carried_alone from to count s w some few apart room =
     carry_over_plain (CarriedAlone from to count s w) from to count s w few apart room (λ words is. record { seat = refl; others = refl; carried = is }) some

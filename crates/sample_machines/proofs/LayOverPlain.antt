@@ -1,17 +1,18 @@
 -- Laying over a plain memory, for whatever is to hold afterwards.
 use Rattle.std.proofs.Common.{ℕ, zero, suc, ◌≡◌, ◌+◌, ◌<◌, ◌≤◌, nat_lt, Bool, true, false, List, length, slice_index, slice_set, refl, subst, arith}
 use Rattle.std.proofs.lemmas.Bool.{ltb-true, ltb-false}
-use Rattle.seat_state.specs.Seats.{Seat}
+use Rattle.pmem_words.specs.Seats.{Seat}
 use Rattle.pmem_words.specs.Courses.{over}
 use Rattle.pmem_words.specs.Leads.{Leads, LeadsAt}
-use Rattle.pmem_words.specs.PlainWords.{PlainWords, plain}
+use Rattle.asks.specs.SharedWords.{SharedWords}
+use Rattle.pmem_words.specs.PlainWords.{plain}
 use Rattle.pmem_words.proofs.PlainLemmas.{leads_plain}
 use Rattle.sample_machines.specs.Laid.{IsLaid}
 use Rattle.sample_machines.specs.Laying.{lay_script, if_more}
 use Rattle.sample_machines.specs.Posted.{with_words}
 use Rattle.sample_machines.proofs.LaidLemmas.{none_laid, more_laid}
 
-module _ (Q : Unit {0} → Seat → PlainWords → Type 0) (first : ℕ) (s : Seat) (w : PlainWords) (few : length s.calling.bytes < 65536) (room : first + length s.calling.bytes ≤ length w.words)
+module _ (Q : Unit {0} → Seat → SharedWords → Type 0) (first : ℕ) (s : Seat) (w : SharedWords) (few : length s.calling.bytes < 65536) (room : first + length s.calling.bytes ≤ length w.words)
     (then : (words : List ℕ) → IsLaid first (length s.calling.bytes) s.calling.bytes w.words words → Q tt s (with_words w words)) where
   more_or_end : (b : Bool) (next : ℕ) (words : List ℕ) → nat_lt (next + 1) (length s.calling.bytes) ≡ b
       → (next + 1 < length s.calling.bytes → Leads lay_script (over lay_script plain) Q (record { first = first; next = next + 1 }) s (with_words w words))
@@ -37,12 +38,12 @@ module _ (Q : Unit {0} → Seat → PlainWords → Type 0) (first : ℕ) (s : Se
   lay_over_plain some = lay_rest (length s.calling.bytes) 0 w.words (omega arith) some (none_laid first s.calling.bytes w.words)
 
 -- what is left after laying alone
-pub record LaidAlone (first : ℕ) (s : Seat) (w : PlainWords) (o : Unit {0}) (t : Seat) (v : PlainWords) : Type 0 where
+pub record LaidAlone (first : ℕ) (s : Seat) (w : SharedWords) (o : Unit {0}) (t : Seat) (v : SharedWords) : Type 0 where
   pub seat : t ≡ s
   pub others : v ≡ with_words w v.words
   pub laid : IsLaid first (length s.calling.bytes) s.calling.bytes w.words v.words
 
-pub laid_alone : (first : ℕ) (s : Seat) (w : PlainWords) → 0 < length s.calling.bytes → length s.calling.bytes < 65536 → first + length s.calling.bytes ≤ length w.words
+pub laid_alone : (first : ℕ) (s : Seat) (w : SharedWords) → 0 < length s.calling.bytes → length s.calling.bytes < 65536 → first + length s.calling.bytes ≤ length w.words
     → Leads lay_script (over lay_script plain) (LaidAlone first s w) (record { first = first; next = 0 }) s w
 laid_alone first s w some few room =
     lay_over_plain (LaidAlone first s w) first s w few room (λ words is. record { seat = refl; others = refl; laid = is }) some

@@ -2,16 +2,17 @@
 use Rattle.std.proofs.Common.{ℕ, ◌≡◌, ◌≢◌, ◌+◌, ◌<◌, ◌==◌, if◌then◌else◌, Bool, true, false, List, length, slice_index, slice_set, refl, sym, subst, arith}
 use Rattle.std.proofs.lemmas.Bool.Decides.{nat_tests}
 use Rattle.std.proofs.lemmas.List.{set-get_or}
-use Rattle.seat_state.specs.Seats.{Seat}
+use Rattle.pmem_words.specs.Seats.{Seat}
 use Rattle.pmem_words.specs.Courses.{over}
 use Rattle.pmem_words.specs.Leads.{Leads, LeadsAfter}
-use Rattle.pmem_words.specs.PlainWords.{PlainWords, plain}
+use Rattle.asks.specs.SharedWords.{SharedWords}
+use Rattle.pmem_words.specs.PlainWords.{plain}
 use Rattle.pmem_words.proofs.PlainLemmas.{leads_plain}
 use Rattle.sample_machines.specs.declared.offer.Offer.{Offer}
 use Rattle.sample_machines.specs.Offering.{offer_script, offer_after_if, next_slot}
 use Rattle.sample_machines.specs.Posted.{with_words}
 
-module _ (Q : Bool → Seat → PlainWords → Type 0) (m : Offer) (s : Seat) (w : PlainWords) where
+module _ (Q : Bool → Seat → SharedWords → Type 0) (m : Offer) (s : Seat) (w : SharedWords) where
   offer_if : (b : Bool) → (slice_index w.words s.walk.tail_slot == 0) ≡ b
       → (slice_index w.words s.walk.tail_slot ≡ 0 → Q true s (with_words w (slice_set w.words s.walk.tail_slot m.value)))
       → (slice_index w.words s.walk.tail_slot ≢ 0 → Q false (next_slot s) w)

@@ -2,11 +2,12 @@
 use Rattle.std.proofs.Common.{ℕ, zero, suc, ◌≡◌, ◌≢◌, ◌+◌, ◌<◌, ◌≤◌, nat_lt, Bool, true, false, List, length, slice_index, refl, sym, ◌∙◌, ◌==◌, subst, arith}
 use Rattle.std.proofs.lemmas.Bool.{ltb-true, ltb-false}
 use Rattle.std.proofs.lemmas.Bool.Decides.{nat_tests}
-use Rattle.seat_state.specs.Seats.{Seat}
+use Rattle.pmem_words.specs.Seats.{Seat}
 use Rattle.pmem_words.specs.Courses.{over}
 use Rattle.pmem_words.specs.Leads.{Leads}
 use Rattle.pmem_words.specs.Parts.{Embeds, LeadsOn}
-use Rattle.pmem_words.specs.PlainWords.{PlainWords, plain}
+use Rattle.asks.specs.SharedWords.{SharedWords}
+use Rattle.pmem_words.specs.PlainWords.{plain}
 use Rattle.pmem_words.proofs.StageLemmas.{stage_over}
 use Rattle.sample_machines.specs.declared.lay.Lay.{Lay}
 use Rattle.sample_machines.specs.declared.offer.Offer.{Offer}
@@ -42,7 +43,7 @@ offer_admits m p s a k h = record { part = h; slot = k.0; few = k.1 }
 lay_admits : (m : Post) (p : Lay) (s : Seat) (a : ℕ) → Below m s → lay_script.admits p s a → post_script.admits (at_stage m (Laying p)) s a
 lay_admits m p s a k h = record { part = h; slot = k.0; few = k.1 }
 
-module _ (m : Post) (Q : Bool → Seat → PlainWords → Type 0) {s : Seat} {w : PlainWords} (k : Below m s) where
+module _ (m : Post) (Q : Bool → Seat → SharedWords → Type 0) {s : Seat} {w : SharedWords} (k : Below m s) where
   lay_stage : (p : Lay) → Leads lay_script (over lay_script plain) (λ o t v. LeadsOn post_script (over post_script plain) Q (laid m o t) v) p s w
       → Leads post_script (over post_script plain) Q (at_stage m (Laying p)) s w
   lay_stage p h = stage_over lay_script post_script plain (λ n. at_stage m (Laying n)) (laid m) (λ n t. Below m t) Q (λ n t a b h'. lay_admits m n t a b h') (λ n t a b h' go. b) (at_lay m) k h
@@ -51,11 +52,11 @@ module _ (m : Post) (Q : Bool → Seat → PlainWords → Type 0) {s : Seat} {w 
       → Leads post_script (over post_script plain) Q (at_stage m (Offering p)) s w
   offer_stage p h = stage_over offer_script post_script plain (λ n. at_stage m (Offering n)) (offered m) (λ n t. Below m t) Q (λ n t a b h'. offer_admits m n t a b h') (λ n t a b h' go. absurd (offer_ends (a == 0) n t go)) (at_offer m) k h
 
-module _ (first value limit : ℕ) (s : Seat) (w : PlainWords) (can : CanPost first value limit s w) where
+module _ (first value limit : ℕ) (s : Seat) (w : SharedWords) (can : CanPost first value limit s w) where
   abbrev Whole : Post
   Whole = post_of first value limit
 
-  abbrev Ending : Bool → Seat → PlainWords → Type 0
+  abbrev Ending : Bool → Seat → SharedWords → Type 0
   Ending put t v = IsPosted first value limit s w put t v
 
   abbrev Filled : ℕ → Type 0

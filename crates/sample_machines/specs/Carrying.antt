@@ -1,12 +1,12 @@
 -- What carrying words means.
 use Rattle.std.specs.Prelude.{ℕ, ◌+◌, ◌-◌, ◌*◌, ◌<◌, nat_lt, Option, None, Some}
 use Rattle.std.proofs.Common.{arith}
-use Rattle.seat_state.specs.Seats.{Seat}
+use Rattle.pmem_words.specs.Seats.{Seat}
 use Rattle.pmem_words.specs.Scripts.{After, Script, Lowers}
-use Rattle.pmem_words.specs.declared.asks.Ask.{Ask}
-use Rattle.pmem_words.specs.declared.asks.Ask.TheVariants.{Load, Store}
-use Rattle.pmem_words.specs.declared.asks.Place.TheVariants.{Image}
-use Rattle.pmem_words.specs.declared.asks.Turn.TheVariants.{Go}
+use Rattle.asks.specs.declared.ask.Ask.{Ask}
+use Rattle.asks.specs.declared.ask.Ask.TheVariants.{Load, Store}
+use Rattle.asks.specs.declared.ask.Place.TheVariants.{Image}
+use Rattle.pmem_words.specs.declared.machine.Turn.TheVariants.{Go}
 use Rattle.sample_machines.specs.Laying.{if_more}
 use Rattle.sample_machines.specs.declared.carry.Carry.{Carry}
 

@@ -1,10 +1,10 @@
 -- What offering a value means.
 use Rattle.std.specs.Prelude.{◌≡◌, ◌+◌, ◌<◌, ◌==◌, Bool, true, false}
-use Rattle.seat_state.specs.Seats.{Seat}
+use Rattle.pmem_words.specs.Seats.{Seat}
 use Rattle.pmem_words.specs.Scripts.{After, Script, Lowers}
-use Rattle.pmem_words.specs.declared.asks.Ask.TheVariants.{Exchange}
-use Rattle.pmem_words.specs.declared.asks.Place.TheVariants.{Image}
-use Rattle.pmem_words.specs.declared.asks.Turn.TheVariants.{Go, Done}
+use Rattle.asks.specs.declared.ask.Ask.TheVariants.{Exchange}
+use Rattle.asks.specs.declared.ask.Place.TheVariants.{Image}
+use Rattle.pmem_words.specs.declared.machine.Turn.TheVariants.{Go, Done}
 use Rattle.sample_machines.specs.declared.offer.Offer.{Offer}
 
 -- the seat with the next slot as its tail

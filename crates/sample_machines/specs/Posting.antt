@@ -1,11 +1,11 @@
 -- What a post means: it is said by what its parts mean.
 use Rattle.std.specs.Prelude.{ℕ, ◌≡◌, ◌+◌, ◌-◌, ◌*◌, ◌<◌, ◌==◌, nat_lt, Bool, true, false, length}
 use Rattle.std.proofs.Common.{arith}
-use Rattle.seat_state.specs.Seats.{Seat}
+use Rattle.pmem_words.specs.Seats.{Seat}
 use Rattle.pmem_words.specs.Scripts.{After, Script, Lowers}
 use Rattle.pmem_words.specs.Parts.{Next, Into, End, onward, LowersOn, lowers_onward}
-use Rattle.pmem_words.specs.declared.asks.Ask.{Ask}
-use Rattle.pmem_words.specs.declared.asks.Turn.TheVariants.{Go, Done}
+use Rattle.asks.specs.declared.ask.Ask.{Ask}
+use Rattle.pmem_words.specs.declared.machine.Turn.TheVariants.{Go, Done}
 use Rattle.sample_machines.specs.declared.offer.Offer.{Offer}
 use Rattle.sample_machines.specs.declared.post.Stage.{Stage}
 use Rattle.sample_machines.specs.declared.post.Stage.TheVariants.{Laying, Offering}

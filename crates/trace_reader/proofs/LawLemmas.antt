@@ -4,9 +4,9 @@ use Rattle.std.proofs.lemmas.List.{length-append}
 use Rattle.log_entry.specs.OfTrace.{asked_for}
 use Rattle.log_entry.specs.declared.calls.Op.{Op}
 use Rattle.log_entry.specs.declared.calls.Job.{Job}
-use Rattle.trace_reader.specs.TraceText.{call_text, line_text, trace_text}
+use Rattle.trace_reader.specs.TraceText.{ask_text, line_text, trace_text}
 use Rattle.trace_reader.specs.Trace.{Follows, AllFollow, IsTrace}
-use Rattle.trace_reader.specs.Reading.{GoesOn, IsFirstBadLine, Reads}
+use Rattle.trace_reader.specs.Reading.{GoesOn, IsFirstBadLine, ReadsTrace}
 use Rattle.trace_reader.specs.declared.refusals.BadTrace.{BadTrace}
 use Rattle.trace_reader.specs.declared.refusals.BadTrace.TheVariants.{BadLine, BadSeat, BadNumber, BadHex, TooMuch, TooLong}
 use Rattle.trace_reader.proofs.FrontLemmas.{call_apart}
@@ -58,7 +58,7 @@ ended : (seats : ℕ) (jobs : List Job) → GoesOn seats jobs [] → ⊥
 ended seats jobs on =
     let none : 0 ≡ length (line_text on.0 ++ on.1) = ap length on.3 in
     let whole = length-append (line_text on.0) on.1 in
-    let line = length-append (call_text on.0.seat on.0.op) (codes "\n") in
+    let line = length-append (ask_text on.0.seat on.0.op) (codes "\n") in
     omega (arith, none, whole, line)
 
 -- bytes that are a trace have no bad line
@@ -83,7 +83,7 @@ same_trace seats a b small good other text =
       | inr on ↦ elim on [ inl x ↦ absurd (ended seats a x) | inr y ↦ absurd (ended seats b y) ]
     ]
 
-pub one_reading : (seats : ℕ) (bytes : List ℕ) (one other : Result (List Job) BadTrace) → seats < 256 → Reads seats bytes one → Reads seats bytes other → one ≡ other
+pub one_reading : (seats : ℕ) (bytes : List ℕ) (one other : Result (List Job) BadTrace) → seats < 256 → ReadsTrace seats bytes one → ReadsTrace seats bytes other → one ≡ other
 one_reading seats bytes (Ok a) (Ok b) small x y = ap Ok (same_trace seats a b small x.1 y.1 (sym x.2 ∙ y.2))
 one_reading seats bytes (Ok a) (Err (BadLine n)) small x y = absurd (no_bad_line seats bytes a n small x.1 x.2 y.1)
 one_reading seats bytes (Ok a) (Err TooLong) small x y = absurd (omega (arith, x.0, y))

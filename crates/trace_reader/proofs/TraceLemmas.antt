@@ -7,10 +7,10 @@ use Rattle.std.specs.List.{filter}
 use Rattle.log_entry.specs.OfTrace.{Asked, asked_for}
 use Rattle.log_entry.specs.declared.calls.Op.{Op}
 use Rattle.log_entry.specs.declared.calls.Job.{Job}
-use Rattle.trace_reader.specs.TraceText.{call_text, line_text, trace_text}
+use Rattle.trace_reader.specs.TraceText.{ask_text, line_text, trace_text}
 use Rattle.trace_reader.specs.Trace.{Follows, AllFollow, IsTrace, read_length, read_total}
 use Rattle.trace_reader.specs.Fronts.{CallFront}
-use Rattle.trace_reader.specs.Reading.{GoesOn, IsReadSoFar, Reads, trace_limit}
+use Rattle.trace_reader.specs.Reading.{GoesOn, IsReadSoFar, ReadsTrace, trace_limit}
 use Rattle.trace_reader.specs.declared.refusals.BadTrace.TheVariants.{BadLine}
 use Rattle.trace_reader.proofs.FrontLemmas.{call_apart}
 
@@ -60,7 +60,7 @@ trace_text-long [] = omega arith
 trace_text-long (job ∷ jobs) =
     let rest = trace_text-long jobs in
     let whole = length-append (line_text job) (trace_text jobs) in
-    let line = length-append (call_text job.seat job.op) (codes "\n") in
+    let line = length-append (ask_text job.seat job.op) (codes "\n") in
     omega (arith, rest, whole, line)
 
 length_kept : (b : Bool) (job : Job) (jobs : List Job) (n : ℕ) → length jobs ≤ n → length (cond b (job ∷ jobs) jobs) ≤ suc n
@@ -108,8 +108,8 @@ counted_push counts seat other jobs job inside at before =
     ]
 
 -- a call is the line of its job
-line_of_call : (seat : ℕ) (op : Op) (rest after : List ℕ) → CallFront rest seat op after → rest ≡ (call_text seat op ++ codes "\n") ++ after
-line_of_call seat op rest after there = there.split ∙ sym (append_assoc (call_text seat op) (codes "\n") after)
+line_of_call : (seat : ℕ) (op : Op) (rest after : List ℕ) → CallFront rest seat op after → rest ≡ (ask_text seat op ++ codes "\n") ++ after
+line_of_call seat op rest after there = there.split ∙ sym (append_assoc (ask_text seat op) (codes "\n") after)
 
 pub so_far_more : (seats : ℕ) (bytes : List ℕ) (jobs : List Job) (counts : List ℕ) (sum : ℕ) (rest : List ℕ) (job : Job) (after : List ℕ)
     → IsReadSoFar seats bytes jobs counts sum rest → CallFront rest job.seat job.op after → job.seat < seats → job.line ≡ length jobs + 1 → job.number ≡ get_or counts job.seat 0 + 1 → sum + read_length job.op ≤ 268435456
@@ -148,7 +148,7 @@ so_far_small seats bytes jobs counts sum rest seat far below =
     let short = far.short in
     omega arith
 
-pub so_far_all : (seats : ℕ) (bytes : List ℕ) (jobs : List Job) (counts : List ℕ) (sum : ℕ) (rest : List ℕ) → IsReadSoFar seats bytes jobs counts sum rest → length rest ≡ 0 → Reads seats bytes (Ok jobs)
+pub so_far_all : (seats : ℕ) (bytes : List ℕ) (jobs : List Job) (counts : List ℕ) (sum : ℕ) (rest : List ℕ) → IsReadSoFar seats bytes jobs counts sum rest → length rest ≡ 0 → ReadsTrace seats bytes (Ok jobs)
 so_far_all seats bytes jobs counts sum rest far none =
     (far.short, far.good, far.split ∙ ap (λ (xs : List ℕ). trace_text jobs ++ xs) (nil_from_length rest none) ∙ append-nil (trace_text jobs))
 
@@ -157,22 +157,22 @@ pub job_front : (seats : ℕ) (jobs : List Job) (rest : List ℕ) → seats < 2 
 job_front seats jobs rest small on = record {
   small = let below = on.2.seat in omega arith;
   readable = on.2.readable;
-  split = on.3 ∙ append_assoc (call_text on.0.seat on.0.op) (codes "\n") on.1;
+  split = on.3 ∙ append_assoc (ask_text on.0.seat on.0.op) (codes "\n") on.1;
 }
 
-bad_line : (seats : ℕ) (bytes : List ℕ) (jobs : List Job) (counts : List ℕ) (sum : ℕ) (rest : List ℕ) (line : ℕ) → IsReadSoFar seats bytes jobs counts sum rest → 0 < length rest → line ≡ length jobs + 1 → (GoesOn seats jobs rest → ⊥) → Reads seats bytes (Err (BadLine line))
+bad_line : (seats : ℕ) (bytes : List ℕ) (jobs : List Job) (counts : List ℕ) (sum : ℕ) (rest : List ℕ) (line : ℕ) → IsReadSoFar seats bytes jobs counts sum rest → 0 < length rest → line ≡ length jobs + 1 → (GoesOn seats jobs rest → ⊥) → ReadsTrace seats bytes (Err (BadLine line))
 bad_line seats bytes jobs counts sum rest line far some place bad =
     (far.short, record { before = jobs; rest = rest; good = far.good; split = far.split; place = place; some = some; bad = bad })
 
 -- where no call stands at the front the line is bad
 pub bad_call : (seats : ℕ) (bytes : List ℕ) (jobs : List Job) (counts : List ℕ) (sum : ℕ) (rest : List ℕ) (line : ℕ) → seats < 2 ^ 64 → IsReadSoFar seats bytes jobs counts sum rest → 0 < length rest → line ≡ length jobs + 1
-    → ((seat : ℕ) (op : Op) (after : List ℕ) → CallFront rest seat op after → ⊥) → Reads seats bytes (Err (BadLine line))
+    → ((seat : ℕ) (op : Op) (after : List ℕ) → CallFront rest seat op after → ⊥) → ReadsTrace seats bytes (Err (BadLine line))
 bad_call seats bytes jobs counts sum rest line small far some place none =
     bad_line seats bytes jobs counts sum rest line far some place (λ on. none on.0.seat on.0.op on.1 (job_front seats jobs rest small on))
 
 -- a call of no seat, or one that reads too much, makes the line bad
 pub bad_job : (seats : ℕ) (bytes : List ℕ) (jobs : List Job) (counts : List ℕ) (sum : ℕ) (rest : List ℕ) (line seat : ℕ) (op : Op) (after : List ℕ) → seats < 2 ^ 64 → IsReadSoFar seats bytes jobs counts sum rest → 0 < length rest → line ≡ length jobs + 1
-    → CallFront rest seat op after → (seats ≤ seat) ⊎ (268435456 < sum + read_length op) → Reads seats bytes (Err (BadLine line))
+    → CallFront rest seat op after → (seats ≤ seat) ⊎ (268435456 < sum + read_length op) → ReadsTrace seats bytes (Err (BadLine line))
 bad_job seats bytes jobs counts sum rest line seat op after small far some place there why =
     bad_line seats bytes jobs counts sum rest line far some place (λ on.
     let same = call_apart rest seat on.0.seat op on.0.op after on.1 there (job_front seats jobs rest small on) in

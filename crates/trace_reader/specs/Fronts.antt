@@ -4,7 +4,7 @@ use Rattle.std.specs.Char.{is_ascii_digit}
 use Rattle.std.specs.Str.{all_ascii_digits}
 use Rattle.log_entry.specs.Text.{bytes_text}
 use Rattle.log_entry.specs.declared.calls.Op.{Op}
-use Rattle.trace_reader.specs.TraceText.{op_text, call_text}
+use Rattle.trace_reader.specs.TraceText.{op_text, ask_text}
 use Rattle.trace_reader.specs.Trace.{IsReadable}
 
 -- the digits at the front of a text, all that stand there
@@ -37,4 +37,4 @@ pub record OpFront (text : List ℕ) (op : Op) (rest : List ℕ) : Type 0 where
 pub record CallFront (text : List ℕ) (seat : ℕ) (op : Op) (rest : List ℕ) : Type 0 where
   pub small : seat < 2 ^ 64
   pub readable : IsReadable op
-  pub split : text ≡ call_text seat op ++ 10 ∷ rest
+  pub split : text ≡ ask_text seat op ++ 10 ∷ rest

@@ -28,19 +28,19 @@ pub record IsFirstBadLine (seats : ℕ) (bytes : List ℕ) (line : ℕ) : Type 0
   pub bad : GoesOn seats before rest → ⊥
 
 -- the answer for these bytes and so many seats
-abbrev pub Reads : ℕ → List ℕ → Result (List Job) BadTrace → Type 0
-Reads seats bytes (Ok jobs) = (length bytes ≤ trace_limit) × IsTrace seats jobs × (bytes ≡ trace_text jobs)
-Reads seats bytes (Err (BadLine line)) = (length bytes ≤ trace_limit) × IsFirstBadLine seats bytes line
-Reads seats bytes (Err TooLong) = trace_limit < length bytes
-Reads seats bytes (Err (BadSeat line seat)) = ⊥
-Reads seats bytes (Err (BadNumber line)) = ⊥
-Reads seats bytes (Err (BadHex line)) = ⊥
-Reads seats bytes (Err (TooMuch line)) = ⊥
+abbrev pub ReadsTrace : ℕ → List ℕ → Result (List Job) BadTrace → Type 0
+ReadsTrace seats bytes (Ok jobs) = (length bytes ≤ trace_limit) × IsTrace seats jobs × (bytes ≡ trace_text jobs)
+ReadsTrace seats bytes (Err (BadLine line)) = (length bytes ≤ trace_limit) × IsFirstBadLine seats bytes line
+ReadsTrace seats bytes (Err TooLong) = trace_limit < length bytes
+ReadsTrace seats bytes (Err (BadSeat line seat)) = ⊥
+ReadsTrace seats bytes (Err (BadNumber line)) = ⊥
+ReadsTrace seats bytes (Err (BadHex line)) = ⊥
+ReadsTrace seats bytes (Err (TooMuch line)) = ⊥
 
 -- why these bytes gave no jobs; want of memory may come at any
-abbrev pub Refuses : ℕ → List ℕ → TraceRefusal → Type 0
-Refuses seats bytes (Bad why) = Reads seats bytes (Err why)
-Refuses seats bytes NoMemory = Unit {0}
+abbrev pub RefusesTrace : ℕ → List ℕ → TraceRefusal → Type 0
+RefusesTrace seats bytes (Bad why) = ReadsTrace seats bytes (Err why)
+RefusesTrace seats bytes NoMemory = Unit {0}
 
 -- how far a reader has come: the jobs so far, how many calls each seat has, how many bytes they read, and the text that is left
 pub record IsReadSoFar (seats : ℕ) (bytes : List ℕ) (jobs : List Job) (counts : List ℕ) (sum : ℕ) (rest : List ℕ) : Type 0 where

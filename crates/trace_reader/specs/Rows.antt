@@ -1,15 +1,11 @@
 -- Worked traces: what their bytes are read as.
 use Rattle.std.specs.Prelude.{ℕ, ◌≡◌, List, [], ◌∷◌, Ok, Err, codes}
-use Rattle.log_entry.specs.declared.calls.Op.{Op}
+use Rattle.log_entry.specs.Rows.{asks}
 use Rattle.log_entry.specs.declared.calls.Op.TheVariants.{Pwrite, Append, Pread, Size, Sync, Collect}
 use Rattle.log_entry.specs.declared.calls.Job.{Job}
 use Rattle.trace_reader.specs.TraceText.{trace_text}
-use Rattle.trace_reader.specs.Reading.{Reads}
+use Rattle.trace_reader.specs.Reading.{ReadsTrace}
 use Rattle.trace_reader.specs.declared.refusals.BadTrace.TheVariants.{BadLine}
-
--- the job of a line in a trace of one seat
-abbrev pub asks : ℕ → Op → Job
-asks line op = record { line = line; seat = 0; number = line; op = op }
 
 -- a write of three bytes and a read of ten
 abbrev pub two_jobs : List Job
@@ -27,16 +23,16 @@ OtherLines =
 
 -- the two lines are read as the two jobs
 abbrev pub TwoLinesRead : Type 0
-TwoLinesRead = Reads 1 (codes "0 pwrite 0 616263\n0 pread 0 10\n") (Ok two_jobs)
+TwoLinesRead = ReadsTrace 1 (codes "0 pwrite 0 616263\n0 pread 0 10\n") (Ok two_jobs)
 
 -- no bytes are the trace of no jobs
 abbrev pub NothingRead : Type 0
-NothingRead = Reads 1 [] (Ok [])
+NothingRead = ReadsTrace 1 [] (Ok [])
 
 -- a leading zero is no number's, so that the line is the first bad one
 abbrev pub LeadingZero : Type 0
-LeadingZero = Reads 1 (codes "00 pread 0 1\n") (Err (BadLine 1))
+LeadingZero = ReadsTrace 1 (codes "00 pread 0 1\n") (Err (BadLine 1))
 
 -- a seat that the volume has not
 abbrev pub OtherSeat : Type 0
-OtherSeat = Reads 1 (codes "1 pread 0 1\n") (Err (BadLine 1))
+OtherSeat = ReadsTrace 1 (codes "1 pread 0 1\n") (Err (BadLine 1))

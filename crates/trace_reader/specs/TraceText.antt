@@ -15,12 +15,12 @@ op_text Sync = codes "sync"
 op_text Collect = codes "collect"
 
 -- a line without its newline
-abbrev pub call_text : ℕ → Op → List ℕ
-call_text seat op = decimal seat ++ (codes " " ++ op_text op)
+abbrev pub ask_text : ℕ → Op → List ℕ
+ask_text seat op = decimal seat ++ (codes " " ++ op_text op)
 
 -- a line
 abbrev pub line_text : Job → List ℕ
-line_text job = call_text job.seat job.op ++ codes "\n"
+line_text job = ask_text job.seat job.op ++ codes "\n"
 
 -- a trace
 abbrev pub trace_text : List Job → List ℕ

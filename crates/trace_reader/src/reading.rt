@@ -3,7 +3,7 @@
 ghost use Rattle.std.specs.Prelude.{◌≡◌, ℕ, Ok, IfOk, IfErr};
 ghost use Rattle.log_entry.specs.declared.calls.Op.{Op};
 ghost use Rattle.trace_reader.specs.Trace.{read_length};
-ghost use Rattle.trace_reader.specs.Reading.{Reads, Refuses};
+ghost use Rattle.trace_reader.specs.Reading.{ReadsTrace, RefusesTrace};
 
 use crate::lines::read_line;
 use crate::refusals::{BadTrace, TraceRefusal};
@@ -19,8 +19,8 @@ const MAX_READS: u64 = 268_435_456;
 /// The jobs that a trace asks of the seats below `seats`, or why it asks none: the first line that is none of theirs, a trace of more than
 /// 67,108,864 bytes, or want of memory.
 pub fn read_trace(alloc: Global, bytes: &[u8], seats: u8) -> Result<Vec<Job>, TraceRefusal>
-    ensures read { IfOk result (λ jobs. Reads seats bytes.now (Ok jobs.items)) }
-    ensures refused { IfErr result (λ why. Refuses seats bytes.now why) }
+    ensures read { IfOk result (λ jobs. ReadsTrace seats bytes.now (Ok jobs.items)) }
+    ensures refused { IfErr result (λ why. RefusesTrace seats bytes.now why) }
 {
     if bytes.len() > MAX_TRACE {
         return Err(TraceRefusal::Bad(BadTrace::TooLong));

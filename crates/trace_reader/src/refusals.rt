@@ -30,9 +30,9 @@ pub enum TraceRefusal {
 /// The name of the refusal, a space and the line, and for a seat a space and the seat; `TooLong` alone has no line.
 impl fmt::Display for BadTrace {
     ghost use Rattle.std.specs.Prelude.{Some};
-    ghost use Rattle.trace_reader.specs.RefusalText.{refusal_text};
+    ghost use Rattle.trace_reader.specs.RefusalText.{bad_trace_text};
 
-    ghost output = { λ why. Some (refusal_text why) };
+    ghost output = { λ why. Some (bad_trace_text why) };
 
     fn fmt<W: fmt::Write>(&self, f: &mut fmt::Formatter<W>) -> fmt::Result {
         match self {

@@ -1,6 +1,7 @@
 use Rattle.std.proofs.Common.{ℕ, ◌≡◌, length, List, slice_index, slice_set, ap, ◌∙◌, arith}
-use Rattle.seat_parts.specs.declared.owned.OwnedBlock.{OwnedBlock}
-use Rattle.seat_state.specs.Seats.{Seat, without_bits}
+use Rattle.pmem_words.specs.declared.owned.OwnedBlock.{OwnedBlock}
+use Rattle.pmem_words.specs.Seats.{Seat}
+use Rattle.asks.specs.Asks.{without_bits}
 use Rattle.block_bitmap.specs.GivenBits.{least_word, bits_in}
 use Rattle.block_bitmap.specs.Giving.{next_word, next_bits, without_owned, given_seat}
 use Rattle.block_bitmap.specs.GiveLowering.{left_few}

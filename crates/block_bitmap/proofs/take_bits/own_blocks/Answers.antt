@@ -3,7 +3,7 @@ use Rattle.std.specs.Int.{trailing_zeros}
 use mir.Syntax.{w64}
 use Rattle.std.proofs.lemmas.List.{length_push}
 use Rattle.log_entry.specs.declared.shapes.Area.{Area}
-use Rattle.seat_state.specs.Seats.{Seat, owned_room}
+use Rattle.pmem_words.specs.Seats.{Seat, owned_room}
 use Rattle.block_bitmap.specs.TakeBits.{blocks_in}
 use Rattle.block_bitmap.specs.TakeScript.{fresh, with_taken}
 use Rattle.block_bitmap.proofs.TakeLowest.{none_in, without_lowest, lowest_in}

@@ -1,5 +1,5 @@
 use Rattle.std.proofs.Common.{◌≡◌, ◌+◌, ◌≤◌, length}
-use Rattle.seat_state.specs.Seats.{owned_room}
+use Rattle.pmem_words.specs.Seats.{owned_room}
 use Rattle.block_bitmap.specs.TakeBits.{blocks_in}
 use Rattle.block_bitmap.specs.TakeScript.{with_taken}
 use Rattle.block_bitmap.proofs.take_bits.own_blocks.Given as goal

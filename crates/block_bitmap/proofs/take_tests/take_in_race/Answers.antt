@@ -1,6 +1,6 @@
 use Rattle.std.proofs.Common.{◌≡◌, ◌≤◌, ◌+◌, length, refl, ap, arith}
 use Rattle.log_entry.specs.declared.shapes.Area.TheVariants.{Data}
-use Rattle.seat_state.specs.Seats.{Seat, owned_room}
+use Rattle.pmem_words.specs.Seats.{Seat, owned_room}
 use Rattle.pmem_words.specs.Conducts.{Conduct}
 use Rattle.block_bitmap.specs.declared.take_tests.Raced.{Raced}
 use Rattle.block_bitmap.specs.TakeScript.{last_word}

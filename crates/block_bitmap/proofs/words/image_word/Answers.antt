@@ -1,5 +1,5 @@
 use Rattle.std.proofs.Common.{◌≡◌, ◌≤◌, ◌*◌, arith, ap, ◌∙◌}
-use Rattle.seat_state.specs.Seats.{q_of}
+use Rattle.pmem_words.specs.Seats.{q_of}
 use Rattle.block_bitmap.proofs.BlockWords.{q_range, few_words}
 use Rattle.block_bitmap.proofs.words.image_word.Goals as goal
 

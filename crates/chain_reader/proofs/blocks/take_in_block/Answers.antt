@@ -2,7 +2,7 @@ use Rattle.std.proofs.Common.{◌≡◌, ◌∙◌, ℕ, List, [], Bool, false, 
 use Rattle.log_image.specs.Entries.{meaning}
 use Rattle.log_image.specs.Blocks.{is_snapshot, file_size, slots_of, entry_words}
 use Rattle.log_image.specs.Maps.{size_after}
-use Rattle.chain_reader.specs.Tables.{shape_by}
+use Rattle.log_image.specs.Image.{shape_by}
 use Rattle.chain_reader.proofs.blocks.take_in_block.Goals as goal
 
 pub returns-else-is_snapshot_in-clause-size : goal.returns-else-is_snapshot_in-clause-size

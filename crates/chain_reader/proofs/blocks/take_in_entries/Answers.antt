@@ -1,7 +1,7 @@
 use Rattle.std.proofs.Common.{◌∙◌, refl, arith}
 use Rattle.log_image.specs.Entries.{meaning}
 use Rattle.log_image.specs.Format.{is_log_entry}
-use Rattle.chain_reader.specs.Tables.{shape_by}
+use Rattle.log_image.specs.Image.{shape_by}
 use Rattle.chain_reader.proofs.RunsLemmas.{all_at}
 use Rattle.chain_reader.proofs.SlotLemmas.{one_mapped, one_sized}
 use Rattle.chain_reader.proofs.blocks.take_in_entries.Goals as goal

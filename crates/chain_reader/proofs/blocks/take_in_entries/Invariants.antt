@@ -1,6 +1,6 @@
 use Rattle.std.proofs.Common.{◌≡◌}
 use Rattle.log_image.specs.Entries.{meaning}
-use Rattle.chain_reader.specs.Tables.{shape_by}
+use Rattle.log_image.specs.Image.{shape_by}
 use Rattle.chain_reader.proofs.SlotLemmas.{MapTaken, SizeTaken}
 use Rattle.chain_reader.proofs.blocks.take_in_entries.Given as goal
 

@@ -1,8 +1,7 @@
 use Rattle.std.proofs.Common.{◌≡◌, ◌<◌, ◌+◌, ◌++◌, ◌∷◌, ℕ, List, [], length, sym, ap, ◌∙◌, arith}
-use Rattle.log_image.specs.Image.{total, block_words}
+use Rattle.log_image.specs.Image.{total, block_words, shape_by}
 use Rattle.log_image.specs.Blocks.{base_of}
 use Rattle.std.proofs.lemmas.List.{length-append}
-use Rattle.chain_reader.specs.Tables.{shape_by}
 use Rattle.chain_reader.proofs.WalkLemmas.{first_ready, taken_here, link_ready, next_sound, next_inside, next_few, all_words, read_is}
 use Rattle.chain_reader.proofs.reading.read_chain.Goals as goal
 

@@ -1,6 +1,5 @@
 use Rattle.std.proofs.Common.{◌≡◌, ◌-◌, ◌*◌, length}
-use Rattle.log_image.specs.Image.{words_in, total, block_words}
-use Rattle.chain_reader.specs.Tables.{shape_by}
+use Rattle.log_image.specs.Image.{words_in, total, block_words, shape_by}
 use Rattle.chain_reader.proofs.WalkLemmas.{After}
 use Rattle.chain_reader.proofs.reading.read_chain.Given as goal
 

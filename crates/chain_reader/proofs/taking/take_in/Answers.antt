@@ -2,10 +2,9 @@ use Rattle.std.proofs.Common.{◌≡◌, ◌==◌, ℕ, List, true, false, sym, 
 use Rattle.std.proofs.lemmas.Bool.{ne_eqb}
 use Rattle.log_entry.specs.Fields.{field}
 use Rattle.log_entry.specs.declared.layouts.TheConstants.{ENTRY_KIND, DIRECT, INDIRECT_BLOCK}
-use Rattle.log_image.specs.Image.{block_words}
+use Rattle.log_image.specs.Image.{block_words, shape_by}
 use Rattle.log_image.specs.Entries.{indirect_meaning}
 use Rattle.log_image.specs.Format.{fits}
-use Rattle.chain_reader.specs.Tables.{shape_by}
 use Rattle.chain_reader.proofs.FitsLemmas.{not_direct}
 use Rattle.chain_reader.proofs.taking.take_in.Goals as goal
 

@@ -4,8 +4,8 @@ use Rattle.std.specs.List.{range_with_len}
 use Rattle.log_entry.specs.Fields.{field}
 use Rattle.log_entry.specs.declared.layouts.TheConstants.{DIRECT_VIRT, DIRECT_BLOCK, DIRECT_COUNT, DIRECT_LEFTOVER}
 use Rattle.log_image.specs.Entries.{direct_meaning}
-use Rattle.log_image.specs.Maps.{end_of}
-use Rattle.chain_reader.specs.Tables.{shape_by}
+use Rattle.log_image.specs.Maps.{entry_end}
+use Rattle.log_image.specs.Image.{shape_by}
 use Rattle.chain_reader.proofs.FitsLemmas.{RunNumbers, direct_numbers}
 use Rattle.chain_reader.proofs.MapLemmas.{one_run, mapped_as, grown_by, has_map_of}
 use Rattle.chain_reader.proofs.taking.take_in_direct.Goals as goal
@@ -31,7 +31,7 @@ returns-clause-map c = λ entries has.
 
 pub returns-clause-size : goal.returns-clause-size
 returns-clause-size c =
-    let ends : c.end_of.result ≡ end_of (shape_by c.args.geometry) (direct_meaning c.args.word) =
+    let ends : c.end_of.result ≡ entry_end (shape_by c.args.geometry) (direct_meaning c.args.word) =
     c.end_of.ensures ∙ direct_end c.args.geometry.block_bytes c.of-virt.result c.of-count.result c.of-2.result (field DIRECT_VIRT c.args.word) (field DIRECT_BLOCK c.args.word) (field DIRECT_COUNT c.args.word) (field DIRECT_LEFTOVER c.args.word) c.of-virt.ensures c.of-count.ensures c.of-2.ensures in
     grown_by c.args.table.now c.grow.new.self (shape_by c.args.geometry) (direct_meaning c.args.word)
     (ap (λ m. m.size) c.grow.ensures.grown ∙ ap (λ (n : ℕ). max n c.end_of.result) c.apply.ensures.size ∙ ap (λ (n : ℕ). max c.args.table.now.size n) ends)

@@ -2,8 +2,8 @@ use Rattle.std.proofs.Common.{◌≡◌, ◌+◌, ◌-◌, ◌*◌, ◌≤◌, �
 use Rattle.log_entry.specs.Fields.{field}
 use Rattle.log_entry.specs.declared.layouts.TheConstants.{RUNS_VIRT}
 use Rattle.log_image.specs.Entries.{run_words, indirect_blocks, indirect_meaning}
-use Rattle.log_image.specs.Maps.{end_of}
-use Rattle.chain_reader.specs.Tables.{shape_by}
+use Rattle.log_image.specs.Maps.{entry_end}
+use Rattle.log_image.specs.Image.{shape_by}
 use Rattle.chain_reader.proofs.FitsLemmas.{Fitting, fitting}
 use Rattle.chain_reader.proofs.MapLemmas.{grown_by, has_map_of}
 use Rattle.chain_reader.proofs.RunsLemmas.{NextRun, next_run, read_next, none_read, runs_read}
@@ -63,7 +63,7 @@ returns-clause-size c =
     let past : length (run_words c.args.block.now) ≤ c.loop-run.run-index = subst (λ (l : List ℕ). length l ≤ c.loop-run.run-index) c.runs_in-run-items.ensures (omega arith) in
     let at : c.loop-run.virt ≡ field RUNS_VIRT (get_or c.args.block.now 0 0) + length (indirect_blocks c.args.block.now) =
     (runs_read c.args.table.now c.loop-run.table c.args.holder c.args.block.now c.loop-run.virt c.loop-run.run-index c.loop-run.invariant.read past).0 in
-    let ends : c.end_of.result ≡ end_of (shape_by c.args.geometry) (indirect_meaning c.args.holder c.args.block.now) =
+    let ends : c.end_of.result ≡ entry_end (shape_by c.args.geometry) (indirect_meaning c.args.holder c.args.block.now) =
     c.end_of.ensures ∙ ap (λ (n : ℕ). n * c.args.geometry.block_bytes - c.of-2.result) at
     ∙ ap (λ (n : ℕ). (field RUNS_VIRT (get_or c.args.block.now 0 0) + length (indirect_blocks c.args.block.now)) * c.args.geometry.block_bytes - n) c.of-2.ensures in
     grown_by c.args.table.now c.grow.new.self (shape_by c.args.geometry) (indirect_meaning c.args.holder c.args.block.now)

@@ -1,7 +1,7 @@
 use Rattle.std.proofs.Common.{◌+◌, ℕ, ap, arith, []}
 use Rattle.log_entry.specs.Fields.{field}
 use Rattle.log_entry.specs.declared.layouts.TheConstants.{DIRECT_VIRT, DIRECT_BLOCK, DIRECT_COUNT, DIRECT_LEFTOVER}
-use Rattle.chain_reader.specs.Tables.{shape_by}
+use Rattle.log_image.specs.Image.{shape_by}
 use Rattle.chain_reader.proofs.FitsLemmas.{RunNumbers, direct_numbers, snapshot_fits}
 use Rattle.chain_reader.proofs.MapLemmas.{one_run, mapped_as}
 use Rattle.chain_reader.proofs.taking.take_in_snapshot.Goals as goal

@@ -1,6 +1,6 @@
 use Rattle.std.proofs.Common.{◌≡◌, map, ℕ}
 use Rattle.std.specs.List.{range_with_len}
-use Rattle.seat_state.specs.Seats.{new_seat}
+use Rattle.pmem_words.specs.Seats.{new_seat}
 use Rattle.crash_model.proofs.world.new_seats.Given as goal
 
 abbrev pub invariant-loop-number : goal.invariant-loop-number

@@ -1,5 +1,5 @@
 use Rattle.std.proofs.Common.{◌∙◌}
-use Rattle.pmem_words.specs.Asks.{place, becomes}
+use Rattle.asks.specs.Asks.{place, becomes}
 use Rattle.persistence.specs.Memory.{found}
 use Rattle.persistence.proofs.FenceLaws.{words_stay}
 use Rattle.drive_bench.proofs.cells.turn.Goals as goal

@@ -1,7 +1,7 @@
 use Rattle.std.proofs.Common.{◌≡◌, ◌+◌, ◌*◌, ◌<◌, ◌≤◌, ℕ, length}
 use Rattle.crash_model.specs.Worlds.{seat_of}
 use Rattle.crash_model.specs.Led.{IsResting}
-use Rattle.pins.specs.Seated.{MayTurn}
+use Rattle.world_tests.specs.PinSeats.{MayTurn}
 use Rattle.drive_bench.proofs.world.pinnings.Given as goal
 
 -- each of the sixteen seats is at rest and may take a pin, and there is room for the pinnings that are left

@@ -1,11 +1,11 @@
 use Rattle.std.proofs.Common.{max, ℕ, sym, subst, refl, arith}
 use Rattle.std.proofs.lemmas.List.FromFn.{get_or-map-range_with_len}
-use Rattle.seat_state.specs.Seats.{Seat, new_seat}
+use Rattle.pmem_words.specs.Seats.{Seat, new_seat}
 use Rattle.log_core.specs.Views.{no_geometry}
 use Rattle.crash_model.specs.Worlds.{WorldNow}
 use Rattle.crash_model.specs.Led.{IsResting}
 use Rattle.crash_model.proofs.Resting.{rests_room}
-use Rattle.pins.specs.Seated.{MayTurn}
+use Rattle.world_tests.specs.PinSeats.{MayTurn}
 use Rattle.drive_bench.proofs.world.sixteen_seats.Goals as goal
 
 pub returns-clause-resting : goal.returns-clause-resting

@@ -3,7 +3,7 @@ use Rattle.std.specs.List.{list_all, flat_map}
 use Rattle.log_entry.specs.Geometry.{HasShape}
 use Rattle.log_image.specs.Header.{shape_of}
 use Rattle.log_image.specs.Chains.{IsChain}
-use Rattle.chain_reader.specs.Tables.{shape_by}
+use Rattle.log_image.specs.Image.{shape_by}
 use Rattle.chain_reader.proofs.WalkLemmas.{all_words, same_shape}
 use Rattle.image_tools.specs.Sound.{is_sound_block}
 use Rattle.image_tools.specs.DumpText.{block_text, end_text, dump_text}

@@ -3,13 +3,12 @@ use Rattle.io_ends.specs.Giving.{Gives}
 use Rattle.io_ends.proofs.GivingLemmas.{gives-twice}
 use Rattle.log_entry.specs.Geometry.{HasShape}
 use Rattle.log_image.specs.Header.{shape_of}
-use Rattle.chain_reader.specs.Tables.{shape_by}
 use Rattle.chain_reader.specs.Reads.{StandForSome}
 use Rattle.image_tools.proofs.StartLemmas.{kept_stands, kept_shape, read_within, read_inside}
 use Rattle.image_tools.proofs.FileLemmas.{AreLaid, next_laid, before_end, at_end, few_virtual, some_in, if_some, file_begun, file_read, gives_none, gives_part}
 use Rattle.image_tools.specs.Files.{held_bytes}
 use Rattle.chain_reader.proofs.WalkLemmas.{all_words}
-use Rattle.log_image.specs.Image.{total}
+use Rattle.log_image.specs.Image.{total, shape_by}
 use Rattle.log_image.specs.Stands.{StandsBy}
 use Rattle.std.specs.Int.{div_ceil}
 use Rattle.image_tools.proofs.files.write_file.Goals as goal

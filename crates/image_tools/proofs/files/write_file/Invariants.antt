@@ -1,7 +1,7 @@
 use Rattle.std.proofs.Common.{◌≡◌, ◌≤◌, ◌++◌, ℕ, List}
 use Rattle.io_ends.specs.Faults.{Stays}
 use Rattle.io_ends.specs.Giving.{Gives}
-use Rattle.chain_reader.specs.Tables.{shape_by}
+use Rattle.log_image.specs.Image.{shape_by}
 use Rattle.image_tools.proofs.FileLemmas.{AreLaid}
 use Rattle.image_tools.proofs.files.write_file.Given as goal
 

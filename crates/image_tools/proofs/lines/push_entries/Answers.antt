@@ -1,6 +1,6 @@
 use Rattle.std.proofs.Common.{arith}
 use Rattle.log_image.specs.Format.{is_log_entry}
-use Rattle.chain_reader.specs.Tables.{shape_by}
+use Rattle.log_image.specs.Image.{shape_by}
 use Rattle.chain_reader.proofs.RunsLemmas.{all_at}
 use Rattle.image_tools.proofs.lines.push_entries.Goals as goal
 

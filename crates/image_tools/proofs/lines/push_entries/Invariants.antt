@@ -1,5 +1,5 @@
 use Rattle.std.proofs.Common.{◌≡◌, ◌+◌, ◌++◌, drop}
-use Rattle.chain_reader.specs.Tables.{shape_by}
+use Rattle.log_image.specs.Image.{shape_by}
 use Rattle.image_tools.specs.DumpText.{entry_text, slot_lines}
 use Rattle.image_tools.proofs.lines.push_entries.Given as goal
 

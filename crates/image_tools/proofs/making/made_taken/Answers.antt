@@ -1,8 +1,7 @@
 use Rattle.std.proofs.Common.{◌≡◌, ◌+◌, ◌*◌, ◌/◌, ◌%◌, ◌^◌, ℕ, List, length, get_or, set, sym, ap, ◌∙◌, subst, arith}
 use Rattle.std.specs.Int.RustNames.{bit_or}
 use Rattle.std.specs.Int.{div_ceil}
-use Rattle.log_image.specs.Image.{total}
-use Rattle.chain_reader.specs.Tables.{shape_by}
+use Rattle.log_image.specs.Image.{total, shape_by}
 use Rattle.image_tools.specs.Made.{HasBitsOf}
 use Rattle.image_tools.proofs.BitLemmas.{two_bits, word_in}
 use Rattle.std.proofs.lemmas.List.{get_or_read, length-set, length-replicate}

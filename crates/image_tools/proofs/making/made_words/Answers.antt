@@ -1,8 +1,7 @@
 use Rattle.std.proofs.Common.{◌≡◌, ◌<◌, ◌≤◌, ◌+◌, ◌*◌, ℕ, List, set, sym, ap, ◌∙◌, subst, arith}
-use Rattle.log_image.specs.Image.{total, words_in}
+use Rattle.log_image.specs.Image.{total, words_in, shape_by}
 use Rattle.log_image.specs.JustMade.{first_log, IsJustMade}
 use Rattle.log_image.specs.declared.header.TheConstants.{MAGIC}
-use Rattle.chain_reader.specs.Tables.{shape_by}
 use Rattle.image_tools.proofs.MadeLemmas.{is_made, log_inside}
 use Rattle.image_tools.proofs.making.made_words.Goals as goal
 

@@ -1,6 +1,5 @@
 use Rattle.std.proofs.Common.{ℕ, subst, arith}
-use Rattle.log_image.specs.Image.{total}
-use Rattle.chain_reader.specs.Tables.{shape_by}
+use Rattle.log_image.specs.Image.{total, shape_by}
 use Rattle.image_tools.specs.Made.{HasBitsOf}
 use Rattle.image_tools.proofs.MadeLemmas.{made_kept}
 use Rattle.image_tools.proofs.making.mkfs.Goals as goal

@@ -1,5 +1,5 @@
 -- What was read is not refused.
-use Rattle.chain_reader.specs.Tables.{shape_by}
+use Rattle.log_image.specs.Image.{shape_by}
 use Rattle.madfs_cli.specs.Commands.{made_request}
 use Rattle.madfs_cli.proofs.OutcomeLemmas.{trace_good, try_reads, image_good}
 use Rattle.madfs_cli.proofs.answers.output_of.Goals as goal

@@ -1,6 +1,6 @@
 -- A just-made image stands for the empty file.
 use Rattle.std.proofs.Common.{[], ◌∷◌}
-use Rattle.chain_reader.specs.Tables.{shape_by}
+use Rattle.log_image.specs.Image.{shape_by}
 use Rattle.log_image.specs.JustMade.{first_log}
 use Rattle.image_tools.proofs.MadeLemmas.{allowed}
 use Rattle.madfs_cli.proofs.replays.try_trace.Goals as goal

@@ -1,4 +1,4 @@
-use Rattle.pmem_words.specs.Asks.{place, becomes}
+use Rattle.asks.specs.Asks.{place, becomes}
 use Rattle.persistence.specs.Memory.{found}
 use Rattle.persistence.proofs.FenceLaws.{words_stay}
 use Rattle.persistence.proofs.tests.step.Goals as goal

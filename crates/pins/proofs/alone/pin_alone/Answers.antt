@@ -2,8 +2,9 @@ use Rattle.std.proofs.Common.{sym, ap, ◌∙◌}
 use Rattle.log_entry.specs.declared.words.Head.{Head}
 use Rattle.pmem_words.specs.Courses.{over}
 use Rattle.pmem_words.specs.Drives.{Ends}
-use Rattle.pmem_words.specs.PlainWords.{plain, with_word}
-use Rattle.pmem_words.specs.declared.asks.Place.TheVariants.{Pin as PinWord}
+use Rattle.pmem_words.specs.PlainWords.{plain}
+use Rattle.asks.specs.SharedWords.{with_word}
+use Rattle.asks.specs.declared.ask.Place.TheVariants.{Pin as PinWord}
 use Rattle.pmem_words.proofs.LeadsLemmas.{safe_by, ends_by}
 use Rattle.pins.specs.declared.pin.Pin.TheVariants.{Begin}
 use Rattle.pins.specs.Pinning.{pin_script}

@@ -1,6 +1,6 @@
 use Rattle.std.proofs.Common.{ℕ, List, sym, subst, ap}
 use Rattle.pmem_words.specs.Courses.{over}
-use Rattle.seat_state.specs.Seats.{Seat}
+use Rattle.pmem_words.specs.Seats.{Seat}
 use Rattle.pins.specs.Scanning.{scan_script}
 use Rattle.pins.specs.Endings.{IsHeard}
 use Rattle.pins.proofs.ScanAnswers.{scan_heard}

@@ -1,6 +1,6 @@
 use Rattle.std.proofs.Common.{arith, ap, ◌∙◌, ◌*◌, ◌+◌, ℕ}
 use Rattle.block_table.specs.FileMap.{block_at}
-use Rattle.chain_reader.specs.Tables.{shape_by}
+use Rattle.log_image.specs.Image.{shape_by}
 use Rattle.plain_engine.proofs.StoreLemmas.{RunTo, source_by, run_by, eight_words}
 use Rattle.plain_engine.proofs.stores.store_run.Goals as goal
 

@@ -1,7 +1,6 @@
 use Rattle.std.proofs.Common.{◌≡◌, ℕ, ◌+◌, ◌*◌, ◌<◌, ◌≤◌, ◌⊎◌, get_or}
 use Rattle.block_table.specs.FileMap.{block_at}
-use Rattle.log_image.specs.Image.{block_words, block_content}
-use Rattle.chain_reader.specs.Tables.{shape_by}
+use Rattle.log_image.specs.Image.{block_words, block_content, shape_by}
 use Rattle.plain_engine.specs.Bytes.{laid_byte, present_byte}
 use Rattle.plain_engine.proofs.stores.store_run.Given as goal
 

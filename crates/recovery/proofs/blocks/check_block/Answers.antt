@@ -2,10 +2,9 @@ use Rattle.std.proofs.Common.{◌≡◌, ◌++◌, ◌∷◌, [], ◌∙◌, ap,
 use Rattle.std.proofs.lemmas.Result.{err_from_is_err_and}
 use Rattle.std.proofs.lemmas.List.{with_items_is}
 use Rattle.std.specs.Vec.{with_items}
-use Rattle.log_image.specs.Image.{block_words}
+use Rattle.log_image.specs.Image.{block_words, shape_by}
 use Rattle.log_image.specs.Entries.{all_names}
-use Rattle.opening_rules.specs.BlockChecks.{after}
-use Rattle.chain_reader.specs.Tables.{shape_by}
+use Rattle.opening_rules.specs.BlockChecks.{place_after}
 use Rattle.recovery.specs.Names.{HasNamed}
 use Rattle.recovery.specs.Slots.{HasEntries}
 use Rattle.recovery.proofs.CheckLemmas.{begins, words_refused, slots_refused, refused_as, sets_as, link_checked}
@@ -47,7 +46,7 @@ returns-clause-answer c = λ place agrees.
       in_logs = ap not c.is_snapshot.ensures;
       position = reads.2;
       below = c.in_ok-ended.ensures.below;
-      has = subst (λ (l : List ℕ). HasEntries (shape_by c.args.geometry) c.read_slots.new.table l (place.before ++ c.args.block ∷ []) (after c.args.words.now (shape_by c.args.geometry) place c.args.block c.block_at-own.result.now).size (after c.args.words.now (shape_by c.args.geometry) place c.args.block c.block_at-own.result.now).entries) (sym items) reads.3;
+      has = subst (λ (l : List ℕ). HasEntries (shape_by c.args.geometry) c.read_slots.new.table l (place.before ++ c.args.block ∷ []) (place_after c.args.words.now (shape_by c.args.geometry) place c.args.block c.block_at-own.result.now).size (place_after c.args.words.now (shape_by c.args.geometry) place c.args.block c.block_at-own.result.now).entries) (sym items) reads.3;
     })
-    (c.follow.ensures (place.before ++ c.args.block ∷ []) (all_names (after c.args.words.now (shape_by c.args.geometry) place c.args.block c.block_at-own.result.now).entries)
-    (subst (λ (l : List ℕ). HasNamed (shape_by c.args.geometry) l (place.before ++ c.args.block ∷ []) (all_names (after c.args.words.now (shape_by c.args.geometry) place c.args.block c.block_at-own.result.now).entries)) (sym last) reads.3.named) reads.1)
+    (c.follow.ensures (place.before ++ c.args.block ∷ []) (all_names (place_after c.args.words.now (shape_by c.args.geometry) place c.args.block c.block_at-own.result.now).entries)
+    (subst (λ (l : List ℕ). HasNamed (shape_by c.args.geometry) l (place.before ++ c.args.block ∷ []) (all_names (place_after c.args.words.now (shape_by c.args.geometry) place c.args.block c.block_at-own.result.now).entries)) (sym last) reads.3.named) reads.1)

@@ -1,6 +1,6 @@
 use Rattle.std.proofs.Common.{◌≡◌, ◌==◌, ◌∙◌, ap, ℕ, sym}
 use Rattle.opening_rules.specs.BlockChecks.{is_first}
-use Rattle.chain_reader.specs.Tables.{shape_by}
+use Rattle.log_image.specs.Image.{shape_by}
 use Rattle.recovery.proofs.BlockLemmas.{first_by, second_found, third_found}
 use Rattle.recovery.proofs.blocks.check_words.Goals as goal
 

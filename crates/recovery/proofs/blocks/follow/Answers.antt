@@ -1,6 +1,5 @@
 use Rattle.std.proofs.Common.{◌<◌, ◌∙◌, sym, arith, slice_index}
-use Rattle.log_image.specs.Image.{total}
-use Rattle.chain_reader.specs.Tables.{shape_by}
+use Rattle.log_image.specs.Image.{total, shape_by}
 use Rattle.recovery.proofs.BlockLemmas.{link_followed, log_below}
 use Rattle.recovery.proofs.blocks.follow.Goals as goal
 

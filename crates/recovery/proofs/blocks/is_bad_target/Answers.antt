@@ -1,7 +1,6 @@
 use Rattle.std.proofs.Common.{◌≡◌, ◌||◌, not, ◌∙◌, Bool, ap, sym, true}
-use Rattle.log_image.specs.Image.{is_in_log}
+use Rattle.log_image.specs.Image.{is_in_log, shape_by}
 use Rattle.opening_rules.specs.SlotChecks.{is_among}
-use Rattle.chain_reader.specs.Tables.{shape_by}
 use Rattle.recovery.proofs.NamesLemmas.{log_bit_says}
 use Rattle.recovery.proofs.blocks.is_bad_target.Goals as goal
 

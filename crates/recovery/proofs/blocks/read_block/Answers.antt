@@ -1,5 +1,5 @@
 use Rattle.std.proofs.Common.{◌++◌, ◌∷◌, [], ◌∙◌, ap, ℕ, List}
-use Rattle.chain_reader.specs.Tables.{shape_by}
+use Rattle.log_image.specs.Image.{shape_by}
 use Rattle.std.specs.Global.{Vec}
 use Rattle.recovery.proofs.CheckLemmas.{block_read}
 use Rattle.recovery.proofs.blocks.read_block.Goals as goal

@@ -1,7 +1,7 @@
 use Rattle.std.proofs.Common.{◌≡◌, ◌∙◌, ap, sym, subst, ℕ, true, false, Ok, max}
 use Rattle.std.proofs.lemmas.Result.{err_from_is_err_and}
 use Rattle.log_image.specs.Blocks.{is_snapshot, base_of, entry_count, file_size}
-use Rattle.chain_reader.specs.Tables.{shape_by}
+use Rattle.log_image.specs.Image.{shape_by}
 use Rattle.recovery.specs.BlockAnswers.{ReadsSlots}
 use Rattle.recovery.proofs.BlockLemmas.{base_due, snapshot_as, snapshot_block, log_block, log_refused}
 use Rattle.recovery.proofs.blocks.read_slots.Goals as goal

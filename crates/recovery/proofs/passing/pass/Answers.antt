@@ -1,5 +1,5 @@
 -- The table maps to blocks of the image; where no condition held, the image has passed.
-use Rattle.chain_reader.specs.Tables.{shape_by}
+use Rattle.log_image.specs.Image.{shape_by}
 use Rattle.opening_rules.specs.Walks.{end_place}
 use Rattle.recovery.proofs.PassingLemmas.{maps_inside, all_passed}
 use Rattle.recovery.proofs.passing.pass.Goals as goal

@@ -1,6 +1,6 @@
 use Rattle.std.proofs.Common.{◌≡◌, nat_le, true, arith}
 use Rattle.std.proofs.lemmas.Bool.{le-leb}
-use Rattle.chain_reader.specs.Tables.{shape_by}
+use Rattle.log_image.specs.Image.{shape_by}
 use Rattle.recovery.proofs.RulesLemmas.{row_in_data}
 use Rattle.recovery.proofs.rules.are_in_data.Goals as goal
 

@@ -3,7 +3,7 @@ use Rattle.std.proofs.lemmas.List.FromFn.{length-range_with_len}
 use Rattle.log_entry.specs.Fields.{field}
 use Rattle.log_entry.specs.declared.layouts.TheConstants.{DIRECT_BLOCK, DIRECT_COUNT}
 use Rattle.log_image.specs.Entries.{direct_meaning}
-use Rattle.chain_reader.specs.Tables.{shape_by}
+use Rattle.log_image.specs.Image.{shape_by}
 use Rattle.recovery.proofs.RulesLemmas.{fits_in, fits_not}
 use Rattle.recovery.proofs.rules.direct_fits.Goals as goal
 

@@ -3,10 +3,9 @@ use Rattle.std.proofs.lemmas.Bool.{eq-eqb, ne_eqb}
 use Rattle.log_entry.specs.Shape.{longest_of}
 use Rattle.log_entry.specs.Fields.{field}
 use Rattle.log_entry.specs.declared.layouts.TheConstants.{ENTRY_KIND, DIRECT, INDIRECT, INDIRECT_BLOCK, INDIRECT_UNNAMED}
-use Rattle.log_image.specs.Image.{is_in_data, block_words}
+use Rattle.log_image.specs.Image.{is_in_data, block_words, shape_by}
 use Rattle.log_image.specs.Entries.{indirect_meaning}
 use Rattle.log_image.specs.Format.{fits, is_indirect_block}
-use Rattle.chain_reader.specs.Tables.{shape_by}
 use Rattle.recovery.proofs.RulesLemmas.{indirect_entry}
 use Rattle.recovery.proofs.rules.is_log_entry.Goals as goal
 

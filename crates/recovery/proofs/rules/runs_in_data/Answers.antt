@@ -1,5 +1,5 @@
 use Rattle.std.proofs.Common.{◌+◌, false}
-use Rattle.chain_reader.specs.Tables.{shape_by}
+use Rattle.log_image.specs.Image.{shape_by}
 use Rattle.recovery.proofs.RulesLemmas.{data_more, data_not}
 use Rattle.recovery.proofs.rules.runs_in_data.Goals as goal
 

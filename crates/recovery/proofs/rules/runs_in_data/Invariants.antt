@@ -1,8 +1,7 @@
 use Rattle.std.proofs.Common.{◌≡◌, true, take}
 use Rattle.std.specs.List.{flat_map, list_all}
-use Rattle.log_image.specs.Image.{is_in_data}
+use Rattle.log_image.specs.Image.{is_in_data, shape_by}
 use Rattle.log_image.specs.Entries.{run_blocks}
-use Rattle.chain_reader.specs.Tables.{shape_by}
 use Rattle.recovery.proofs.rules.runs_in_data.Given as goal
 
 abbrev pub invariant-loop-run : goal.invariant-loop-run

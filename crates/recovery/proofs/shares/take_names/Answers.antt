@@ -2,9 +2,8 @@ use Rattle.std.proofs.Common.{◌≡◌, ◌∙◌, ℕ, true, sym, ap, subst}
 use Rattle.std.proofs.lemmas.Result.{err_from_is_err_and}
 use Rattle.log_entry.specs.Fields.{field}
 use Rattle.log_entry.specs.declared.layouts.TheConstants.{ENTRY_KIND, DIRECT}
-use Rattle.log_image.specs.Image.{block_words, is_in_data}
+use Rattle.log_image.specs.Image.{block_words, is_in_data, shape_by}
 use Rattle.log_image.specs.Entries.{run_words}
-use Rattle.chain_reader.specs.Tables.{shape_by}
 use Rattle.recovery.proofs.NamesLemmas.{has_holder, indirect_taken, indirect_shared}
 use Rattle.recovery.proofs.shares.take_names.Goals as goal
 

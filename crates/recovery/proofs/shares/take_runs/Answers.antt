@@ -2,7 +2,7 @@ use Rattle.std.proofs.Common.{◌+◌, List, ℕ, arith, subst, Ok, Err, take_al
 use Rattle.std.specs.List.{flat_map}
 use Rattle.std.proofs.lemmas.Result.{err_from_is_err_and}
 use Rattle.log_image.specs.Entries.{run_blocks}
-use Rattle.chain_reader.specs.Tables.{shape_by}
+use Rattle.log_image.specs.Image.{shape_by}
 use Rattle.recovery.specs.Names.{TakesNames}
 use Rattle.recovery.proofs.NamesLemmas.{none_taken, run_taken, runs_shared, run_inside, run_row}
 use Rattle.recovery.proofs.shares.take_runs.Goals as goal

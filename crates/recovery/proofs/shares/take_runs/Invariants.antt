@@ -1,4 +1,4 @@
-use Rattle.chain_reader.specs.Tables.{shape_by}
+use Rattle.log_image.specs.Image.{shape_by}
 use Rattle.recovery.proofs.NamesLemmas.{RunsTaken}
 use Rattle.recovery.proofs.shares.take_runs.Given as goal
 

@@ -1,6 +1,6 @@
 -- Each mapped virtual block from the end of the file on is looked at, in ascending order.
 use Rattle.std.proofs.Common.{refl, arith}
-use Rattle.chain_reader.specs.Tables.{shape_by}
+use Rattle.log_image.specs.Image.{shape_by}
 use Rattle.recovery.proofs.SlackLemmas.{run_mapped, slack_before_run, slack_up_to_run, slack_nowhere}
 use Rattle.recovery.proofs.slacks.first_slack.Goals as goal
 

@@ -1,6 +1,7 @@
 use Rattle.std.proofs.Common.{ℕ, List, ◌<◌, ◌≤◌, ◌-◌}
 use Rattle.log_image.specs.Entries.{Meaning}
-use Rattle.chain_reader.specs.Tables.{shape_by, HasMap}
+use Rattle.log_image.specs.Image.{shape_by}
+use Rattle.chain_reader.specs.Tables.{HasMap}
 use Rattle.opening_rules.specs.Slack.{HasSlack}
 use Rattle.recovery.proofs.slacks.first_slack.Given as goal
 

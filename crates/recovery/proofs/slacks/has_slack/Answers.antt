@@ -1,5 +1,5 @@
 -- The bytes that the look passes over are those before the end of the file.
-use Rattle.chain_reader.specs.Tables.{shape_by}
+use Rattle.log_image.specs.Image.{shape_by}
 use Rattle.recovery.proofs.SlackLemmas.{slack_yes, slack_no}
 use Rattle.recovery.proofs.slacks.has_slack.Goals as goal
 

@@ -2,7 +2,7 @@ use Rattle.std.proofs.Common.{◌∙◌, sym}
 use Rattle.std.proofs.lemmas.Bool.{or_from, ne_eqb}
 use Rattle.log_entry.specs.declared.layouts.TheConstants.{SEAL}
 use Rattle.opening_rules.specs.SlotChecks.{is_bad_slot}
-use Rattle.chain_reader.specs.Tables.{shape_by}
+use Rattle.log_image.specs.Image.{shape_by}
 use Rattle.recovery.proofs.SlotsLemmas.{slot_read}
 use Rattle.recovery.proofs.slots.read_log_slot.Goals as goal
 

@@ -2,7 +2,7 @@ use Rattle.std.proofs.Common.{◌≡◌, ◌+◌, ◌==◌, ◌∷◌, ◌∙◌
 use Rattle.std.proofs.lemmas.Result.{err_from_is_err_and}
 use Rattle.std.proofs.lemmas.Bool.Decides.{nat_tests}
 use Rattle.std.proofs.Math.ListN.{drop_of_length-le}
-use Rattle.chain_reader.specs.Tables.{shape_by}
+use Rattle.log_image.specs.Image.{shape_by}
 use Rattle.recovery.proofs.SlotsLemmas.{slot_more, empty_here, all_read, refused, entries_count}
 use Rattle.recovery.proofs.slots.read_log_slots.Goals as goal
 use Rattle.recovery.proofs.slots.read_log_slots.Goals.{then-not-after_seal, else-not-after_seal}

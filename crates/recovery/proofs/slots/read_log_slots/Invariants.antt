@@ -1,6 +1,6 @@
 use Rattle.std.proofs.Common.{◌<◌, ◌+◌, ◌^◌, ℕ, List}
 use Rattle.log_image.specs.Entries.{Meaning}
-use Rattle.chain_reader.specs.Tables.{shape_by}
+use Rattle.log_image.specs.Image.{shape_by}
 use Rattle.recovery.specs.Slots.{HasEntries}
 use Rattle.recovery.proofs.SlotsLemmas.{ReadTo}
 use Rattle.recovery.proofs.slots.read_log_slots.Given as goal

@@ -1,5 +1,5 @@
 use Rattle.std.proofs.Common.{◌∙◌, sym}
-use Rattle.chain_reader.specs.Tables.{shape_by}
+use Rattle.log_image.specs.Image.{shape_by}
 use Rattle.recovery.proofs.SnapshotLemmas.{entry_read}
 use Rattle.recovery.proofs.slots.read_snapshot_slot.Goals as goal
 

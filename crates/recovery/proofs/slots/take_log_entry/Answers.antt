@@ -1,7 +1,7 @@
 use Rattle.std.proofs.Common.{◌∷◌, []}
 use Rattle.log_image.specs.Maps.{size_after}
 use Rattle.log_image.specs.Entries.{meaning, all_names}
-use Rattle.chain_reader.specs.Tables.{shape_by}
+use Rattle.log_image.specs.Image.{shape_by}
 use Rattle.recovery.proofs.SlotsLemmas.{entry_taken}
 use Rattle.recovery.proofs.slots.take_log_entry.Goals as goal
 

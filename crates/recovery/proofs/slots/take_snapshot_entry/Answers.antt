@@ -1,6 +1,6 @@
 use Rattle.std.proofs.Common.{◌∙◌}
 use Rattle.log_image.specs.Entries.{direct_meaning, all_names}
-use Rattle.chain_reader.specs.Tables.{shape_by}
+use Rattle.log_image.specs.Image.{shape_by}
 use Rattle.recovery.proofs.SlotsLemmas.{entry_taken}
 use Rattle.recovery.proofs.slots.take_snapshot_entry.Goals as goal
 

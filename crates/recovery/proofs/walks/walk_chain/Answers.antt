@@ -1,5 +1,5 @@
 -- Each step answers at the place where the walk stands.
-use Rattle.chain_reader.specs.Tables.{shape_by}
+use Rattle.log_image.specs.Image.{shape_by}
 use Rattle.recovery.proofs.Standing.{refused_by, stands_next, stands_falls, stands_last}
 use Rattle.recovery.proofs.walks.walk_chain.Goals as goal
 

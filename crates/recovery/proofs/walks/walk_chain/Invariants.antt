@@ -1,5 +1,4 @@
-use Rattle.log_image.specs.Image.{total}
-use Rattle.chain_reader.specs.Tables.{shape_by}
+use Rattle.log_image.specs.Image.{total, shape_by}
 use Rattle.recovery.proofs.Standing.{Standing, unseen}
 use Rattle.recovery.proofs.walks.walk_chain.Given as goal
 

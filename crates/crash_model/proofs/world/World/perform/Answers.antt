@@ -1,5 +1,5 @@
 use Rattle.std.proofs.Common.{ℕ, sym, subst, arith}
-use Rattle.seat_state.specs.Seats.{new_seat}
+use Rattle.pmem_words.specs.Seats.{new_seat}
 use Rattle.log_core.specs.Views.{no_geometry}
 use Rattle.crash_model.specs.Worlds.{WorldNow, StandsForSome, StandsAfter, world_after}
 use Rattle.crash_model.proofs.Standing.{takes, seat_made, low, rises_small, stands_some, stands_each, world_is}

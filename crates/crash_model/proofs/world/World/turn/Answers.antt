@@ -1,5 +1,5 @@
 use Rattle.std.proofs.Common.{◌<◌, length, sym, subst}
-use Rattle.pmem_words.specs.declared.asks.Ask.{Ask}
+use Rattle.asks.specs.declared.ask.Ask.{Ask}
 use Rattle.crash_model.specs.Worlds.{WorldNow, HasFitting}
 use Rattle.crash_model.proofs.Standing.{seat_made}
 use Rattle.crash_model.proofs.world.World.turn.Goals as goal

@@ -1,7 +1,7 @@
 use Rattle.std.proofs.Common.{◌≡◌, ◌∙◌, ◌<◌, ◌+◌, ◌*◌, ◌&&◌, ℕ, nat_le, nat_lt, if◌then◌else◌, List, take, drop, set, ◌++◌, length, ap, sym, subst, arith}
 use Rattle.std.proofs.Math.Logic.{∥∥₁_map}
 use Rattle.log_image.specs.Taken.{bit_of}
-use Rattle.chain_reader.specs.Tables.{shape_by}
+use Rattle.log_image.specs.Image.{shape_by}
 use Rattle.plain_engine.specs.Running.{Runs, RunsOnSome}
 use Rattle.plain_engine.specs.declared.engine.PlainEngine.{PlainEngine}
 use Rattle.plain_engine.proofs.BoundsLemmas.{Bounds, bounds}

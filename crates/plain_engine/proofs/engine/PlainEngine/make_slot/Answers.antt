@@ -1,8 +1,7 @@
 use Rattle.std.proofs.Common.{◌≡◌, ◌∙◌, ◌<◌, ◌+◌, ◌*◌, ℕ, List, [], ◌∷◌, take, drop, set, ◌++◌, length, ap, sym, subst, refl, arith, ◌==◌, if◌then◌else◌}
 use Rattle.std.proofs.Math.Logic.{∥∥₁_map}
-use Rattle.log_image.specs.Image.{total}
+use Rattle.log_image.specs.Image.{total, shape_by}
 use Rattle.log_image.specs.Taken.{bit_of}
-use Rattle.chain_reader.specs.Tables.{shape_by}
 use Rattle.plain_engine.specs.Clear.{AllTaken}
 use Rattle.plain_engine.specs.Running.{Runs, RunsOnSome}
 use Rattle.plain_engine.specs.declared.engine.PlainEngine.{PlainEngine}

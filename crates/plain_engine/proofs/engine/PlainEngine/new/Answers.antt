@@ -4,7 +4,7 @@ use Rattle.log_entry.specs.Geometry.{HasShape}
 use Rattle.log_entry.specs.declared.shapes.Geometry.{Geometry}
 use Rattle.log_image.specs.Header.{shape_of}
 use Rattle.log_image.specs.Chains.{IsChain}
-use Rattle.chain_reader.specs.Tables.{shape_by}
+use Rattle.log_image.specs.Image.{shape_by}
 use Rattle.chain_reader.specs.Reads.{IsReadOf}
 use Rattle.log_image.specs.Stands.{StandsBy}
 use Rattle.plain_engine.specs.Running.{Fits, RunsOnSome}

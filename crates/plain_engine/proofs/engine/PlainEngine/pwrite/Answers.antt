@@ -5,7 +5,7 @@ use Rattle.log_entry.specs.declared.shapes.Area.{Area}
 use Rattle.log_entry.specs.declared.calls.Op.TheVariants.{Pwrite}
 use Rattle.log_entry.specs.declared.calls.WriteRefusal.TheVariants.{NoSpace}
 use Rattle.log_entry.specs.declared.calls.Reply.TheVariants.{Wrote, NotWritten}
-use Rattle.chain_reader.specs.Tables.{shape_by}
+use Rattle.log_image.specs.Image.{shape_by}
 use Rattle.plain_engine.specs.Engine.{Writes}
 use Rattle.plain_engine.specs.Serving.{Serves}
 use Rattle.plain_engine.proofs.BoundsLemmas.{bounds}

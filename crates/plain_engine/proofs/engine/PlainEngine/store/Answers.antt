@@ -1,9 +1,8 @@
 use Rattle.std.proofs.Common.{◌≡◌, ◌∙◌, ◌≤◌, ◌+◌, ℕ, List, take, drop, ◌++◌, length, ap, sym, subst, refl, get_or, arith}
 use Rattle.std.proofs.Math.Logic.{∥∥₁_map}
-use Rattle.log_image.specs.Image.{total}
-use Rattle.log_image.specs.Holes.{hole_of}
+use Rattle.log_image.specs.Image.{total, shape_by}
+use Rattle.log_image.specs.Tails.{tail_of}
 use Rattle.log_image.specs.Taken.{is_taken}
-use Rattle.chain_reader.specs.Tables.{shape_by}
 use Rattle.plain_engine.specs.Running.{Runs, RunsOnSome}
 use Rattle.plain_engine.proofs.BoundsLemmas.{bounds}
 use Rattle.plain_engine.proofs.RunningSteps.{store_at, store_names}
@@ -48,7 +47,7 @@ returns-clause-names c = λ chain file runs.
     (keeps_by (shape_by e.geometry) e.words.items c.deref_mut.result.now c.store_run.new.words e.taken.items chain c.args.run.block c.args.run.count c.deref_mut.ensures.value runs.fits.bitmap inside c.requires.clear c.store_run.auto.words c.store_run.ensures.others) in
     record {
       taken = subst (λ (l : List ℕ). (block : ℕ) → is_taken l (shape_by e.geometry) chain block ≡ is_taken e.words.items (shape_by e.geometry) chain block) (sym back) both.0;
-      hole = subst (λ (l : List ℕ). hole_of l (shape_by e.geometry) chain ≡ hole_of e.words.items (shape_by e.geometry) chain) (sym back) both.1;
+      tail = subst (λ (l : List ℕ). tail_of l (shape_by e.geometry) chain ≡ tail_of e.words.items (shape_by e.geometry) chain) (sym back) both.1;
     }
 
 pub returns-clause-same : goal.returns-clause-same

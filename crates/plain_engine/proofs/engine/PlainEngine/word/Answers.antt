@@ -1,10 +1,9 @@
 use Rattle.std.proofs.Common.{◌≡◌, ◌∙◌, ◌<◌, ◌≤◌, ◌+◌, ◌*◌, ◌/◌, ◌%◌, ℕ, Some, inl, inr, length, get_or, ap, sym, arith}
 use Rattle.std.proofs.lemmas.Grind.{common_steps}
-use Rattle.log_image.specs.Image.{words_in, total}
+use Rattle.log_image.specs.Image.{words_in, total, shape_by}
 use Rattle.log_image.proofs.BlockLemmas.{block_inside}
 use Rattle.std.proofs.Math.Nat.{mod-lt}
 use Rattle.block_table.specs.FileMap.{block_at}
-use Rattle.chain_reader.specs.Tables.{shape_by}
 use Rattle.plain_engine.specs.Bytes.{byte_of}
 use Rattle.plain_engine.specs.declared.engine.PlainEngine.{PlainEngine}
 use Rattle.plain_engine.proofs.BoundsLemmas.{Bounds, bounds, data_inside}

@@ -1,10 +1,9 @@
 use Rattle.std.proofs.Common.{◌≡◌, ◌∙◌, ◌≤◌, ◌+◌, ◌-◌, ◌*◌, ◌/◌, ℕ, zero, suc, true, false, List, Some, None, length, ap, sym, subst, refl, arith}
 use Rattle.log_entry.specs.ByteFile.{write}
 use Rattle.log_entry.specs.Legal.{touched_blocks}
-use Rattle.log_image.specs.Image.{Shape}
+use Rattle.log_image.specs.Image.{Shape, shape_by}
 use Rattle.log_image.specs.Taken.{bit_of}
 use Rattle.image_steps.specs.Steps.{fits_log}
-use Rattle.chain_reader.specs.Tables.{shape_by}
 use Rattle.plain_engine.specs.Clear.{IsLeastRun}
 use Rattle.plain_engine.specs.Space.{lacks_data}
 use Rattle.plain_engine.specs.Names.{NamesAfter}
@@ -68,7 +67,7 @@ returns-then-not-make_slot c = λ chain file runs.
       longer = chain;
       runs = none.runs;
       names = subst (λ (l : List ℕ). NamesAfter (shape_by e.geometry) e.words.items chain None l chain) (sym none.same)
-          (names_stay (shape_by e.geometry) e.words.items c.store.new.self.words.items chain (c.store.ensures.names chain file runs).taken (c.store.ensures.names chain file runs).hole);
+          (names_stay (shape_by e.geometry) e.words.items c.store.new.self.words.items chain (c.store.ensures.names chain file runs).taken (c.store.ensures.names chain file runs).tail);
     }
 
 pub commit-requires-clause-first : goal.commit-requires-clause-first

@@ -1,7 +1,6 @@
 -- The first word has the lowest bit alone, and the others none.
 use Rattle.std.proofs.Common.{◌≡◌, ◌≤◌, ◌*◌, length, arith}
-use Rattle.log_image.specs.Image.{total}
-use Rattle.chain_reader.specs.Tables.{shape_by}
+use Rattle.log_image.specs.Image.{total, shape_by}
 use Rattle.recovery.proofs.HeaderBits.{only_header}
 use Rattle.recovery.proofs.reading.Reading.only_the_header.Goals as goal
 

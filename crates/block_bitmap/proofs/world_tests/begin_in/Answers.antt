@@ -1,5 +1,0 @@
-use Rattle.block_bitmap.proofs.WorldLemmas.{begun_rest}
-use Rattle.block_bitmap.proofs.world_tests.begin_in.Goals as goal
-
-pub returns-clause-resting : goal.returns-clause-resting
-returns-clause-resting c = rw (c.begin_alone.ensures, c.seat.ensures.value) (begun_rest c.args.world.now c.args.seat c.args.task c.requires.inside c.requires.task c.requires.alone c.requires.resting)

@@ -1,3 +1,0 @@
-mod MapLemmas
-mod RoomLemmas
-pub mod MapLaws

@@ -1,0 +1,5 @@
+pub mod PinLemmas
+pub mod BlockLemmas
+pub mod Takes
+pub mod Fills
+pub mod Gives

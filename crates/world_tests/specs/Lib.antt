@@ -1,0 +1,2 @@
+pub mod PinSeats
+pub mod AloneSeats

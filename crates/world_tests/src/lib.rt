@@ -1,0 +1,13 @@
+//! Machines at the seats of a world, each run by turns, and tests of worlds of several seats. No command stands on it.
+#![tactic(auto)]
+
+#[cfg(test)]
+mod block_tests;
+pub mod block_turns;
+#[cfg(test)]
+mod pin_tests;
+pub mod pin_turns;
+
+/// A machine has not ended in the turns that it was given.
+#[derive(Clone, Copy, Debug)]
+pub struct Unfinished;
