@@ -208,7 +208,7 @@ filter_same p q [] same = refl
 filter_same p q (x ∷ xs) same = rw (same x, filter_same p q xs same) refl
 
 pub lacks_log_same : (words new : List ℕ) (shape : Shape) (chain : List ℕ) → ((block : ℕ) → is_taken new shape chain block ≡ is_taken words shape chain block) → tail_of new shape chain ≡ tail_of words shape chain → lacks_log new shape chain ≡ lacks_log words shape chain
-lacks_log_same words new shape chain taken tail =
+lacks_log_same words new shape chain taken tail_there =
     ap (λ (h : Tail). is_link h && length (clear_blocks new shape chain (1 + shape.data_blocks) shape.log_blocks) == 0) tail_there
     ∙ ap (λ (l : List ℕ). is_link (tail_of words shape chain) && length l == 0) (filter_same (λ (b : ℕ). not (is_taken new shape chain b)) (λ (b : ℕ). not (is_taken words shape chain b)) (range_with_len (1 + shape.data_blocks) shape.log_blocks) (λ b. ap (λ (t : Bool). not t) (taken b)))
 
