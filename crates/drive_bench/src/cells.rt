@@ -5,8 +5,8 @@ ghost use Rattle.persistence.specs.Memory.{Memory};
 ghost use Rattle.persistence.specs.Cells.{MemoryTakes};
 ghost use Rattle.drive_bench.specs.declared.cells.TheConstants.{WORDS};
 
-use persistence::Cells;
 use asks::{Ask, Place};
+use persistence::Cells;
 use std::alloc::{AllocError, Global};
 
 /// The words of an image of 16,384 data blocks and 64 log blocks of 4096 bytes: 16,533 blocks of 512 words.
