@@ -12,7 +12,7 @@ use Rattle.log_core.specs.Steps.{MarksWord, ghost_after, is_head_marked}
 use Rattle.log_core.specs.May.{OfOwned}
 use Rattle.log_core.specs.Within.{no_record, adds_at, EntersOffered, Lawful}
 use Rattle.block_bitmap.specs.declared.fill.Fill.TheVariants.{Mark}
-use Rattle.block_bitmap.specs.OwnedWords.{block_at, image_word, content_at, counted}
+use Rattle.block_bitmap.specs.OwnedWords.{owned_block_at, image_word, content_at, with_filled_block}
 use Rattle.block_bitmap.specs.Filling.{fill_script, block_next, marked_after}
 use Rattle.block_bitmap.specs.Filled.{filled_anew, filled_from}
 use Rattle.block_bitmap.specs.FillWithin.{IsCalm, IsStored, MarkStands, FillStands, IsFilled}
@@ -43,7 +43,7 @@ module _ (o : Origin) (seat first count : ℕ) (start : Seat) where
             order (inr more) = le-ltb k word more ∙ sym (le-ltb k (word + 1) (omega (arith, more, apart)))
 
     -- no head is marked with it
-    module _ (some : block_at s place ≢ 0) where
+    module _ (some : owned_block_at s place ≢ 0) where
       calm_marked : is_head_marked s.giving.replaced_generation marked.marks ≡ true → s.giving.head_fenced ≡ true
       calm_marked is = stands.here.calm.no_head (sym (head_unmarked s.giving.replaced_generation g.marks (image_word s place word) f (not_head s place word some)) ∙ is)
 
@@ -63,21 +63,21 @@ module _ (o : Origin) (seat first count : ℕ) (start : Seat) where
       }
 
       -- the block is filled
-      seat_counted : counted s place ≡ filled_from start first (suc stands.here.done)
+      seat_counted : with_filled_block s place ≡ filled_from start first (suc stands.here.done)
       seat_counted =
-          ap (λ (t : Seat). counted t place) stands.seat
+          ap (λ (t : Seat). with_filled_block t place) stands.seat
           ∙ ap (filled_anew (filled_from start first stands.here.done)) stands.here.at
           ∙ sym (filled_more start first stands.here.done)
 
-      counted_calm : IsCalm (counted s place) marked
+      counted_calm : IsCalm (with_filled_block s place) marked
       counted_calm = record { no_sync = stands.here.calm.no_sync; no_head = calm_marked; small = stands.here.calm.small }
 
       all_owned : length s.blocks.owned ≡ length start.blocks.owned
       all_owned = ap (λ (t : Seat). length t.blocks.owned) stands.seat ∙ unfilled_many (filled_from start first stands.here.done) place ∙ filled_many start first stands.here.done
 
-      blocks_on : (b : Bool) → nat_lt 1 left ≡ b → FillStands first count start (block_next b place left) (counted s place) marked
+      blocks_on : (b : Bool) → nat_lt 1 left ≡ b → FillStands first count start (block_next b place left) (with_filled_block s place) marked
       blocks_on true more = (let h = stands.here in let less = ltb-true 1 left more in let all = h.many in let owned = h.owned in let at = h.at in
-          let many : length (counted s place).blocks.owned ≡ length s.blocks.owned = length-set s.blocks.owned place (record (owned_at s.blocks.owned place) { filled = true }) in
+          let many : length (with_filled_block s place).blocks.owned ≡ length s.blocks.owned = length-set s.blocks.owned place (record (owned_at s.blocks.owned place) { filled = true }) in
           let low = (q_range s.geometry).0 in
           record {
             here = record {
@@ -115,7 +115,7 @@ module _ (o : Origin) (seat first count : ℕ) (start : Seat) where
     enters_marked true more = entered marked s s Go refl
     enters_marked false last = record {
       enters = record {
-        last = counted s place;
+        last = with_filled_block s place;
         computed = record { works = CountsFilled place ∷ []; may = (may_count (let most = ltb-false (word + 1) (q_of s.geometry) last in let within = stands.here.inside in omega (arith, most, within)), tt); gives = refl };
         going_on = refl;
         adds_are = tt;

@@ -8,7 +8,7 @@ use Rattle.pmem_words.specs.declared.owned.OwnedBlock.{OwnedBlock}
 use Rattle.log_entry.specs.Fields.{field}
 use Rattle.log_entry.specs.declared.layouts.TheConstants.{HEAD_GENERATION}
 use Rattle.log_core.specs.Entries.{has, head_place}
-use Rattle.log_core.specs.Views.{Marked, Stored}
+use Rattle.log_core.specs.Views.{MarkedWord, Stored}
 use Rattle.log_core.specs.Works.{stored_at}
 use Rattle.log_core.specs.Needs.{owned_numbers}
 use Rattle.log_core.specs.Steps.{owned_with, stored_with, stored_marked, is_head_marked}
@@ -77,6 +77,6 @@ marked_other (r ∷ stored) word place apart = by (r.word == word) refl (marked_
     by false e rest = ap (λ (later : Option Stored). if r.word == place then Some r else later) rest
 
 -- a mark of another word than the head
-pub head_unmarked : (generation : ℕ) (marks : List Marked) (word value : ℕ) → word ≢ 3 → is_head_marked generation (marks ++ record { word = word; value = value } ∷ []) ≡ is_head_marked generation marks
+pub head_unmarked : (generation : ℕ) (marks : List MarkedWord) (word value : ℕ) → word ≢ 3 → is_head_marked generation (marks ++ record { word = word; value = value } ∷ []) ≡ is_head_marked generation marks
 head_unmarked generation [] word value apart = rw (ne_eqb word 3 apart) refl
 head_unmarked generation (mark ∷ marks) word value apart = ap (λ (b : Bool). ((mark.word == head_place) && nat_lt generation (field HEAD_GENERATION mark.value)) || b) (head_unmarked generation marks word value apart)

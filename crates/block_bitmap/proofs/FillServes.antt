@@ -7,7 +7,7 @@ use Rattle.log_core.specs.Views.{Ghost}
 use Rattle.log_core.specs.Origin.{Origin}
 use Rattle.log_core.specs.Steps.{Fences, effect, is_head_marked}
 use Rattle.log_core.specs.Within.{no_record, Lawful, Serves}
-use Rattle.log_core.proofs.Fences.{no_sync_fenced}
+use Rattle.log_core.proofs.kinds.Fences.{no_sync_fenced}
 use Rattle.block_bitmap.specs.declared.fill.Fill.TheVariants.{Store, Mark, Fence}
 use Rattle.block_bitmap.specs.OwnedWords.{all_fenced}
 use Rattle.block_bitmap.specs.Filling.{fill_script}

@@ -9,7 +9,7 @@ use Rattle.log_core.specs.Origin.{Origin}
 use Rattle.log_core.specs.Works.{stored_at}
 use Rattle.log_core.specs.Steps.{StoresWord, effect, ghost_after, stored_with}
 use Rattle.log_core.specs.Within.{no_record, Lawful}
-use Rattle.log_core.proofs.OwnedLists.{stored_at_other}
+use Rattle.log_core.proofs.clauses.OwnedLists.{stored_at_other}
 use Rattle.block_bitmap.specs.declared.fill.Fill.TheVariants.{Store}
 use Rattle.block_bitmap.specs.OwnedWords.{image_word, content_at, unfilled}
 use Rattle.block_bitmap.specs.Filling.{fill_script, stored_next}

@@ -2,14 +2,14 @@
 use Rattle.std.proofs.Common.{◌≡◌, ◌<◌, ℕ, true, List, length, refl, ap, ◌∙◌, subst, arith}
 use Rattle.pmem_words.specs.Owned.{owned_at}
 use Rattle.pmem_words.specs.Seats.{Seat, q_of}
-use Rattle.persistence.specs.Memory.{Cell, Replaced, Noted, cell}
+use Rattle.persistence.specs.Memory.{Cell, Replaced, PendingMark, cell}
 use Rattle.log_core.specs.Views.{View, Ghost}
 use Rattle.log_core.specs.Owned.{OwnedHold}
 use Rattle.log_core.specs.Certain.{IsCertain}
 use Rattle.log_core.specs.Within.{no_record, IsLeft}
-use Rattle.log_core.proofs.Serving.{leads_within, reached_keeps}
-use Rattle.log_core.proofs.OverPlain.{over_plain}
-use Rattle.log_core.proofs.StartMeets.{start_meets}
+use Rattle.log_core.proofs.machines.Serving.{leads_within, reached_keeps}
+use Rattle.log_core.proofs.machines.OverPlain.{over_plain}
+use Rattle.log_core.proofs.starts.StartMeets.{start_meets}
 use Rattle.block_bitmap.specs.OwnedWords.{image_word, content_at}
 use Rattle.block_bitmap.specs.Filling.{fill_of, fill_script, fill_lowers}
 use Rattle.block_bitmap.specs.Filled.{filled_seat}
@@ -45,10 +45,10 @@ fills_alone o start seat number first count rest s v linked c p reached here at 
     (fills_within o start seat number first count rest s v linked) reached here at agrees
 
 -- in a fenced block no other value than its content is possible
-filled_certain : (cells : ℕ → Cell) (past : List Replaced) (notes : List Noted) (seat first count : ℕ) (start : Seat) (g : Ghost) → OwnedHold cells past notes seat g (filled_seat start first count) → (place word : ℕ)
+filled_certain : (cells : ℕ → Cell) (past : List Replaced) (pending : List PendingMark) (seat first count : ℕ) (start : Seat) (g : Ghost) → OwnedHold cells past pending seat g (filled_seat start first count) → (place word : ℕ)
     → (place < length (filled_seat start first count).blocks.owned) × ((owned_at (filled_seat start first count).blocks.owned place).filled ≡ true) × ((owned_at (filled_seat start first count).blocks.owned place).fenced ≡ true)
     → word < q_of start.geometry → IsCertain (cells (image_word start place word)) (content_at start place word)
-filled_certain cells past notes seat first count start g held place word each inside =
+filled_certain cells past pending seat first count start g held place word each inside =
     (let t : Seat = filled_seat start first count in
     let wide : q_of t.geometry ≡ q_of start.geometry = ap q_of (filled_geometry start first count) in
     let certain : IsCertain (cells (image_word t place word)) (content_at t place word) = held.fenced place word each.0 each.2 (omega (arith, inside, wide)) in
@@ -60,8 +60,8 @@ pub filled_are_certain : FilledAreCertain
 filled_are_certain o start seat first count rest begun s v left c reached at place word low high inside =
     (let inv = reached_keeps o (start_meets o start) c reached in
     let cells : ℕ → Cell = (λ (k : ℕ). cell c.memory k) in
-    let here : OwnedHold cells c.memory.past c.memory.notes seat v.ghost v.seat = subst (λ (u : View). OwnedHold cells c.memory.past c.memory.notes seat u.ghost u.seat) at (inv.owned seat) in
+    let here : OwnedHold cells c.memory.past c.memory.pending seat v.ghost v.seat = subst (λ (u : View). OwnedHold cells c.memory.past c.memory.pending seat u.ghost u.seat) at (inv.owned seat) in
     let is : v.seat ≡ filled_seat begun first count = left.seat ∙ left.fits.seat in
     let each = left.fits.each place low high in
-    filled_certain cells c.memory.past c.memory.notes seat first count begun v.ghost (subst (λ (t : Seat). OwnedHold cells c.memory.past c.memory.notes seat v.ghost t) is here) place word
+    filled_certain cells c.memory.past c.memory.pending seat first count begun v.ghost (subst (λ (t : Seat). OwnedHold cells c.memory.past c.memory.pending seat v.ghost t) is here) place word
     (subst (λ (t : Seat). (place < length t.blocks.owned) × ((owned_at t.blocks.owned place).filled ≡ true) × ((owned_at t.blocks.owned place).fenced ≡ true)) left.fits.seat each) inside)

@@ -5,7 +5,7 @@ use Rattle.std.proofs.lemmas.List.{get_or-set_same, get_or-set_other, get_or-map
 use Rattle.pmem_words.specs.Owned.{owned_at, with_filled}
 use Rattle.pmem_words.specs.declared.owned.OwnedBlock.{OwnedBlock}
 use Rattle.pmem_words.specs.Seats.{Seat, q_of}
-use Rattle.block_bitmap.specs.OwnedWords.{block_at, image_word, content_at, unfilled}
+use Rattle.block_bitmap.specs.OwnedWords.{owned_block_at, image_word, content_at, unfilled}
 use Rattle.block_bitmap.specs.Filled.{filled_anew, filled_from, filled_seat}
 use Rattle.block_bitmap.specs.FillWithin.{stored_to}
 use Rattle.block_bitmap.proofs.OwnedFlags.{none, unfilled_many, anew_each, anew_many, still_unfilled}
@@ -27,7 +27,7 @@ pub filled_contents : (s : Seat) (first n : ℕ) → (filled_from s first n).blo
 filled_contents s first zero = refl
 filled_contents s first (suc n) = filled_contents (filled_anew s first) (first + 1) n
 
-pub filled_blocks : (s : Seat) (first n k : ℕ) → block_at (filled_from s first n) k ≡ block_at s k
+pub filled_blocks : (s : Seat) (first n k : ℕ) → owned_block_at (filled_from s first n) k ≡ owned_block_at s k
 filled_blocks s first zero k = refl
 filled_blocks s first (suc n) k = filled_blocks (filled_anew s first) (first + 1) n k ∙ anew_each s first k
 
@@ -90,7 +90,7 @@ module _ (s : Seat) (first n : ℕ) where
   same_word place word here =
       (let many = filled_many s first n in
       let is = ap (λ (o : OwnedBlock). o.block) (get_or-map fence t.blocks.owned place none none (omega (arith, many, here))) in
-      let block : block_at (filled_seat s first n) place ≡ block_at s place = is ∙ filled_blocks s first n place in
+      let block : owned_block_at (filled_seat s first n) place ≡ owned_block_at s place = is ∙ filled_blocks s first n place in
       (λ i. block i * same_q i + word))
 
   pub same_content : (place word : ℕ) → content_at (filled_seat s first n) place word ≡ content_at s place word

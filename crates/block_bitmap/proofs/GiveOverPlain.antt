@@ -16,7 +16,7 @@ use Rattle.block_bitmap.specs.declared.give.GiveFrom.{GiveFrom}
 use Rattle.block_bitmap.specs.BitsIn.{least_is}
 use Rattle.block_bitmap.specs.Giving.{give_of, next_word, next_bits, given_seat, given_count, give_turn, give_script}
 use Rattle.block_bitmap.specs.GiveLowering.{left_is, left_few, left_fewer}
-use Rattle.block_bitmap.specs.Given.{cleared, AreInside, emptied}
+use Rattle.block_bitmap.specs.Given.{bitmap_without, AreInside, emptied}
 use Rattle.block_bitmap.proofs.GivenLemmas.{cleared_none, cleared_step, none_left, inside_others, word_inside}
 
 -- the words of the bitmap after a step
@@ -25,12 +25,12 @@ step_words s words = slice_set words (next_word s) (without_bits (slice_index wo
 
 module _ (s : Seat) (some : 0 < length s.blocks.owned) where
   -- what remains to be cleared is the same before and after a step
-  step_cleared : (words : List ℕ) → cleared (given_seat s).blocks.owned (step_words s words) ≡ cleared s.blocks.owned words
-  step_cleared words = ap (λ (owned : List OwnedBlock). cleared owned (step_words s words)) (left_is s) ∙ cleared_step (next_word s) s.blocks.owned words (least_is s.blocks.owned some)
+  step_cleared : (words : List ℕ) → bitmap_without (given_seat s).blocks.owned (step_words s words) ≡ bitmap_without s.blocks.owned words
+  step_cleared words = ap (λ (owned : List OwnedBlock). bitmap_without owned (step_words s words)) (left_is s) ∙ cleared_step (next_word s) s.blocks.owned words (least_is s.blocks.owned some)
 
   -- and where no block is left nothing remains
-  step_last : (given_seat s).blocks.owned ≡ [] → (words : List ℕ) → step_words s words ≡ cleared s.blocks.owned words
-  step_last none words = sym (cleared_none 0 (step_words s words)) ∙ ap (λ (owned : List OwnedBlock). cleared owned (step_words s words)) (sym none) ∙ step_cleared words
+  step_last : (given_seat s).blocks.owned ≡ [] → (words : List ℕ) → step_words s words ≡ bitmap_without s.blocks.owned words
+  step_last none words = sym (cleared_none 0 (step_words s words)) ∙ ap (λ (owned : List OwnedBlock). bitmap_without owned (step_words s words)) (sym none) ∙ step_cleared words
 
   pub step_emptied : emptied (given_seat s) ≡ emptied s
   step_emptied = ap (λ (found : List ℕ). record s { blocks = record s.blocks { owned = []; contents = []; found = found } }) (step_cleared s.blocks.found)
@@ -51,7 +51,7 @@ module _ (s : Seat) (some : 0 < length s.blocks.owned) where
 module _ (Q : ℕ → Seat → SharedWords → Type 0) (from : GiveFrom) where
   gives_lead : (n given : ℕ) (s : Seat) (w : SharedWords) → length s.blocks.owned ≤ n → 0 < length s.blocks.owned → given + length s.blocks.owned < 2 ^ 32
       → AreInside (length s.blocks.found) s.blocks.owned → AreInside (length w.taken) s.blocks.owned
-      → Q (given + length s.blocks.owned) (emptied s) (record w { taken = cleared s.blocks.owned w.taken })
+      → Q (given + length s.blocks.owned) (emptied s) (record w { taken = bitmap_without s.blocks.owned w.taken })
       → Leads give_script (over give_script plain) Q (record { from = from; given = given }) s w
   gives_lead zero given s w most some few found taken then = absurd (omega (arith, most, some))
   gives_lead (suc n) given s w most some few found taken then =
@@ -60,8 +60,8 @@ module _ (Q : ℕ → Seat → SharedWords → Type 0) (from : GiveFrom) where
       (by (length (given_seat s).blocks.owned == 0) refl (λ left. gives_lead n count (given_seat s) v (let fewer = left_fewer s some in omega (arith, most, fewer)) left (omega (arith, few, counted))
       (subst (λ (k : ℕ). AreInside k (given_seat s).blocks.owned) (sym (length-set s.blocks.found (next_word s) (without_bits (slice_index s.blocks.found (next_word s)) (next_bits s)))) (step_inside s some (length s.blocks.found) found))
       (subst (λ (k : ℕ). AreInside k (given_seat s).blocks.owned) (sym (length-set w.taken (next_word s) (without_bits (slice_index w.taken (next_word s)) (next_bits s)))) (step_inside s some (length w.taken) taken))
-      (subst (λ (k : ℕ). Q k (emptied (given_seat s)) (record w { taken = cleared (given_seat s).blocks.owned v.taken })) (sym counted)
-      (subst (λ (t : Seat). Q (given + length s.blocks.owned) t (record w { taken = cleared (given_seat s).blocks.owned v.taken })) (sym (step_emptied s some))
+      (subst (λ (k : ℕ). Q k (emptied (given_seat s)) (record w { taken = bitmap_without (given_seat s).blocks.owned v.taken })) (sym counted)
+      (subst (λ (t : Seat). Q (given + length s.blocks.owned) t (record w { taken = bitmap_without (given_seat s).blocks.owned v.taken })) (sym (step_emptied s some))
       (subst (λ (words : List ℕ). Q (given + length s.blocks.owned) (emptied s) (record w { taken = words })) (sym (step_cleared s some w.taken)) then)))))
     where
       m : Give
@@ -92,7 +92,7 @@ module _ (Q : ℕ → Seat → SharedWords → Type 0) (from : GiveFrom) where
 pub record GivenAlone (s : Seat) (w : SharedWords) (out : ℕ) (t : Seat) (v : SharedWords) : Type 0 where
   pub count : out ≡ length s.blocks.owned
   pub seat : t ≡ emptied s
-  pub memory : v ≡ record w { taken = cleared s.blocks.owned w.taken }
+  pub memory : v ≡ record w { taken = bitmap_without s.blocks.owned w.taken }
 
 pub given_alone : (from : GiveFrom) (s : Seat) (w : SharedWords) → 0 < length s.blocks.owned → length s.blocks.owned < 2 ^ 32 → AreInside (length s.blocks.found) s.blocks.owned → AreInside (length w.taken) s.blocks.owned
     → Leads give_script (over give_script plain) (GivenAlone s w) (give_of from) s w

@@ -1,9 +1,9 @@
 -- Giving owned blocks back within a core, from every start.
 use Rattle.std.proofs.Common.{refl, arith, inl}
 use Rattle.log_core.specs.Within.{no_record, IsLeft}
-use Rattle.log_core.proofs.Serving.{leads_within}
-use Rattle.log_core.proofs.OverPlain.{over_plain}
-use Rattle.log_core.proofs.StartMeets.{start_meets}
+use Rattle.log_core.proofs.machines.Serving.{leads_within}
+use Rattle.log_core.proofs.machines.OverPlain.{over_plain}
+use Rattle.log_core.proofs.starts.StartMeets.{start_meets}
 use Rattle.block_bitmap.specs.Giving.{give_of, give_script}
 use Rattle.block_bitmap.specs.GiveLowering.{give_lowers}
 use Rattle.block_bitmap.specs.GiveWithin.{GiveStands, IsGiven, GivesWithin, GivesAlone}

@@ -8,7 +8,7 @@ use Rattle.pmem_words.specs.declared.owned.OwnedBlock.{OwnedBlock}
 use Rattle.asks.specs.Asks.{without_bits}
 use Rattle.block_bitmap.specs.GivenBits.{bits_in}
 use Rattle.block_bitmap.specs.BitsIn.{is_in, has_block, among_in}
-use Rattle.block_bitmap.specs.Given.{cleared, IsCleared}
+use Rattle.block_bitmap.specs.Given.{bitmap_without, HasClearedBits}
 use Rattle.block_bitmap.proofs.GivenLemmas.{length_cleared, cleared_first, small_from}
 
 -- one bit of a word without bits
@@ -41,5 +41,5 @@ module _ (owned : List OwnedBlock) (words : List ℕ) (block : ℕ) where
   bit_left true is = without_at (slice_index words word) (bits_in word owned) (block % 64) (small_from word 0 owned (omega arith)) (omega arith) ∙ ap (λ (b : Bool). if b then 0 else bit_of words block) bit_in
   bit_left false none = ap (λ (b : Bool). if b then 0 else bit_of words block) (sym (false_from_ne_true (has_block block owned) (λ some. false≢true (sym none ∙ block_in block owned some))))
 
-pub is_cleared : (owned : List OwnedBlock) (words : List ℕ) → IsCleared owned words (cleared owned words)
+pub is_cleared : (owned : List OwnedBlock) (words : List ℕ) → HasClearedBits owned words (bitmap_without owned words)
 is_cleared owned words = (length_cleared 0 owned words, λ block inside. ap (λ (w : ℕ). bit_at w (block % 64)) (cleared_first owned words (block / 64) inside) ∙ bit_left owned words block (is_in (block / 64) owned) refl)

@@ -10,7 +10,7 @@ use Rattle.pmem_words.specs.declared.owned.OwnedBlock.{OwnedBlock}
 use Rattle.asks.specs.Asks.{without_bits}
 use Rattle.block_bitmap.specs.GivenBits.{with_bit, bits_from, bits_in}
 use Rattle.block_bitmap.specs.BitsIn.{is_in, others_of}
-use Rattle.block_bitmap.specs.Given.{word_without, cleared_from, cleared, AreInside}
+use Rattle.block_bitmap.specs.Given.{word_without, cleared_from, bitmap_without, AreInside}
 
 -- a block of another word
 apart_from : (a b : ℕ) → a ≢ b → (x : ℕ) → (x == a) ≡ true → (x == b) ≡ false
@@ -52,7 +52,7 @@ cleared_at word owned [] k inside = absurd (omega (arith, inside))
 cleared_at word owned (found ∷ words) zero inside = ap (λ (n : ℕ). word_without n owned found) (let same : word ≡ word + 0 = omega arith in same)
 cleared_at word owned (found ∷ words) (suc k) inside = cleared_at (word + 1) owned words k (omega (arith, inside)) ∙ ap (λ (n : ℕ). word_without n owned (slice_index words k)) (let same : word + 1 + k ≡ word + suc k = omega arith in same)
 
-pub cleared_first : (owned : List OwnedBlock) (words : List ℕ) (k : ℕ) → k < length words → slice_index (cleared owned words) k ≡ word_without k owned (slice_index words k)
+pub cleared_first : (owned : List OwnedBlock) (words : List ℕ) (k : ℕ) → k < length words → slice_index (bitmap_without owned words) k ≡ word_without k owned (slice_index words k)
 cleared_first owned words k inside = cleared_at 0 owned words k inside ∙ ap (λ (n : ℕ). word_without n owned (slice_index words k)) (let same : 0 + k ≡ k = omega arith in same)
 
 -- with no blocks, the words stay
@@ -73,16 +73,16 @@ module _ (word : ℕ) (owned : List OwnedBlock) (words : List ℕ) (some : is_in
   first_at k inside (inr apart) = (let other : word ≢ k = (λ e. apart (sym e)) in
       (λ i. if same_in word k owned other i then without_bits (get_or-set_other words word k (without_bits (slice_index words word) (bits_in word owned)) 0 apart i) (same_bits word k 0 owned other i) else get_or-set_other words word k (without_bits (slice_index words word) (bits_in word owned)) 0 apart i))
 
-  pub cleared_step : cleared (others_of word owned) first ≡ cleared owned words
-  cleared_step = ext_get_or 0 (cleared (others_of word owned) first) (cleared owned words) (many ∙ sym (length_cleared 0 owned words)) each
+  pub cleared_step : bitmap_without (others_of word owned) first ≡ bitmap_without owned words
+  cleared_step = ext_get_or 0 (bitmap_without (others_of word owned) first) (bitmap_without owned words) (many ∙ sym (length_cleared 0 owned words)) each
     where
       long : length first ≡ length words
       long = length-set words word (without_bits (slice_index words word) (bits_in word owned))
 
-      many : length (cleared (others_of word owned) first) ≡ length words
+      many : length (bitmap_without (others_of word owned) first) ≡ length words
       many = length_cleared 0 (others_of word owned) first ∙ long
 
-      each : (k : ℕ) → k < length (cleared (others_of word owned) first) → slice_index (cleared (others_of word owned) first) k ≡ slice_index (cleared owned words) k
+      each : (k : ℕ) → k < length (bitmap_without (others_of word owned) first) → slice_index (bitmap_without (others_of word owned) first) k ≡ slice_index (bitmap_without owned words) k
       each k inside = (let within : k < length words = omega (arith, inside, many) in
           cleared_first (others_of word owned) first k (omega (arith, within, long)) ∙ first_at k within (cases_eq k word) ∙ sym (cleared_first owned words k within))
 

@@ -6,7 +6,7 @@ use Rattle.log_entry.specs.declared.shapes.Area.TheVariants.{Data}
 use Rattle.pmem_words.specs.Owned.{owned_at, with_filled, with_fenced}
 use Rattle.pmem_words.specs.declared.owned.OwnedBlock.{OwnedBlock}
 use Rattle.pmem_words.specs.Seats.{Seat}
-use Rattle.block_bitmap.specs.OwnedWords.{block_at, unfilled, counted}
+use Rattle.block_bitmap.specs.OwnedWords.{owned_block_at, unfilled, with_filled_block}
 use Rattle.block_bitmap.specs.Filled.{filled_anew}
 
 abbrev pub none : OwnedBlock
@@ -49,7 +49,7 @@ owning s owned = record s { blocks = record s.blocks { owned = owned } }
 abbrev pub stored_in : Seat → ℕ → List OwnedBlock
 stored_in s p = with_fenced (with_filled s.blocks.owned p false) p false
 
-pub unfilled_each : (s : Seat) (p k : ℕ) → block_at (unfilled s p) k ≡ block_at s k
+pub unfilled_each : (s : Seat) (p k : ℕ) → owned_block_at (unfilled s p) k ≡ owned_block_at s k
 unfilled_each s p k =
     same_blocks (with_filled s.blocks.owned p false) p k (record (owned_at (with_filled s.blocks.owned p false) p) { fenced = false }) refl
     ∙ same_blocks s.blocks.owned p k (record (owned_at s.blocks.owned p) { filled = false }) refl
@@ -58,10 +58,10 @@ pub unfilled_many : (s : Seat) (p : ℕ) → length (unfilled s p).blocks.owned 
 unfilled_many s p = length-set (with_filled s.blocks.owned p false) p (record (owned_at (with_filled s.blocks.owned p false) p) { fenced = false })
     ∙ length-set s.blocks.owned p (record (owned_at s.blocks.owned p) { filled = false })
 
-pub counted_each : (s : Seat) (p k : ℕ) → block_at (counted s p) k ≡ block_at s k
+pub counted_each : (s : Seat) (p k : ℕ) → owned_block_at (with_filled_block s p) k ≡ owned_block_at s k
 counted_each s p k = same_blocks s.blocks.owned p k (record (owned_at s.blocks.owned p) { filled = true }) refl
 
-pub anew_each : (s : Seat) (p k : ℕ) → block_at (filled_anew s p) k ≡ block_at s k
+pub anew_each : (s : Seat) (p k : ℕ) → owned_block_at (filled_anew s p) k ≡ owned_block_at s k
 anew_each s p k = counted_each (unfilled s p) p k ∙ unfilled_each s p k
 
 pub anew_many : (s : Seat) (p : ℕ) → length (filled_anew s p).blocks.owned ≡ length s.blocks.owned

@@ -13,7 +13,7 @@ use Rattle.pmem_words.specs.Seats.{Seat, q_of}
 use Rattle.asks.specs.SharedWords.{SharedWords}
 use Rattle.block_bitmap.specs.declared.take.Taken.{Taken}
 use Rattle.block_bitmap.specs.declared.take.Taken.TheVariants.{Taken as HasTaken, NoSpace}
-use Rattle.block_bitmap.specs.TakeScript.{last_word, fresh, with_taken}
+use Rattle.block_bitmap.specs.TakeScript.{last_word, fresh, with_taken_blocks}
 use Rattle.block_bitmap.specs.TakeAlone.{outcome, outcome_by, AreSet, found_as, HasFound}
 use Rattle.block_bitmap.proofs.TakeRanges.{same_test, agree}
 use Rattle.block_bitmap.proofs.TakeWords.{some_in}
@@ -30,7 +30,7 @@ take_past (suc n) (x ∷ xs) ys long = ap (λ (rest : List ℕ). x ∷ rest) (ta
 abbrev owning : Seat → List OwnedBlock → List ℕ → Seat
 owning s owned contents = record s { blocks = record s.blocks { owned = owned; contents = contents } }
 
-pub taken_both : (area : Area) (xs ys : List ℕ) (s : Seat) → with_taken area ys (with_taken area xs s) ≡ with_taken area (xs ++ ys) s
+pub taken_both : (area : Area) (xs ys : List ℕ) (s : Seat) → with_taken_blocks area ys (with_taken_blocks area xs s) ≡ with_taken_blocks area (xs ++ ys) s
 taken_both area xs ys s =
     (let q = q_of s.geometry in
     ap (λ (owned : List OwnedBlock). owning s owned (s.blocks.contents ++ replicate (length xs * q) 0 ++ replicate (length ys * q) 0)) (append_assoc s.blocks.owned (map (fresh area) xs) (map (fresh area) ys) ∙ ap (λ (more : List OwnedBlock). s.blocks.owned ++ more) (sym (map-append (fresh area) xs ys)))
@@ -43,7 +43,7 @@ taken_both area xs ys s =
 -- what a pass from a word on comes to
 pub record RestAlone (area : Area) (count word : ℕ) (s : Seat) (p : SharedWords) (out : Taken) (t : Seat) (q : SharedWords) : Type 0 where
   pub outcome_is : out ≡ outcome area count (length (rest_from s.geometry area p.taken word))
-  pub seat : t ≡ found_as t.blocks.found (with_taken area (take count (rest_from s.geometry area p.taken word)) s)
+  pub seat : t ≡ found_as t.blocks.found (with_taken_blocks area (take count (rest_from s.geometry area p.taken word)) s)
   pub last : ℕ
   pub from : word ≤ last
   pub to : last ≤ last_word area s
@@ -71,7 +71,7 @@ module _ (area : Area) (count word : ℕ) (s : Seat) (p : SharedWords) (next see
   rest = rest_from s.geometry area p.taken (word + 1)
 
   abbrev left : List ℕ → Seat
-  left blocks = found_as seen (with_taken area blocks s)
+  left blocks = found_as seen (with_taken_blocks area blocks s)
 
   abbrev leaves : SharedWords
   leaves = record p { taken = next }
@@ -123,7 +123,7 @@ module _ (area : Area) (count word : ℕ) (s : Seat) (p : SharedWords) (next see
     pub goes_on : Passes word here p.taken next s.blocks.found seen → length here < count → (out : Taken) (t : Seat) (q : SharedWords) → RestAlone area (count - length here) (word + 1) (left here) leaves out t q → RestAlone area count word s p out t q
     goes_on passes short out t q r = record {
       outcome_is = r.outcome_is ∙ ap (λ (b : Bool). outcome_by b area) many;
-      seat = r.seat ∙ ap (λ (x : Seat). found_as t.blocks.found x) (taken_both area here (take (count - length here) rest_then) s ∙ ap (λ (blocks : List ℕ). with_taken area blocks s) (sym all));
+      seat = r.seat ∙ ap (λ (x : Seat). found_as t.blocks.found x) (taken_both area here (take (count - length here) rest_then) s ∙ ap (λ (blocks : List ℕ). with_taken_blocks area blocks s) (sym all));
       last = r.last;
       from = (let from = r.from in omega (arith, from));
       to = r.to;

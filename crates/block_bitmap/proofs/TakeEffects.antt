@@ -11,8 +11,8 @@ use Rattle.pmem_words.specs.Owned.{is_among}
 use Rattle.pmem_words.specs.declared.owned.OwnedBlock.{OwnedBlock}
 use Rattle.pmem_words.specs.Seats.{Seat}
 use Rattle.log_core.specs.Entries.{has}
-use Rattle.log_core.specs.Views.{Marked}
-use Rattle.log_core.specs.Works.{shape_of, words_of}
+use Rattle.log_core.specs.Views.{MarkedWord}
+use Rattle.log_core.specs.Works.{seat_shape, words_of}
 use Rattle.log_core.specs.Needs.{is_in_area}
 use Rattle.log_core.specs.Steps.{SetsBits, gained, area_of, taken_block, effect}
 use Rattle.log_core.proofs.BlockLists.{has_filter}
@@ -72,25 +72,25 @@ fresh_is image area (block ∷ blocks) each =
 
 module _ (m : Take) (s : Seat) (known : ℕ) where
   -- each wanted block is of the area
-  pub wanted_in_area : (block : ℕ) → has (wanted_at m s known) block ≡ true → is_in_area (shape_of s) m.area block ≡ true
-  wanted_in_area block some = open_in_area (shape_of s) m.area (word_of m s) known block (has_front m.count (open_at m s known) block some)
+  pub wanted_in_area : (block : ℕ) → has (wanted_at m s known) block ≡ true → is_in_area (seat_shape s) m.area block ≡ true
+  wanted_in_area block some = open_in_area (seat_shape s) m.area (word_of m s) known block (has_front m.count (open_at m s known) block some)
 
-  pub gained_in_area : (found block : ℕ) → has (gained_at m s known found) block ≡ true → is_in_area (shape_of s) m.area block ≡ true
+  pub gained_in_area : (found block : ℕ) → has (gained_at m s known found) block ≡ true → is_in_area (seat_shape s) m.area block ≡ true
   gained_in_area found block some = wanted_in_area block (and_parts (bit_at found (block % 64) == 0) (has (wanted_at m s known) block) (sym (has_filter (λ (x : ℕ). bit_at found (x % 64) == 0) (wanted_at m s known) block) ∙ some)).1
 
   -- the blocks of the bits that are set
   pub wanted_among : filter (λ (block : ℕ). is_among (word_of m s) (bits_of (wanted_at m s known)) block) (range_with_len (word_of m s * 64) 64) ≡ wanted_at m s known
-  wanted_among = among_is (word_of m s) (bits_of (wanted_at m s known)) ∙ wanted_again (shape_of s) m.area (word_of m s) known m.count
+  wanted_among = among_is (word_of m s) (bits_of (wanted_at m s known)) ∙ wanted_again (seat_shape s) m.area (word_of m s) known m.count
 
   gained_are : (found : ℕ) → gained (word_of m s) (bits_of (wanted_at m s known)) found ≡ gained_at m s known found
-  gained_are found = gained_in (word_of m s) (bits_of (wanted_at m s known)) found ∙ ap (clear_in found) (wanted_again (shape_of s) m.area (word_of m s) known m.count)
+  gained_are found = gained_in (word_of m s) (bits_of (wanted_at m s known)) found ∙ ap (clear_in found) (wanted_again (seat_shape s) m.area (word_of m s) known m.count)
 
   -- setting bits makes of the seat what the machine makes of it
-  pub effect_is : (marks : List Marked) (found : ℕ) → effect marks s (SetsBits (word_of m s) (bits_of (wanted_at m s known))) found ≡ seat_set m s known found
+  pub effect_is : (marks : List MarkedWord) (found : ℕ) → effect marks s (SetsBits (word_of m s) (bits_of (wanted_at m s known))) found ≡ seat_set m s known found
   effect_is marks found =
       ap (λ (blocks : List ℕ). record s {
         blocks = record (s.blocks) {
-          owned = s.blocks.owned ++ map (taken_block (shape_of s)) blocks;
+          owned = s.blocks.owned ++ map (taken_block (seat_shape s)) blocks;
           contents = s.blocks.contents ++ replicate (length blocks * words_of s) 0;
           found = slice_set s.blocks.found (word_of m s) (bit_or (slice_index s.blocks.found (word_of m s)) (bit_or found (bits_of (wanted_at m s known))));
         };
@@ -101,4 +101,4 @@ module _ (m : Take) (s : Seat) (known : ℕ) where
           contents = s.blocks.contents ++ replicate (length (gained_at m s known found) * words_of s) 0;
           found = slice_set s.blocks.found (word_of m s) (bit_or (slice_index s.blocks.found (word_of m s)) (bit_or found (bits_of (wanted_at m s known))));
         };
-      }) (fresh_is (shape_of s) m.area (gained_at m s known found) (gained_in_area found))
+      }) (fresh_is (seat_shape s) m.area (gained_at m s known found) (gained_in_area found))

@@ -12,9 +12,9 @@ use Rattle.pmem_words.specs.declared.keeps.Task.TheVariants.{Pwrite, Append, Col
 use Rattle.pmem_words.specs.declared.owned.OwnedBlock.{OwnedBlock}
 use Rattle.pmem_words.specs.Seats.{Seat}
 use Rattle.log_core.specs.Entries.{has}
-use Rattle.log_core.specs.Works.{shape_of}
+use Rattle.log_core.specs.Works.{seat_shape}
 use Rattle.log_core.specs.Needs.{is_in_area, is_area, is_one_run, owned_numbers, owned_in, data_lacking, touched_from, lacking}
-use Rattle.block_bitmap.specs.TakeScript.{fresh, with_taken}
+use Rattle.block_bitmap.specs.TakeScript.{fresh, with_taken_blocks}
 use Rattle.block_bitmap.specs.TakeAlone.{found_as}
 use Rattle.block_bitmap.specs.TakeWithin.{HasGrown}
 use Rattle.block_bitmap.proofs.TakeMarks.{has_both}
@@ -36,22 +36,22 @@ kept_has p (block ∷ blocks) each =
     ∙ ap (λ (rest : List ℕ). block ∷ rest) (kept_has p blocks (λ other some. each other (or_right (block == other) (has blocks other) some)))
 
 -- what is owned in an area, after blocks of it were taken
-pub owned_more : (area : Area) (s : Seat) (found : List ℕ) (blocks : List ℕ) → ((block : ℕ) → has blocks block ≡ true → is_in_area (shape_of s) area block ≡ true) → owned_in (found_as found (with_taken area blocks s)) area ≡ owned_in s area ++ blocks
+pub owned_more : (area : Area) (s : Seat) (found : List ℕ) (blocks : List ℕ) → ((block : ℕ) → has blocks block ≡ true → is_in_area (seat_shape s) area block ≡ true) → owned_in (found_as found (with_taken_blocks area blocks s)) area ≡ owned_in s area ++ blocks
 owned_more area s found blocks each =
-    ap (filter (λ (block : ℕ). is_in_area (shape_of s) area block)) (numbers_more area s.blocks.owned blocks)
-    ∙ filter-append (λ (block : ℕ). is_in_area (shape_of s) area block) (owned_numbers s.blocks.owned) blocks
-    ∙ ap (λ (rest : List ℕ). owned_in s area ++ rest) (kept_has (λ (block : ℕ). is_in_area (shape_of s) area block) blocks each)
+    ap (filter (λ (block : ℕ). is_in_area (seat_shape s) area block)) (numbers_more area s.blocks.owned blocks)
+    ∙ filter-append (λ (block : ℕ). is_in_area (seat_shape s) area block) (owned_numbers s.blocks.owned) blocks
+    ∙ ap (λ (rest : List ℕ). owned_in s area ++ rest) (kept_has (λ (block : ℕ). is_in_area (seat_shape s) area block) blocks each)
 
 -- a seat that has grown grows on
-pub grows_on : (area : Area) (first s : Seat) (blocks more : List ℕ) (found : List ℕ) → HasGrown area first blocks s → ((block : ℕ) → has more block ≡ true → is_in_area (shape_of s) area block ≡ true) →
-    HasGrown area first (blocks ++ more) (found_as found (with_taken area more s))
+pub grows_on : (area : Area) (first s : Seat) (blocks more : List ℕ) (found : List ℕ) → HasGrown area first blocks s → ((block : ℕ) → has more block ≡ true → is_in_area (seat_shape s) area block ≡ true) →
+    HasGrown area first (blocks ++ more) (found_as found (with_taken_blocks area more s))
 grows_on area first s blocks more found grown each = record {
-  seat = ap (λ (x : Seat). found_as found (with_taken area more x)) grown.seat ∙ ap (found_as found) (taken_both area blocks more first);
+  seat = ap (λ (x : Seat). found_as found (with_taken_blocks area more x)) grown.seat ∙ ap (found_as found) (taken_both area blocks more first);
   in_area = λ block some. by block (or_cases (has blocks block) (has more block) (sym (has_both blocks more block) ∙ some));
   more = owned_more area s found more each ∙ ap (λ (owned : List ℕ). owned ++ more) grown.more ∙ append_assoc (owned_in first area) blocks more;
 }
   where
-    by : (block : ℕ) → (has blocks block ≡ true) ⊎ (has more block ≡ true) → is_in_area (shape_of s) area block ≡ true
+    by : (block : ℕ) → (has blocks block ≡ true) ⊎ (has more block ≡ true) → is_in_area (seat_shape s) area block ≡ true
     by block (inl old) = grown.in_area block old
     by block (inr new) = each block new
 
@@ -115,7 +115,7 @@ falls_with s (TakeTask wanted count) area owned more = falls_if (is_area wanted 
 falls_with s _ area owned more = omega arith
 
 -- the seat's other fields stay
-same_with : (s : Seat) (found : List ℕ) (area : Area) (blocks : List ℕ) (task : Task) (owned : List ℕ) → lacks_with (found_as found (with_taken area blocks s)) task area owned ≡ lacks_with s task area owned
+same_with : (s : Seat) (found : List ℕ) (area : Area) (blocks : List ℕ) (task : Task) (owned : List ℕ) → lacks_with (found_as found (with_taken_blocks area blocks s)) task area owned ≡ lacks_with s task area owned
 same_with s found Data blocks (Pwrite offset) owned = refl
 same_with s found Log blocks (Pwrite offset) owned = refl
 same_with s found Data blocks Append owned = refl
@@ -124,11 +124,11 @@ same_with s found Spare blocks Collect owned = refl
 same_with s found area blocks (TakeTask wanted count) owned = refl
 same_with s found area blocks _ owned = refl
 
-pub lacking_falls : (s : Seat) (found : List ℕ) (area : Area) (blocks : List ℕ) (task : Task) → ((block : ℕ) → has blocks block ≡ true → is_in_area (shape_of s) area block ≡ true) →
-    lacking s task area ≤ lacking (found_as found (with_taken area blocks s)) task area + length blocks
+pub lacking_falls : (s : Seat) (found : List ℕ) (area : Area) (blocks : List ℕ) (task : Task) → ((block : ℕ) → has blocks block ≡ true → is_in_area (seat_shape s) area block ≡ true) →
+    lacking s task area ≤ lacking (found_as found (with_taken_blocks area blocks s)) task area + length blocks
 lacking_falls s found area blocks task each =
     (let before = lacks_is s task area in
-    let after = lacks_is (found_as found (with_taken area blocks s)) task area ∙ same_with s found area blocks task (owned_in (found_as found (with_taken area blocks s)) area) ∙ ap (lacks_with s task area) (owned_more area s found blocks each) in
+    let after = lacks_is (found_as found (with_taken_blocks area blocks s)) task area ∙ same_with s found area blocks task (owned_in (found_as found (with_taken_blocks area blocks s)) area) ∙ ap (lacks_with s task area) (owned_more area s found blocks each) in
     let falls = falls_with s task area (owned_in s area) blocks in omega (arith, before, after, falls))
 
 pub lacking_found : (s : Seat) (found : List ℕ) (area : Area) (task : Task) → lacking (found_as found s) task area ≡ lacking s task area

@@ -12,12 +12,12 @@ use Rattle.pmem_words.specs.Leads.{Leads, LeadsAfter}
 use Rattle.asks.specs.SharedWords.{SharedWords}
 use Rattle.pmem_words.specs.PlainWords.{plain}
 use Rattle.pmem_words.proofs.LeadsLemmas.{leads_weaker}
-use Rattle.log_core.specs.Works.{shape_of}
+use Rattle.log_core.specs.Works.{seat_shape}
 use Rattle.block_bitmap.specs.declared.take.Take.{Take}
 use Rattle.block_bitmap.specs.declared.take.Taken.{Taken}
 use Rattle.block_bitmap.specs.declared.take.Taken.TheVariants.{NoSpace}
 use Rattle.block_bitmap.specs.TakeBits.{bits_of}
-use Rattle.block_bitmap.specs.TakeScript.{last_word, with_taken, moved_on, less, take_script}
+use Rattle.block_bitmap.specs.TakeScript.{last_word, with_taken_blocks, moved_on, less, take_script}
 use Rattle.block_bitmap.specs.TakeAlone.{AreSet, found_as, HasFound}
 use Rattle.block_bitmap.proofs.TakeWords.{some_in, within_total}
 use Rattle.block_bitmap.proofs.TakeChosen.{wanted_again}
@@ -103,7 +103,7 @@ module _ (area : Area) (passed count : ℕ) (s : Seat) (p : SharedWords) (can : 
       passed = λ v low high. (let same : v ≡ word = omega (arith, low, high) in subst (λ (w : ℕ). slice_index seen_twice w ≡ bit_or (slice_index s.blocks.found w) (slice_index next w)) (sym same) at);
       others = λ v out. get_or-set_other seen_once word v (bit_or (slice_index seen_once word) (bit_or found bits)) 0 (λ same. out_not v out same) ∙ found_once.others v out;
     };
-    set = subst (λ (blocks : List ℕ). AreSet blocks p.taken next) (wanted_again (shape_of s) area word found count) (set_in p.taken word bits inside);
+    set = subst (λ (blocks : List ℕ). AreSet blocks p.taken next) (wanted_again (seat_shape s) area word found count) (set_in p.taken word bits inside);
     kept = λ v other. get_or-set_other p.taken word v (bit_or found bits) 0 other;
   }
     where
@@ -119,7 +119,7 @@ module _ (area : Area) (passed count : ℕ) (s : Seat) (p : SharedWords) (can : 
 
   -- on from the word, or the end, after all its clear blocks were taken
   module _ (after seen : List ℕ) (n : ℕ) (t : Seat) (known : Option ℕ) (passes : Passes word here p.taken after s.blocks.found seen) (short : length here < count)
-      (is : found_as seen (with_taken area here s) ≡ t) (left : count - length here ≡ n)
+      (is : found_as seen (with_taken_blocks area here s) ≡ t) (left : count - length here ≡ n)
       (later : word < last_word area s → Leads take_script (over take_script plain) (λ out u q. RestAlone area n (first_of s.geometry area / 64 + (passed + 1)) t (record p { taken = after }) out u q) (pass_at area n (passed + 1)) t (record p { taken = after })) where
     pub continues : (out : Taken) (u : Seat) (q : SharedWords) → RestAlone area n (first_of s.geometry area / 64 + (passed + 1)) t (record p { taken = after }) out u q → Ends out u q
     continues out u q r = goes_on area count word s p after seen from_first to_end passes short out u q

@@ -16,11 +16,11 @@ use Rattle.asks.specs.SharedWords.{SharedWords}
 use Rattle.pmem_words.specs.PlainWords.{plain}
 use Rattle.pmem_words.proofs.LeadsLemmas.{leads_weaker}
 use Rattle.pmem_words.proofs.PlainLemmas.{leads_plain, leads_plain_kept}
-use Rattle.log_core.specs.Works.{shape_of}
+use Rattle.log_core.specs.Works.{seat_shape}
 use Rattle.block_bitmap.specs.declared.take.Take.{Take}
 use Rattle.block_bitmap.specs.declared.take.Taken.{Taken}
 use Rattle.block_bitmap.specs.TakeBits.{bits_of, clear_in, area_in}
-use Rattle.block_bitmap.specs.TakeScript.{take_of, fresh, last_word, with_found, with_taken, settled_by, ended_or, take_script}
+use Rattle.block_bitmap.specs.TakeScript.{take_of, fresh, last_word, with_found, with_taken_blocks, settled_by, ended_or, take_script}
 use Rattle.block_bitmap.specs.TakeAlone.{outcome, free_blocks, AreSet, found_as, HasFound, HasPassed}
 use Rattle.block_bitmap.proofs.TakeWords.{some_in, within_total}
 use Rattle.block_bitmap.proofs.TakeSteps.{none_taken}
@@ -55,7 +55,7 @@ module _ (area : Area) (passed count : ℕ) (s : Seat) (p : SharedWords) (can : 
   set_there = record p { taken = slice_set p.taken word (bit_or found (bits_of wanted)) }
 
   abbrev taken_there : List ℕ → Seat
-  taken_there blocks = with_found word (bit_or found (bits_of wanted)) (with_taken area blocks loaded)
+  taken_there blocks = with_found word (bit_or found (bits_of wanted)) (with_taken_blocks area blocks loaded)
 
   abbrev setting : Take
   setting = record { area = area; count = count; passed = passed; known = Some found }
@@ -73,7 +73,7 @@ module _ (area : Area) (passed count : ℕ) (s : Seat) (p : SharedWords) (can : 
       (moves_by area passed count s p can some to (next area passed count s p can some to) (seen_twice area passed count s p can some to) (count - length wanted) (taken_there wanted) (Some found)
       (subst (λ (blocks : List ℕ). Passes word blocks p.taken (next area passed count s p can some to) s.blocks.found (seen_twice area passed count s p can some to)) all (passes_some area passed count s p can some to))
       short
-      (ap (λ (blocks : List ℕ). found_as (seen_twice area passed count s p can some to) (with_taken area blocks s)) (sym all))
+      (ap (λ (blocks : List ℕ). found_as (seen_twice area passed count s p can some to) (with_taken_blocks area blocks s)) (sym all))
       (ap (λ (n : ℕ). count - n) (ap length (sym all)))
       (λ less. rec less (count - length wanted) (taken_there wanted) set_there refl (omega (arith, left)) (record { room = room; found = found_long; bitmap = bitmap }))
       (nat_lt word (last_word area s)) refl)
@@ -87,8 +87,8 @@ module _ (area : Area) (passed count : ℕ) (s : Seat) (p : SharedWords) (can : 
       all : wanted ≡ here
       all = take_all count here (omega (arith, short))
 
-      none : clear_in (bit_or found (bit_or found (bits_of wanted))) (area_in (shape_of s) area word) ≡ []
-      none = covered found (bits_of wanted) (area_in (shape_of s) area word) (λ i. (let same = ap (λ (blocks : List ℕ). bit_at (bits_of blocks) i) all in omega (arith, same)))
+      none : clear_in (bit_or found (bit_or found (bits_of wanted))) (area_in (seat_shape s) area word) ≡ []
+      none = covered found (bits_of wanted) (area_in (seat_shape s) area word) (λ i. (let same = ap (λ (blocks : List ℕ). bit_at (bits_of blocks) i) all in omega (arith, same)))
 
       room : length (taken_there wanted).blocks.owned + (count - length wanted) ≤ owned_room s.geometry
       room = (let room = can.room in let long = length-append s.blocks.owned (map (fresh area) wanted) in let count = length-map wanted (fresh area) in omega (arith, room, long, count, wanted_count))
@@ -101,7 +101,7 @@ module _ (area : Area) (passed count : ℕ) (s : Seat) (p : SharedWords) (can : 
 
   set_on : LeadsAfter take_script (over take_script plain) Ends (take_script.after setting loaded found) set_there
   set_on = subst (λ (blocks : List ℕ). LeadsAfter take_script (over take_script plain) Ends (ended_or (count - length blocks == 0) (record { area = area; count = count - length blocks; passed = passed; known = Some found }) (taken_there blocks) (bit_or found (bit_or found (bits_of wanted)))) set_there)
-      (sym (clear_still found count (area_in (shape_of s) area word))) (ended_by (count - length wanted == 0) refl)
+      (sym (clear_still found count (area_in (seat_shape s) area word))) (ended_by (count - length wanted == 0) refl)
 
   long_once : length loaded.blocks.found ≡ length s.blocks.found
   long_once = length-set s.blocks.found word (bit_or (slice_index s.blocks.found word) found)
@@ -114,7 +114,7 @@ module _ (area : Area) (passed count : ℕ) (s : Seat) (p : SharedWords) (can : 
   load_on : (blocks : List ℕ) → here ≡ blocks → LeadsAfter take_script (over take_script plain) Ends (settled_by blocks (pass_at area count passed) loaded found) p
   load_on [] none =
       moves_by area passed count s p can some to p.taken (seen_once area passed count s p can some to) count loaded None (passes_none area passed count s p can some to none) (let count_is = ap length none in omega (arith, count_is, some))
-      (ap (λ (blocks : List ℕ). found_as (seen_once area passed count s p can some to) (with_taken area blocks s)) none ∙ ap (found_as (seen_once area passed count s p can some to)) (none_taken area s))
+      (ap (λ (blocks : List ℕ). found_as (seen_once area passed count s p can some to) (with_taken_blocks area blocks s)) none ∙ ap (found_as (seen_once area passed count s p can some to)) (none_taken area s))
       (let count_is = ap length none in omega (arith, count_is))
       (λ less. rec less count loaded p refl some (record { room = can.room; found = long_once ∙ can.found; bitmap = can.bitmap }))
       (nat_lt word (last_word area s)) refl
@@ -135,7 +135,7 @@ alone_from area (suc left) passed count s p can some last = one_word area passed
 -- what is left after taking blocks alone
 pub record TakenAlone (area : Area) (count : ℕ) (s : Seat) (p : SharedWords) (out : Taken) (t : Seat) (q : SharedWords) : Type 0 where
   pub outcome_is : out ≡ outcome area count (length (free_blocks s.geometry area p.taken))
-  pub seat : t ≡ found_as t.blocks.found (with_taken area (take count (free_blocks s.geometry area p.taken)) s)
+  pub seat : t ≡ found_as t.blocks.found (with_taken_blocks area (take count (free_blocks s.geometry area p.taken)) s)
   pub found : HasPassed area out s q.taken t
   pub set : AreSet (take count (free_blocks s.geometry area p.taken)) p.taken q.taken
   pub memory : q ≡ record p { taken = q.taken }
@@ -143,7 +143,7 @@ pub record TakenAlone (area : Area) (count : ℕ) (s : Seat) (p : SharedWords) (
 whole : (area : Area) (count word : ℕ) (s : Seat) (p : SharedWords) (out : Taken) (t : Seat) (q : SharedWords) → word ≡ first_of s.geometry area / 64 → RestAlone area count word s p out t q → TakenAlone area count s p out t q
 whole area count word s p out t q first r = record {
   outcome_is = r.outcome_is ∙ ap (λ (blocks : List ℕ). outcome area count (length blocks)) all;
-  seat = r.seat ∙ ap (λ (blocks : List ℕ). found_as t.blocks.found (with_taken area (take count blocks) s)) all;
+  seat = r.seat ∙ ap (λ (blocks : List ℕ). found_as t.blocks.found (with_taken_blocks area (take count blocks) s)) all;
   found = (r.last, subst (λ (w : ℕ). w ≤ r.last) first r.from, r.to, r.ends, subst (λ (w : ℕ). HasFound w r.last q.taken s.blocks.found t.blocks.found) first r.found);
   set = subst (λ (blocks : List ℕ). AreSet (take count blocks) p.taken q.taken) all r.set;
   memory = r.memory;

@@ -28,7 +28,7 @@ use Rattle.log_core.specs.Answers.{HasLacked}
 use Rattle.log_core.specs.Within.{no_record, adds_at, EntersOffered, IsFound, Lawful, Serves}
 use Rattle.log_core.specs.Knows.{Knows}
 use Rattle.log_core.proofs.BlockLists.{has_filter, among_range}
-use Rattle.log_core.proofs.SetsBits.{sets_facts}
+use Rattle.log_core.proofs.kinds.SetsBits.{sets_facts}
 use Rattle.block_bitmap.specs.declared.take.Take.{Take}
 use Rattle.block_bitmap.specs.declared.take.Taken.{Taken}
 use Rattle.block_bitmap.specs.declared.take.Taken.TheVariants.{Taken as HasTaken, NoSpace}

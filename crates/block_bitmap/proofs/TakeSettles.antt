@@ -16,7 +16,7 @@ use Rattle.pmem_words.specs.Seats.{Seat}
 use Rattle.pmem_words.specs.declared.machine.Turn.TheVariants.{Go, Done}
 use Rattle.log_core.specs.Entries.{has}
 use Rattle.log_core.specs.Views.{Ghost}
-use Rattle.log_core.specs.Works.{shape_of}
+use Rattle.log_core.specs.Works.{seat_shape}
 use Rattle.log_core.specs.Needs.{is_in_area, is_area, owned_numbers, lacking, is_found_taken, is_pass_found}
 use Rattle.log_core.specs.Answers.{HasLacked}
 use Rattle.log_core.proofs.BlockLists.{has_filter, in_range}
@@ -70,22 +70,22 @@ module _ (area : Area) (total_count : ℕ) (first : Seat) (count passed : ℕ) (
   module _ (g : Ghost) (stands : TakeStands area total_count first (record { area = area; count = count; passed = passed; known = None }) s g)
       (known_found : (place : ℕ) → bit_at known place ≤ bit_at (slice_index s.blocks.found (first_of s.geometry area / 64 + passed)) place) where
     -- where nothing of the word is open, each of its blocks of the area was found taken
-    word_found : open_at (at None) s known ≡ [] → (block : ℕ) → block / 64 ≡ word → is_in_area (shape_of s) area block ≡ true → bit_of s.blocks.found block ≡ 1
+    word_found : open_at (at None) s known ≡ [] → (block : ℕ) → block / 64 ≡ word → is_in_area (seat_shape s) area block ≡ true → bit_of s.blocks.found block ≡ 1
     word_found none block is inside = by (cases_eq (bit_at known (block % 64)) 0)
       where
         by : (bit_at known (block % 64) ≡ 0) ⊎ (bit_at known (block % 64) ≡ 0 → ⊥) → bit_of s.blocks.found block ≡ 1
         by (inl clear) =
-            (let listed = has_filter (λ (x : ℕ). bit_at known (x % 64) == 0) (area_in (shape_of s) area word) block in
-            let inner = has_filter (λ (x : ℕ). is_in_area (shape_of s) area x) (blocks_of_word word) block in
-            let yes_inner = inner ∙ and_from (is_in_area (shape_of s) area block) (has (blocks_of_word word) block) inside (is_of_word word block is) in
-            let some = listed ∙ and_from (bit_at known (block % 64) == 0) (has (area_in (shape_of s) area word) block) (eq-eqb (bit_at known (block % 64)) 0 clear) yes_inner in
+            (let listed = has_filter (λ (x : ℕ). bit_at known (x % 64) == 0) (area_in (seat_shape s) area word) block in
+            let inner = has_filter (λ (x : ℕ). is_in_area (seat_shape s) area x) (blocks_of_word word) block in
+            let yes_inner = inner ∙ and_from (is_in_area (seat_shape s) area block) (has (blocks_of_word word) block) inside (is_of_word word block is) in
+            let some = listed ∙ and_from (bit_at known (block % 64) == 0) (has (area_in (seat_shape s) area word) block) (eq-eqb (bit_at known (block % 64)) 0 clear) yes_inner in
             absurd (false≢true (ap (λ (blocks : List ℕ). has blocks block) (sym none) ∙ some)))
         by (inr set) =
             (let below = bit_at-lt (slice_index s.blocks.found word) (block % 64) in
             let more = known_found (block % 64) in
             ap (λ (w : ℕ). bit_at (slice_index s.blocks.found w) (block % 64)) is ∙ omega (arith, set, below, more))
 
-    found_to : open_at (at None) s known ≡ [] → (block : ℕ) → block / 64 < word + 1 → is_in_area (shape_of s) area block ≡ true → bit_of s.blocks.found block ≡ 1
+    found_to : open_at (at None) s known ≡ [] → (block : ℕ) → block / 64 < word + 1 → is_in_area (seat_shape s) area block ≡ true → bit_of s.blocks.found block ≡ 1
     found_to none block low inside = by (cases_eq (block / 64) word)
       where
         by : (block / 64 ≡ word) ⊎ (block / 64 ≡ word → ⊥) → bit_of s.blocks.found block ≡ 1
@@ -106,9 +106,9 @@ module _ (area : Area) (total_count : ℕ) (first : Seat) (count passed : ℕ) (
 
     -- the pass over the last word has found each block of the area
     found_all : open_at (at None) s known ≡ [] → last_word area s ≤ word → is_found_taken s area ≡ true
-    found_all none last = all_range (λ (block : ℕ). not (is_in_area (shape_of s) area block) || (bit_of s.blocks.found block == 1)) 1 (total (shape_of s) - 1) (λ block low high. by block (is_in_area (shape_of s) area block) refl)
+    found_all none last = all_range (λ (block : ℕ). not (is_in_area (seat_shape s) area block) || (bit_of s.blocks.found block == 1)) 1 (total (seat_shape s) - 1) (λ block low high. by block (is_in_area (seat_shape s) area block) refl)
       where
-        by : (block : ℕ) (inside : Bool) → is_in_area (shape_of s) area block ≡ inside → (not inside || (bit_of s.blocks.found block == 1)) ≡ true
+        by : (block : ℕ) (inside : Bool) → is_in_area (seat_shape s) area block ≡ inside → (not inside || (bit_of s.blocks.found block == 1)) ≡ true
         by block true inside = (let between = area_from s.geometry area block inside in let high = between.1 in eq-eqb (bit_of s.blocks.found block) 1 (found_to none block (omega (arith, high, last)) inside))
         by block false inside = refl
 

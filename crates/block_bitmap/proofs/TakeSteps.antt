@@ -7,14 +7,14 @@ use Rattle.std.specs.Int.{bit_at}
 use Rattle.log_entry.specs.Geometry.{count_of, first_of}
 use Rattle.log_entry.specs.declared.shapes.Geometry.{Geometry}
 use Rattle.pmem_words.specs.declared.machine.Turn.TheVariants.{Go, Done}
-use Rattle.log_core.specs.Works.{shape_of}
+use Rattle.log_core.specs.Works.{seat_shape}
 use Rattle.block_bitmap.specs.declared.take.Take.{Take}
 use Rattle.block_bitmap.specs.declared.take.Taken.TheVariants.{Taken as HasTaken, NoSpace}
 use Rattle.pmem_words.specs.declared.owned.OwnedBlock.{OwnedBlock}
 use Rattle.pmem_words.specs.Seats.{Seat, q_of}
 use Rattle.log_entry.specs.declared.shapes.Area.{Area}
 use Rattle.block_bitmap.specs.TakeBits.{image_of, blocks_in, bits_of, clear_in, open_blocks}
-use Rattle.block_bitmap.specs.TakeScript.{word_of, last_word, open_at, fresh, with_taken, moved_on, settled_by, settled, wanted_at, gained_at, less, with_found, seat_set, known_set, ended_or, after_at}
+use Rattle.block_bitmap.specs.TakeScript.{word_of, last_word, open_at, fresh, with_taken_blocks, moved_on, settled_by, settled, wanted_at, gained_at, less, with_found, seat_set, known_set, ended_or, after_at}
 use Rattle.block_bitmap.specs.TakeLists.{at_most}
 use Rattle.block_bitmap.proofs.TakeChosen.{wanted_again, clear_is}
 use Rattle.block_bitmap.proofs.TakeLowest.{none_in, without_lowest, bit_of_lowest, lowest_in, lowest_bit, or_zero, or_assoc}
@@ -33,7 +33,7 @@ abbrev owning : Seat → List OwnedBlock → List ℕ → Seat
 owning s owned contents = record s { blocks = record s.blocks { owned = owned; contents = contents } }
 
 -- the first block is taken before the others
-pub taken_first : (area : Area) (block : ℕ) (blocks : List ℕ) (s : Seat) → with_taken area (block ∷ blocks) s ≡ with_taken area blocks (with_one area block s)
+pub taken_first : (area : Area) (block : ℕ) (blocks : List ℕ) (s : Seat) → with_taken_blocks area (block ∷ blocks) s ≡ with_taken_blocks area blocks (with_one area block s)
 taken_first area block blocks s =
     (let q = q_of s.geometry in
     let count : (suc (length blocks)) * q ≡ q + length blocks * q = omega arith in
@@ -43,7 +43,7 @@ taken_first area block blocks s =
     ∙ ap (λ (contents : List ℕ). owning s (s.blocks.owned ++ fresh area block ∷ [] ++ map (fresh area) blocks) contents) (sym (append_assoc s.blocks.contents (replicate q 0) (replicate (length blocks * q) 0))))
 
 -- no block, no change
-pub none_taken : (area : Area) (s : Seat) → with_taken area [] s ≡ s
+pub none_taken : (area : Area) (s : Seat) → with_taken_blocks area [] s ≡ s
 none_taken area s =
     (let none : 0 * q_of s.geometry ≡ 0 = omega arith in
     ap (λ (owned : List OwnedBlock). owning s owned (s.blocks.contents ++ replicate (0 * q_of s.geometry) 0)) (append-nil s.blocks.owned)
@@ -76,7 +76,7 @@ none_wanted word least rest = or_zero least
 -- where the machine goes from a word, by the bits that are left to take there
 module _ (m : Take) (s : Seat) (known word bits : ℕ) (g : Geometry) (at : word ≡ word_of m s) (same : g ≡ s.geometry) (is : blocks_in word bits ≡ open_blocks (image_of g) m.area word known) where
   open_are : open_at m s known ≡ blocks_in word bits
-  open_are = sym (is ∙ ap (λ (h : Geometry). open_blocks (image_of h) m.area word known) same ∙ ap (λ (w : ℕ). open_blocks (shape_of s) m.area w known) at)
+  open_are = sym (is ∙ ap (λ (h : Geometry). open_blocks (image_of h) m.area word known) same ∙ ap (λ (w : ℕ). open_blocks (seat_shape s) m.area w known) at)
 
   pub settled_some : 0 < bits → bits < 2 ^ 64 → settled m s known ≡ record { machine = record m { known = Some known }; seat = s; turn = Go }
   settled_some some small = ap (λ (blocks : List ℕ). settled_by blocks m s known) (open_are ∙ lowest_in word bits some small)
@@ -101,15 +101,15 @@ few_gained m s known found = (let gained = at_most (λ block. bit_at found (bloc
 pub gained_is : (m : Take) (s : Seat) (known word bits found : ℕ) → word ≡ word_of m s → bits ≡ bits_of (wanted_at m s known) → found < 2 ^ 64 → blocks_in word (bit_and bits (2 ^ 64 - 1 - found)) ≡ gained_at m s known found
 gained_is m s known word bits found at is small =
     clear_is word bits found small
-    ∙ ap (clear_in found) (ap (λ (w : ℕ). blocks_in w bits) at ∙ ap (blocks_in (word_of m s)) is ∙ wanted_again (shape_of s) m.area (word_of m s) known m.count)
+    ∙ ap (clear_in found) (ap (λ (w : ℕ). blocks_in w bits) at ∙ ap (blocks_in (word_of m s)) is ∙ wanted_again (seat_shape s) m.area (word_of m s) known m.count)
 
 -- what setting bits makes of the seat
 pub set_is : (m : Take) (s : Seat) (known word bits found : ℕ) → word ≡ word_of m s → bits ≡ bits_of (wanted_at m s known) → found < 2 ^ 64 →
-    with_found word (bit_or found bits) (with_taken m.area (blocks_in word (bit_and bits (2 ^ 64 - 1 - found))) s) ≡ seat_set m s known found
+    with_found word (bit_or found bits) (with_taken_blocks m.area (blocks_in word (bit_and bits (2 ^ 64 - 1 - found))) s) ≡ seat_set m s known found
 set_is m s known word bits found at is small =
-    ap (λ (gained : List ℕ). with_found word (bit_or found bits) (with_taken m.area gained s)) (gained_is m s known word bits found at is small)
-    ∙ ap (λ (w : ℕ). with_found w (bit_or found bits) (with_taken m.area (gained_at m s known found) s)) at
-    ∙ ap (λ (b : ℕ). with_found (word_of m s) (bit_or found b) (with_taken m.area (gained_at m s known found) s)) is
+    ap (λ (gained : List ℕ). with_found word (bit_or found bits) (with_taken_blocks m.area gained s)) (gained_is m s known word bits found at is small)
+    ∙ ap (λ (w : ℕ). with_found w (bit_or found bits) (with_taken_blocks m.area (gained_at m s known found) s)) at
+    ∙ ap (λ (b : ℕ). with_found (word_of m s) (bit_or found b) (with_taken_blocks m.area (gained_at m s known found) s)) is
 
 module _ (m : Take) (s : Seat) (known found count : ℕ) (at : m.known ≡ Some known) (is : count ≡ length (gained_at m s known found)) where
   pub after_all : m.count - count ≡ 0 → after_at m.known m s found ≡ record { machine = less m count; seat = seat_set m s known found; turn = Done HasTaken }
@@ -137,7 +137,7 @@ pub settled_seat : (n : Take) (v : Seat) (k : ℕ) → (settled n v k).seat ≡ 
 settled_seat n v k = settled_seat_by (open_at n v k) n v k
 
 module _ (m : Take) (s t u : Seat) (known word bits found count : ℕ) (at : word ≡ word_of m s) (is : bits ≡ bits_of (wanted_at m s known)) (small : found < 2 ^ 64) (has : m.known ≡ Some known)
-    (taken : t ≡ with_taken m.area (blocks_in word (bit_and bits (2 ^ 64 - 1 - found))) s) (told : u ≡ with_found word (bit_or found bits) t) (counted : count ≡ length (blocks_in word (bit_and bits (2 ^ 64 - 1 - found)))) where
+    (taken : t ≡ with_taken_blocks m.area (blocks_in word (bit_and bits (2 ^ 64 - 1 - found))) s) (told : u ≡ with_found word (bit_or found bits) t) (counted : count ≡ length (blocks_in word (bit_and bits (2 ^ 64 - 1 - found)))) where
   seat_is : u ≡ seat_set m s known found
   seat_is = told ∙ ap (with_found word (bit_or found bits)) taken ∙ set_is m s known word bits found at is small
 

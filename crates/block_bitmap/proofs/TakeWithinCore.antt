@@ -4,11 +4,11 @@ use Rattle.log_entry.specs.declared.shapes.Area.{Area}
 use Rattle.log_entry.specs.Geometry.{first_of}
 use Rattle.pmem_words.specs.Seats.{Seat}
 use Rattle.log_core.specs.Views.{Ghost}
-use Rattle.log_core.specs.Works.{shape_of}
+use Rattle.log_core.specs.Works.{seat_shape}
 use Rattle.log_core.specs.Needs.{is_in_area, owned_in}
 use Rattle.log_core.specs.Within.{no_record}
-use Rattle.log_core.proofs.Serving.{leads_within}
-use Rattle.log_core.proofs.StartMeets.{start_meets}
+use Rattle.log_core.proofs.machines.Serving.{leads_within}
+use Rattle.log_core.proofs.starts.StartMeets.{start_meets}
 use Rattle.block_bitmap.specs.TakeScript.{take_of, take_script}
 use Rattle.block_bitmap.specs.TakeLowering.{take_lowers}
 use Rattle.block_bitmap.specs.TakeAlone.{found_as}
@@ -30,7 +30,7 @@ begins area count s g h may = record {
   known = tt;
 }
   where
-    before : (block : ℕ) → block / 64 < first_of s.geometry area / 64 + 0 → is_in_area (shape_of s) area block ≡ true → ⊥
+    before : (block : ℕ) → block / 64 < first_of s.geometry area / 64 + 0 → is_in_area (seat_shape s) area block ≡ true → ⊥
     before block less inside = (let from = (area_from s.geometry area block inside).0 in omega (arith, less, from))
 
 pub takes_within : TakesWithin

@@ -113,21 +113,21 @@ pub others_left : (word : ℕ) (owned : List OwnedBlock) → owned_but (is_among
 others_left word owned = others_from word owned owned (λ block h. h)
 
 -- they are no more than before, and fewer where one was of the word
-pub no_more : (word : ℕ) (owned : List OwnedBlock) → length (others_of word owned) ≤ length owned
-no_more word [] = omega arith
-no_more word (o ∷ owned) = by (o.block / 64 == word) (no_more word owned)
+pub no_more_others : (word : ℕ) (owned : List OwnedBlock) → length (others_of word owned) ≤ length owned
+no_more_others word [] = omega arith
+no_more_others word (o ∷ owned) = by (o.block / 64 == word) (no_more_others word owned)
   where
     by : (here : Bool) → length (others_of word owned) ≤ length owned → length (if not here then o ∷ others_of word owned else others_of word owned) ≤ suc (length owned)
     by true few = omega (arith, few)
     by false few = omega (arith, few)
 
-pub fewer : (word : ℕ) (owned : List OwnedBlock) → is_in word owned ≡ true → length (others_of word owned) < length owned
-fewer word [] some = cc
-fewer word (o ∷ owned) some = by (o.block / 64 == word) some (λ one. fewer word owned one)
+pub fewer_others : (word : ℕ) (owned : List OwnedBlock) → is_in word owned ≡ true → length (others_of word owned) < length owned
+fewer_others word [] some = cc
+fewer_others word (o ∷ owned) some = by (o.block / 64 == word) some (λ one. fewer_others word owned one)
   where
     by : (here : Bool) → (here || is_in word owned) ≡ true → (is_in word owned ≡ true → length (others_of word owned) < length owned)
         → length (if not here then o ∷ others_of word owned else others_of word owned) < suc (length owned)
-    by true one rest = (let few = no_more word owned in omega (arith, few))
+    by true one rest = (let few = no_more_others word owned in omega (arith, few))
     by false one rest = (let few = rest one in omega (arith, few))
 
 -- the least word is that of a block

@@ -17,7 +17,7 @@ use Rattle.log_core.specs.Runs.{IsReached}
 use Rattle.log_core.specs.Works.{stored_at}
 use Rattle.log_core.specs.Steps.{is_head_marked}
 use Rattle.log_core.specs.Certain.{IsCertain}
-use Rattle.log_core.specs.Within.{no_record, within, IsLinked, IsLeft, Agrees, EndsAlone}
+use Rattle.log_core.specs.Within.{no_record, within, IsLinkedToView, IsLeft, Agrees, EndsAlone}
 use Rattle.block_bitmap.specs.declared.fill.Fill.{Fill}
 use Rattle.block_bitmap.specs.declared.fill.Fill.TheVariants.{Store, Mark, Fence}
 use Rattle.block_bitmap.specs.OwnedWords.{image_word, content_at, unfilled}
@@ -89,7 +89,7 @@ pub record IsFilled (first count : ℕ) (start : Seat) (out : Unit {0}) (s : Sea
 -- from each start, at each seat, and whatever other seats do between its steps: each of the machine's asks is a step that the core
 -- allows, each answer that comes there is admitted, and it ends so
 abbrev pub FillsWithin : Type 0
-FillsWithin = (o : Origin) → IsStart o → (seat number first count : ℕ) (rest : List Call) (s : Seat) (v : View) → IsLinked number rest (MayFill first count) s v →
+FillsWithin = (o : Origin) → IsStart o → (seat number first count : ℕ) (rest : List Call) (s : Seat) (v : View) → IsLinkedToView number rest (MayFill first count) s v →
     Leads fill_script (within o seat number fill_script no_record) (IsLeft rest no_record (IsFilled first count s)) (fill_of first count) s v
 
 -- and from then on, while the seat has this view, no other value than its content is possible in any word of those blocks
@@ -100,6 +100,6 @@ FilledAreCertain = (o : Origin) → IsStart o → (seat first count : ℕ) (rest
 
 -- over a plain memory that has the words of such a core, the seat alone comes to the same in a core that a run reaches
 abbrev pub FillsAlone : Type 0
-FillsAlone = (o : Origin) → IsStart o → (seat number first count : ℕ) (rest : List Call) (s : Seat) (v : View) → IsLinked number rest (MayFill first count) s v →
+FillsAlone = (o : Origin) → IsStart o → (seat number first count : ℕ) (rest : List Call) (s : Seat) (v : View) → IsLinkedToView number rest (MayFill first count) s v →
     (c : Core) (p : SharedWords) → IsReached o c → seat < length c.views → view_of c.views seat ≡ v → Agrees p c.memory →
     Leads fill_script (over fill_script plain) (EndsAlone o seat (IsLeft rest no_record (IsFilled first count s))) (fill_of first count) s p

@@ -1,21 +1,21 @@
 -- What a fill that ran alone leaves.
 use Rattle.std.specs.Prelude.{ℕ, zero, suc, ◌+◌, ◌*◌, ◌/◌, ◌<◌, ◌≤◌, ◌≡◌, ◌≢◌, List, length, slice_index, slice_set}
 use Rattle.pmem_words.specs.Seats.{Seat, q_of}
-use Rattle.block_bitmap.specs.OwnedWords.{block_at, image_word, content_at, unfilled, counted, all_fenced}
+use Rattle.block_bitmap.specs.OwnedWords.{owned_block_at, image_word, content_at, unfilled, with_filled_block, all_fenced}
 
 -- the image's words with n words of the block at a place of the list, from this word of it on
-abbrev pub with_words : Seat → ℕ → ℕ → ℕ → List ℕ → List ℕ
-with_words s place word zero words = words
-with_words s place word (suc n) words = with_words s place (word + 1) n (slice_set words (image_word s place word) (content_at s place word))
+abbrev pub with_block_words_from : Seat → ℕ → ℕ → ℕ → List ℕ → List ℕ
+with_block_words_from s place word zero words = words
+with_block_words_from s place word (suc n) words = with_block_words_from s place (word + 1) n (slice_set words (image_word s place word) (content_at s place word))
 
 -- with n blocks from a place of the list on
 abbrev pub with_blocks : Seat → ℕ → ℕ → List ℕ → List ℕ
 with_blocks s place zero words = words
-with_blocks s place (suc n) words = with_blocks s (place + 1) n (with_words s place 0 (q_of s.geometry) words)
+with_blocks s place (suc n) words = with_blocks s (place + 1) n (with_block_words_from s place 0 (q_of s.geometry) words)
 
 -- the seat with a block that was stored and marked since, and not fenced
 abbrev pub filled_anew : Seat → ℕ → Seat
-filled_anew s place = counted (unfilled s place) place
+filled_anew s place = with_filled_block (unfilled s place) place
 
 -- with n such blocks from a place of the list on
 abbrev pub filled_from : Seat → ℕ → ℕ → Seat
@@ -28,11 +28,11 @@ filled_seat s place n = all_fenced (filled_from s place n)
 
 -- the image has all words of n blocks from a place of the list on
 abbrev pub HasWordsOf : Seat → ℕ → ℕ → List ℕ → Type 0
-HasWordsOf s place n words = (k : ℕ) → place ≤ k → k < place + n → block_at s k * q_of s.geometry + q_of s.geometry ≤ length words
+HasWordsOf s place n words = (k : ℕ) → place ≤ k → k < place + n → owned_block_at s k * q_of s.geometry + q_of s.geometry ≤ length words
 
 -- no two of n places from one on have one block
-abbrev pub AreApart : Seat → ℕ → ℕ → Type 0
-AreApart s place n = (a b : ℕ) → place ≤ a → a < b → b < place + n → block_at s a ≢ block_at s b
+abbrev pub NamesEachOnce : Seat → ℕ → ℕ → Type 0
+NamesEachOnce s place n = (a b : ℕ) → place ≤ a → a < b → b < place + n → owned_block_at s a ≢ owned_block_at s b
 
 -- each word of n blocks from a place of the list on is its content
 abbrev pub HoldsBlocks : Seat → ℕ → ℕ → List ℕ → Type 0
@@ -40,4 +40,4 @@ HoldsBlocks s place n words = (k word : ℕ) → place ≤ k → k < place + n �
 
 -- the words of all other blocks are as before
 abbrev pub KeepsOthers : Seat → ℕ → ℕ → List ℕ → List ℕ → Type 0
-KeepsOthers s place n before after = (at : ℕ) → ((k : ℕ) → place ≤ k → k < place + n → at / q_of s.geometry ≢ block_at s k) → slice_index after at ≡ slice_index before at
+KeepsOthers s place n before after = (at : ℕ) → ((k : ℕ) → place ≤ k → k < place + n → at / q_of s.geometry ≢ owned_block_at s k) → slice_index after at ≡ slice_index before at

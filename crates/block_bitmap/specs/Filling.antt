@@ -10,7 +10,7 @@ use Rattle.asks.specs.declared.ask.Place.TheVariants.{Image}
 use Rattle.pmem_words.specs.declared.machine.Turn.TheVariants.{Go, Done}
 use Rattle.block_bitmap.specs.declared.fill.Fill.{Fill}
 use Rattle.block_bitmap.specs.declared.fill.Fill.TheVariants.{Store, Mark, Fence}
-use Rattle.block_bitmap.specs.OwnedWords.{image_word, content_at, unfilled, counted, all_fenced}
+use Rattle.block_bitmap.specs.OwnedWords.{image_word, content_at, unfilled, with_filled_block, all_fenced}
 
 -- a fill that has not begun
 abbrev pub fill_of : ℕ → ℕ → Fill
@@ -47,7 +47,7 @@ block_next false place left = Fence
 -- after a mark: on to the next word, or the block counts as filled
 abbrev pub marked_after : Bool → ℕ → ℕ → ℕ → Seat → After Fill (Unit {0})
 marked_after true place left word s = record { machine = Mark place left (word + 1); seat = s; turn = Go }
-marked_after false place left word s = record { machine = block_next (nat_lt 1 left) place left; seat = counted s place; turn = Go }
+marked_after false place left word s = record { machine = block_next (nat_lt 1 left) place left; seat = with_filled_block s place; turn = Go }
 
 abbrev pub fill_after : Fill → Seat → ℕ → After Fill (Unit {0})
 fill_after (Store place left word) s a = record { machine = stored_next (nat_lt (word + 1) (q_of s.geometry)) place left word; seat = unfilled s place; turn = Go }
@@ -83,7 +83,7 @@ block_lowers false place left word q s is more last some = (let one : left ≡ 1
 mark_lowers : (b : Bool) (place left word q : ℕ) (s : Seat) → q_of s.geometry ≡ q → nat_lt (word + 1) q ≡ b → word < q → 0 < left
     → fill_measure (marked_after b place left word s).machine (marked_after b place left word s).seat + 1 ≡ (left - 1) * (2 * q) + (q - word)
 mark_lowers true place left word q s is more inside some = (let less = ltb-true (word + 1) q more in rw is (omega (arith, less)))
-mark_lowers false place left word q s is more inside some = block_lowers (nat_lt 1 left) place left word q (counted s place) is refl (let last = ltb-false (word + 1) q more in omega (arith, last, inside)) some
+mark_lowers false place left word q s is more inside some = block_lowers (nat_lt 1 left) place left word q (with_filled_block s place) is refl (let last = ltb-false (word + 1) q more in omega (arith, last, inside)) some
 
 pub fill_exact : (m : Fill) (s : Seat) (a : ℕ) → fill_admits m s a → (fill_after m s a).turn ≡ Go → fill_measure (fill_after m s a).machine (fill_after m s a).seat + 1 ≡ fill_measure m s
 fill_exact (Store place left word) s a h go = store_lowers (nat_lt (word + 1) (q_of s.geometry)) place left word (q_of s.geometry) (unfilled s place) refl refl h.inside

@@ -11,7 +11,7 @@ use Rattle.log_core.specs.Origin.{Origin}
 use Rattle.log_core.specs.Cores.{Core}
 use Rattle.log_core.specs.Starts.{IsStart}
 use Rattle.log_core.specs.Runs.{IsReached}
-use Rattle.log_core.specs.Within.{no_record, within, IsLinked, IsLeft, Agrees, EndsAlone}
+use Rattle.log_core.specs.Within.{no_record, within, IsLinkedToView, IsLeft, Agrees, EndsAlone}
 use Rattle.block_bitmap.specs.declared.give.Give.{Give}
 use Rattle.block_bitmap.specs.declared.give.GiveFrom.{GiveFrom}
 use Rattle.block_bitmap.specs.Giving.{give_of, give_script}
@@ -37,11 +37,11 @@ pub record IsGiven (start : Seat) (out : ℕ) (s : Seat) (g : Ghost) : Type 0 wh
 -- from each start, at each seat, and whatever other seats do between its steps: each of the machine's asks is a step that the core
 -- allows, each answer that comes there is admitted, and it ends so
 abbrev pub GivesWithin : Type 0
-GivesWithin = (o : Origin) → IsStart o → (seat number : ℕ) (from : GiveFrom) (rest : List Call) (s : Seat) (v : View) → IsLinked number rest MayGive s v →
+GivesWithin = (o : Origin) → IsStart o → (seat number : ℕ) (from : GiveFrom) (rest : List Call) (s : Seat) (v : View) → IsLinkedToView number rest MayGive s v →
     Leads give_script (within o seat number give_script no_record) (IsLeft rest no_record (IsGiven s)) (give_of from) s v
 
 -- over a plain memory that has the words of such a core, the seat alone comes to the same in a core that a run reaches
 abbrev pub GivesAlone : Type 0
-GivesAlone = (o : Origin) → IsStart o → (seat number : ℕ) (from : GiveFrom) (rest : List Call) (s : Seat) (v : View) → IsLinked number rest MayGive s v →
+GivesAlone = (o : Origin) → IsStart o → (seat number : ℕ) (from : GiveFrom) (rest : List Call) (s : Seat) (v : View) → IsLinkedToView number rest MayGive s v →
     (c : Core) (p : SharedWords) → IsReached o c → seat < length c.views → view_of c.views seat ≡ v → Agrees p c.memory →
     Leads give_script (over give_script plain) (EndsAlone o seat (IsLeft rest no_record (IsGiven s))) (give_of from) s p

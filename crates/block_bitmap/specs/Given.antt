@@ -17,8 +17,8 @@ abbrev pub cleared_from : ℕ → List OwnedBlock → List ℕ → List ℕ
 cleared_from word owned [] = []
 cleared_from word owned (found ∷ words) = word_without word owned found ∷ cleared_from (word + 1) owned words
 
-abbrev pub cleared : List OwnedBlock → List ℕ → List ℕ
-cleared owned words = cleared_from 0 owned words
+abbrev pub bitmap_without : List OwnedBlock → List ℕ → List ℕ
+bitmap_without owned words = cleared_from 0 owned words
 
 -- so many words of the bitmap have the bits of these blocks
 abbrev pub AreInside : ℕ → List OwnedBlock → Type 0
@@ -26,8 +26,8 @@ AreInside words owned = AllByRecursion (λ (o : OwnedBlock). o.block / 64 < word
 
 -- the seat owns no block, and its bits of blocks found taken are without those that it owned
 abbrev pub emptied : Seat → Seat
-emptied s = record s { blocks = record s.blocks { owned = []; contents = []; found = cleared s.blocks.owned s.blocks.found } }
+emptied s = record s { blocks = record s.blocks { owned = []; contents = []; found = bitmap_without s.blocks.owned s.blocks.found } }
 
 -- the bits of these blocks are clear, and each other bit is as before
-abbrev pub IsCleared : List OwnedBlock → List ℕ → List ℕ → Type 0
-IsCleared owned before after = (length after ≡ length before) × ((block : ℕ) → block / 64 < length before → bit_of after block ≡ (if has_block block owned then 0 else bit_of before block))
+abbrev pub HasClearedBits : List OwnedBlock → List ℕ → List ℕ → Type 0
+HasClearedBits owned before after = (length after ≡ length before) × ((block : ℕ) → block / 64 < length before → bit_of after block ≡ (if has_block block owned then 0 else bit_of before block))

@@ -4,12 +4,12 @@ use Rattle.pmem_words.specs.Owned.{owned_at, with_filled, with_fenced, fenced_al
 use Rattle.pmem_words.specs.Seats.{Seat, q_of}
 
 -- the block at a place of the list
-abbrev pub block_at : Seat → ℕ → ℕ
-block_at s place = (owned_at s.blocks.owned place).block
+abbrev pub owned_block_at : Seat → ℕ → ℕ
+owned_block_at s place = (owned_at s.blocks.owned place).block
 
 -- the place in the image of a word of that block
 abbrev pub image_word : Seat → ℕ → ℕ → ℕ
-image_word s place word = block_at s place * q_of s.geometry + word
+image_word s place word = owned_block_at s place * q_of s.geometry + word
 
 -- the word that belongs there
 abbrev pub content_at : Seat → ℕ → ℕ → ℕ
@@ -20,8 +20,8 @@ abbrev pub unfilled : Seat → ℕ → Seat
 unfilled s place = record s { blocks = record s.blocks { owned = with_fenced (with_filled s.blocks.owned place false) place false } }
 
 -- with this block filled
-abbrev pub counted : Seat → ℕ → Seat
-counted s place = record s { blocks = record s.blocks { owned = with_filled s.blocks.owned place true } }
+abbrev pub with_filled_block : Seat → ℕ → Seat
+with_filled_block s place = record s { blocks = record s.blocks { owned = with_filled s.blocks.owned place true } }
 
 -- with each filled block fenced
 abbrev pub all_fenced : Seat → Seat

@@ -7,7 +7,7 @@ use Rattle.std.proofs.lemmas.Nat.Bits.{bit_at_or}
 use Rattle.pmem_words.specs.Seats.{Seat}
 use Rattle.pmem_words.specs.Scripts.{Lowers}
 use Rattle.pmem_words.specs.declared.machine.Turn.TheVariants.{Go}
-use Rattle.log_core.specs.Works.{shape_of}
+use Rattle.log_core.specs.Works.{seat_shape}
 use Rattle.block_bitmap.specs.declared.take.Take.{Take}
 use Rattle.block_bitmap.specs.TakeBits.{blocks_of_word, bits_of, clear_in, area_in}
 use Rattle.block_bitmap.specs.TakeLists.{no_more, fewer, at_most, word_blocks, clear_narrow, first_bit}
@@ -46,10 +46,10 @@ ended_lowers false m s known bound go most some = settled_lowers (open_at m s kn
 
 lowers_at : (known : Option ℕ) (m : Take) (s : Seat) (a : ℕ) → (after_at known m s a).turn ≡ Go → measure_at (after_at known m s a).machine.known (after_at known m s a).machine (after_at known m s a).seat < measure_at known m s
 lowers_at None m s a go = settled_lowers (open_at m s a) m (with_found (word_of m s) a s) a (measure_at None m s) refl go (omega arith)
-    (λ some. (let few = at_most (λ block. bit_at a (block % 64) == 0) (area_in (shape_of s) m.area (word_of m s)) in let most = at_most (λ block. Rattle.log_core.specs.Needs.is_in_area (shape_of s) m.area block) (blocks_of_word (word_of m s)) in let all = word_blocks (word_of m s) in omega (arith, few, most, all)))
+    (λ some. (let few = at_most (λ block. bit_at a (block % 64) == 0) (area_in (seat_shape s) m.area (word_of m s)) in let most = at_most (λ block. Rattle.log_core.specs.Needs.is_in_area (seat_shape s) m.area block) (blocks_of_word (word_of m s)) in let all = word_blocks (word_of m s) in omega (arith, few, most, all)))
 lowers_at (Some known) m s a go =
     ended_lowers (m.count - length (gained_at m s known a) == 0) (less m (length (gained_at m s known a))) (seat_set m s known a) (known_set m s known a) (measure_at (Some known) m s) go (omega arith)
-    (λ left some. (let none = eqb-false (m.count - length (gained_at m s known a)) 0 left in let below = fewer_by m.count (open_at m s known) (area_in (shape_of s) m.area (word_of m s)) known a (omega (arith, none)) refl some in omega (arith, below)))
+    (λ left some. (let none = eqb-false (m.count - length (gained_at m s known a)) 0 left in let below = fewer_by m.count (open_at m s known) (area_in (seat_shape s) m.area (word_of m s)) known a (omega (arith, none)) refl some in omega (arith, below)))
 
 pub take_lowers : Lowers take_script
 take_lowers m s a h go = lowers_at m.known m s a go

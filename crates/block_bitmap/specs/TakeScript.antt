@@ -9,7 +9,7 @@ use Rattle.asks.specs.declared.ask.Ask.{Ask}
 use Rattle.asks.specs.declared.ask.Ask.TheVariants.{Load, SetBits}
 use Rattle.asks.specs.declared.ask.Place.TheVariants.{Map}
 use Rattle.pmem_words.specs.declared.machine.Turn.TheVariants.{Go, Done}
-use Rattle.log_core.specs.Works.{shape_of}
+use Rattle.log_core.specs.Works.{seat_shape}
 use Rattle.block_bitmap.specs.declared.take.Take.{Take}
 use Rattle.block_bitmap.specs.declared.take.Taken.{Taken}
 use Rattle.block_bitmap.specs.declared.take.Taken.TheVariants.{Taken as HasTaken, NoSpace}
@@ -28,7 +28,7 @@ last_word area s = (first_of s.geometry area + count_of s.geometry area - 1) / 6
 
 -- the blocks of the area in the word at hand that are not known to be taken, and those of them that are asked for: the least
 abbrev pub open_at : Take → Seat → ℕ → List ℕ
-open_at m s known = open_blocks (shape_of s) m.area (word_of m s) known
+open_at m s known = open_blocks (seat_shape s) m.area (word_of m s) known
 
 abbrev pub wanted_at : Take → Seat → ℕ → List ℕ
 wanted_at m s known = take m.count (open_at m s known)
@@ -53,8 +53,8 @@ abbrev pub fresh : Area → ℕ → OwnedBlock
 fresh area block = record { block = block; area = area; filled = false; fenced = false }
 
 -- the seat with these blocks of an area taken
-abbrev pub with_taken : Area → List ℕ → Seat → Seat
-with_taken area blocks s = record s {
+abbrev pub with_taken_blocks : Area → List ℕ → Seat → Seat
+with_taken_blocks area blocks s = record s {
   blocks = record s.blocks {
     owned = s.blocks.owned ++ map (fresh area) blocks;
     contents = s.blocks.contents ++ replicate (length blocks * q_of s.geometry) 0;
@@ -88,7 +88,7 @@ less m count = record m { count = m.count - count }
 
 -- the seat after bits were set: the blocks that were found clear are its own; and each was found or is now taken
 abbrev pub seat_set : Take → Seat → ℕ → ℕ → Seat
-seat_set m s known found = with_found (word_of m s) (bit_or found (bits_of (wanted_at m s known))) (with_taken m.area (gained_at m s known found) s)
+seat_set m s known found = with_found (word_of m s) (bit_or found (bits_of (wanted_at m s known))) (with_taken_blocks m.area (gained_at m s known found) s)
 
 abbrev pub known_set : Take → Seat → ℕ → ℕ → ℕ
 known_set m s known found = bit_or known (bit_or found (bits_of (wanted_at m s known)))

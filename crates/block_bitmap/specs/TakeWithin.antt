@@ -11,14 +11,14 @@ use Rattle.log_core.specs.Entries.{has}
 use Rattle.log_core.specs.Views.{View, Ghost}
 use Rattle.log_core.specs.Origin.{Origin}
 use Rattle.log_core.specs.Starts.{IsStart}
-use Rattle.log_core.specs.Works.{shape_of}
+use Rattle.log_core.specs.Works.{seat_shape}
 use Rattle.log_core.specs.Needs.{is_in_area, owned_numbers, owned_in, lacking, is_found_taken}
 use Rattle.log_core.specs.Answers.{HasLacked}
-use Rattle.log_core.specs.Within.{no_record, within, IsLinked, IsLeft}
+use Rattle.log_core.specs.Within.{no_record, within, IsLinkedToView, IsLeft}
 use Rattle.block_bitmap.specs.declared.take.Take.{Take}
 use Rattle.block_bitmap.specs.declared.take.Taken.{Taken}
 use Rattle.block_bitmap.specs.declared.take.Taken.TheVariants.{Taken as HasTaken, NoSpace}
-use Rattle.block_bitmap.specs.TakeScript.{take_of, take_script, word_of, last_word, with_taken}
+use Rattle.block_bitmap.specs.TakeScript.{take_of, take_script, word_of, last_word, with_taken_blocks}
 use Rattle.block_bitmap.specs.TakeAlone.{found_as}
 
 -- the seat's call lacks as many blocks of the area as are wanted, and its list of owned blocks has a place for each
@@ -29,8 +29,8 @@ pub record MayLack (area : Area) (count : ℕ) (s : Seat) (g : Ghost) : Type 0 w
 
 -- since this state of it the seat has taken these blocks, all of the area, and has found some taken; nothing else of it has changed
 pub record HasGrown (area : Area) (first : Seat) (blocks : List ℕ) (s : Seat) : Type 0 where
-  pub seat : s ≡ found_as s.blocks.found (with_taken area blocks first)
-  pub in_area : (block : ℕ) → has blocks block ≡ true → is_in_area (shape_of s) area block ≡ true
+  pub seat : s ≡ found_as s.blocks.found (with_taken_blocks area blocks first)
+  pub in_area : (block : ℕ) → has blocks block ≡ true → is_in_area (seat_shape s) area block ≡ true
   pub more : owned_in s area ≡ owned_in first area ++ blocks
 
 -- the known bits of the word at hand are those of blocks that the seat has found taken
@@ -46,7 +46,7 @@ pub record TakeStands (area : Area) (count : ℕ) (first : Seat) (m : Take) (s :
   pub blocks : List ℕ
   pub grown : HasGrown area first blocks s
   pub many : length blocks + m.count ≡ count
-  pub passed : (block : ℕ) → block / 64 < word_of m s → is_in_area (shape_of s) area block ≡ true → bit_of s.blocks.found block ≡ 1
+  pub passed : (block : ℕ) → block / 64 < word_of m s → is_in_area (seat_shape s) area block ≡ true → bit_of s.blocks.found block ≡ 1
   pub known : KnownFound m.known m s
 
 -- what it ends with: the seat owns what it owned, and as many blocks of the area more as it was told to take; or fewer, and its call
@@ -61,5 +61,5 @@ pub record HasEnded (area : Area) (count : ℕ) (first : Seat) (out : Taken) (s 
 -- from each start, at each seat, and whatever other seats do between its steps: each of the machine's asks is a step that the core
 -- allows, each answer that comes there is admitted, and it ends so
 abbrev pub TakesWithin : Type 0
-TakesWithin = (o : Origin) → IsStart o → (seat number : ℕ) (area : Area) (count : ℕ) (rest : List Call) (s : Seat) (v : View) → IsLinked number rest (MayLack area count) s v →
+TakesWithin = (o : Origin) → IsStart o → (seat number : ℕ) (area : Area) (count : ℕ) (rest : List Call) (s : Seat) (v : View) → IsLinkedToView number rest (MayLack area count) s v →
     Leads take_script (within o seat number take_script no_record) (IsLeft rest no_record (HasEnded area count s)) (take_of area count) s v

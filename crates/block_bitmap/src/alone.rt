@@ -6,11 +6,11 @@ ghost use Rattle.pmem_words.specs.Seats.{q_of, owned_room};
 ghost use Rattle.pmem_words.specs.Courses.{over};
 ghost use Rattle.pmem_words.specs.Drives.{EndsIn};
 ghost use Rattle.pmem_words.specs.PlainWords.{plain};
-ghost use Rattle.block_bitmap.specs.TakeScript.{with_taken};
+ghost use Rattle.block_bitmap.specs.TakeScript.{with_taken_blocks};
 ghost use Rattle.block_bitmap.specs.TakeAlone.{free_blocks, outcome, found_as, AreSet, HasPassed};
 ghost use Rattle.block_bitmap.specs.Filling.{fill_of, fill_script};
-ghost use Rattle.block_bitmap.specs.Given.{AreInside, IsCleared, cleared, emptied};
-ghost use Rattle.block_bitmap.specs.Filled.{AreApart, HasWordsOf, HoldsBlocks, KeepsOthers, filled_seat, with_blocks};
+ghost use Rattle.block_bitmap.specs.Given.{AreInside, HasClearedBits, bitmap_without, emptied};
+ghost use Rattle.block_bitmap.specs.Filled.{NamesEachOnce, HasWordsOf, HoldsBlocks, KeepsOthers, filled_seat, with_blocks};
 
 use crate::fill::Fill;
 use crate::give::{Give, GiveFrom};
@@ -25,7 +25,7 @@ pub fn take_alone(seat: &mut SeatState, memory: &mut Plain, area: Area, count: u
     requires room { length seat.old.blocks.owned + count ≤ owned_room seat.old.geometry }
     requires bits { total_of seat.old.geometry.data_blocks seat.old.geometry.log_blocks seat.old.geometry.block_bytes ≤ 64 * length memory.old.taken }
     ensures outcome { result ≡ outcome area count (length (free_blocks seat.old.geometry area memory.old.taken)) }
-    ensures seat { seat.new ≡ found_as seat.new.blocks.found (with_taken area (take count (free_blocks seat.old.geometry area memory.old.taken)) seat.old) }
+    ensures seat { seat.new ≡ found_as seat.new.blocks.found (with_taken_blocks area (take count (free_blocks seat.old.geometry area memory.old.taken)) seat.old) }
     ensures found { HasPassed area result seat.old memory.new.taken seat.new }
     ensures set { AreSet (take count (free_blocks seat.old.geometry area memory.old.taken)) memory.old.taken memory.new.taken }
     ensures memory { memory.new ≡ record memory.old { taken = memory.new.taken } }
@@ -43,7 +43,7 @@ pub fn fill_alone(seat: &mut SeatState, memory: &mut Plain, first: u16, count: u
     requires inside { HasWordsOf seat.old first count memory.old.words }
     ensures seat { seat.new ≡ filled_seat seat.old first count }
     ensures memory { memory.new ≡ record memory.old { words = with_blocks seat.old first count memory.old.words } }
-    ensures words { AreApart seat.old first count → HoldsBlocks seat.old first count memory.new.words }
+    ensures words { NamesEachOnce seat.old first count → HoldsBlocks seat.old first count memory.new.words }
     ensures others { KeepsOthers seat.old first count memory.old.words memory.new.words }
     ensures steps { EndsIn (2 * q_of seat.old.geometry * count + 1) fill_script (over fill_script plain) (fill_of first count) seat.old memory.old result seat.new memory.new }
 {
@@ -59,9 +59,9 @@ pub fn give_alone(seat: &mut SeatState, memory: &mut Plain, from: GiveFrom) -> u
     requires taken { AreInside (length memory.old.taken) seat.old.blocks.owned }
     ensures count { result ≡ length seat.old.blocks.owned }
     ensures seat { seat.new ≡ emptied seat.old }
-    ensures memory { memory.new ≡ record memory.old { taken = cleared seat.old.blocks.owned memory.old.taken } }
-    ensures bits { IsCleared seat.old.blocks.owned memory.old.taken memory.new.taken }
-    ensures found { IsCleared seat.old.blocks.owned seat.old.blocks.found seat.new.blocks.found }
+    ensures memory { memory.new ≡ record memory.old { taken = bitmap_without seat.old.blocks.owned memory.old.taken } }
+    ensures bits { HasClearedBits seat.old.blocks.owned memory.old.taken memory.new.taken }
+    ensures found { HasClearedBits seat.old.blocks.owned seat.old.blocks.found seat.new.blocks.found }
 {
     drive(Give::new(from), seat, memory)
 }

@@ -1,7 +1,7 @@
 //! A task begins at a seat that runs alone.
 
 ghost use Rattle.std.specs.Prelude.{◌≡◌, []};
-ghost use Rattle.log_core.specs.Works.{Begins, worked, held_at_begin};
+ghost use Rattle.log_core.specs.Works.{Begins, state_after_work, held_at_begin};
 
 use log_entry::Held;
 use pmem_words::{SeatState, Task};
@@ -19,7 +19,7 @@ fn held_after(task: Task, held: Option<Held>) -> Option<Held>
 /// Begins a task with no bytes: what the task before has left of its call is forgotten, so are the blocks found taken and
 /// the words kept, and the seat counts as at no tail. A collection forgets the pin that kept earlier blocks.
 pub fn begin_alone(seat: &mut SeatState, task: Task)
-    ensures { seat.new ≡ worked seat.old (Begins task []) }
+    ensures { seat.new ≡ state_after_work seat.old (Begins task []) }
 {
     seat.found();
     seat.set_limbo_held(held_after(task, seat.limbo_held()));

@@ -4,7 +4,7 @@ ghost use Rattle.std.specs.Prelude.{◌≡◌, ℕ, ◌+◌, ◌-◌, ◌*◌, �
 ghost use Rattle.log_entry.specs.Geometry.{count_of, first_of};
 ghost use Rattle.pmem_words.specs.Seats.{owned_room};
 ghost use Rattle.block_bitmap.specs.TakeBits.{image_of, blocks_in, bits_of, open_blocks};
-ghost use Rattle.block_bitmap.specs.TakeScript.{with_taken};
+ghost use Rattle.block_bitmap.specs.TakeScript.{with_taken_blocks};
 
 use log_entry::{Area, Geometry};
 use pmem_words::SeatState;
@@ -73,7 +73,7 @@ pub fn least_bits(bits: u64, count: u16) -> u64
 pub fn own_blocks(seat: &mut SeatState, word: u32, bits: u64, area: Area) -> u16
     requires room { length seat.old.blocks.owned + length (blocks_in word bits) ≤ owned_room seat.old.geometry }
     requires inside { word < 1024 }
-    ensures seat { seat.new ≡ with_taken area (blocks_in word bits) seat.old }
+    ensures seat { seat.new ≡ with_taken_blocks area (blocks_in word bits) seat.old }
     ensures count { result ≡ length (blocks_in word bits) }
 {
     let mut rest = bits;

@@ -1,14 +1,14 @@
 //! Words of owned blocks: where each stands in the image, and what it is to be.
 
 ghost use Rattle.std.specs.Prelude.{◌≡◌, ◌<◌, length};
-ghost use Rattle.block_bitmap.specs.OwnedWords.{block_at, image_word, content_at, unfilled};
+ghost use Rattle.block_bitmap.specs.OwnedWords.{owned_block_at, image_word, content_at, unfilled};
 
 use pmem_words::SeatState;
 
 /// The owned block at place `place` of their list; 0 past the list's end.
 #[inline(always)]
-pub fn block_at(seat: &SeatState, place: u16) -> u16
-    ensures { result ≡ block_at seat.now place }
+pub fn owned_block_at(seat: &SeatState, place: u16) -> u16
+    ensures { result ≡ owned_block_at seat.now place }
 {
     match seat.owned().get(place as usize) {
         Some(owned) => owned.block,
@@ -21,7 +21,7 @@ pub fn block_at(seat: &SeatState, place: u16) -> u16
 pub fn image_word(seat: &SeatState, place: u16, word: u16) -> u32
     ensures { result ≡ image_word seat.now place word }
 {
-    u32::from(block_at(seat, place)) * seat.geometry().q() + u32::from(word)
+    u32::from(owned_block_at(seat, place)) * seat.geometry().q() + u32::from(word)
 }
 
 /// The word that belongs there, by the block's content; 0 past the contents' end.

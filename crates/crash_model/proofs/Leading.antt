@@ -11,19 +11,19 @@ use Rattle.asks.specs.declared.ask.Ask.{Ask}
 use Rattle.asks.specs.declared.ask.Ask.TheVariants.{Load, Store, Exchange, SetBits, ClearBits, Mark, Fence}
 use Rattle.pmem_words.specs.declared.machine.Turn.TheVariants.{Go, Done}
 use Rattle.pmem_words.proofs.LeadsLemmas.{ready_now, go_now, end_now, leads_weaker}
-use Rattle.persistence.specs.Memory.{Memory, found_answer, memory_after, notes_of}
-use Rattle.persistence.proofs.FenceLaws.{fences_forget_own_marks, notes_of-push_other}
+use Rattle.persistence.specs.Memory.{Memory, found_answer, memory_after, pending_of}
+use Rattle.persistence.proofs.FenceLaws.{fences_forget_own_marks, pending_of-push_other}
 use Rattle.log_core.specs.Views.{View, Ghost, view_of, spent_view, no_geometry}
-use Rattle.log_core.specs.Origin.{Origin, q_of}
+use Rattle.log_core.specs.Origin.{Origin, q_of_origin}
 use Rattle.log_core.specs.Cores.{Core}
-use Rattle.log_core.specs.Steps.{Does, kind_of, view_after, ghost_begun}
+use Rattle.log_core.specs.Steps.{Does, kind_of_ask, view_after, ghost_begun}
 use Rattle.log_core.specs.After.{after}
 use Rattle.log_core.specs.Runs.{Allowed}
-use Rattle.log_core.specs.Within.{no_record, note_of, Did, IsReadyIn, within, IsLinked, IsLeft}
+use Rattle.log_core.specs.Within.{no_record, note_of, Did, IsReadyIn, within, IsLinkedToView, IsLeft}
 use Rattle.log_core.specs.Starts.{IsStart}
-use Rattle.log_core.proofs.OneView.{same_or_other}
-use Rattle.crash_model.specs.Worlds.{WorldNow, Stands, FitsCore, HasFitting, seat_of, world_after, answer_in, told_in, turned}
-use Rattle.crash_model.specs.Led.{IsComputed, IsAtRest, LeadsIn, IsLed, EndsIn, HasEnded, RestsIn, IsResting, HasLeft, IsTurnOf}
+use Rattle.log_core.proofs.clauses.OneView.{same_or_other}
+use Rattle.crash_model.specs.Worlds.{WorldNow, StandsForCore, FitsCore, HasFitting, seat_of, world_after, answer_in, told_in, turned}
+use Rattle.crash_model.specs.Led.{IsComputed, IsAtRest, LeadsIn, IsLed, EndsInWorld, HasEndedInWorld, RestsIn, IsResting, HasLeft, IsTurnOf}
 use Rattle.crash_model.proofs.Standing.{stands_after, stands_with}
 use Rattle.crash_model.proofs.Resting.{IsKnown, left_computed, number_next, next_may, known_at_rest}
 
@@ -57,7 +57,7 @@ module _ {M Out : Type 0} (seat : ℕ) (script : Script M Out) (rec : Out → Se
     next = after o c (Does seat (script.asks m s) (note_of script rec number m s f))
 
     left : View
-    left = view_after v (kind_of (q_of o) seat (script.asks m s)) (note_of script rec number m s f) f
+    left = view_after v (kind_of_ask (q_of_origin o) seat (script.asks m s)) (note_of script rec number m s f) f
 
     view_next : view_of next.views seat ≡ left
     unfolding left
@@ -77,7 +77,7 @@ module _ {M Out : Type 0} (seat : ℕ) (script : Script M Out) (rec : Out → Se
     told : seat_of (turned script w seat m) seat ≡ (script.after m s f).seat
     told = get_or-set_same w.seats seat (told_in script w seat m).seat (new_seat no_geometry 0 0 0) seat_here ∙ ap (λ (a : ℕ). (script.after m s a).seat) (sym answer_same)
 
-    stands_next : Stands (turned script w seat m) o next
+    stands_next : StandsForCore (turned script w seat m) o next
     stands_next = stands_with (world_after w seat (script.asks m s)) (slice_set w.seats seat (told_in script w seat m).seat) (length-set w.seats seat (told_in script w seat m).seat) o next
         (stands_after w seat (script.asks m s) o c (note_of script rec number m s f) fits)
 
@@ -108,7 +108,7 @@ module _ {M Out : Type 0} (seat : ℕ) (script : Script M Out) (rec : Out → Se
           (go_now script (within o seat number script rec) Q led.leads f (view_of next.views seat) did (subst (λ (a : ℕ). (script.after m s a).turn ≡ Go) (sym answer_same) go)));
     }
 
-    ends_so : (out : Out) → (told_in script w seat m).turn ≡ Done out → EndsIn seat Q out (turned script w seat m) o next
+    ends_so : (out : Out) → (told_in script w seat m).turn ≡ Done out → EndsInWorld seat Q out (turned script w seat m) o next
     ends_so out done = record {
       stands = stands_next;
       made = made_next;
@@ -129,11 +129,11 @@ module _ {M Out : Type 0} (seat : ℕ) (script : Script M Out) (rec : Out → Se
   pub goes_led : IsLed seat script rec Q m w → (told_in script w seat m).turn ≡ Go → IsLed seat script rec Q (told_in script w seat m).machine (turned script w seat m)
   goes_led led go = ∥∥₁_map led (λ l. (l.0, _, goes_on l.0 l.1 l.2 go))
 
-  pub ends_led : (out : Out) → IsLed seat script rec Q m w → (told_in script w seat m).turn ≡ Done out → HasEnded seat Q out (turned script w seat m)
+  pub ends_led : (out : Out) → IsLed seat script rec Q m w → (told_in script w seat m).turn ≡ Done out → HasEndedInWorld seat Q out (turned script w seat m)
   ends_led out led done = ∥∥₁_map led (λ l. (l.0, _, ends_so l.0 l.1 l.2 out done))
 
 -- where a machine leaves the seat its view's state, each seat is at rest after it
-pub rests_ended : {Out : Type 0} (seat : ℕ) (Q : Out → Seat → View → Type 0) (out : Out) (w : WorldNow) → ((t : Seat) (v : View) → Q out t v → (v.parts ≢ []) × (t ≡ v.seat)) → HasEnded seat Q out w → IsResting w
+pub rests_ended : {Out : Type 0} (seat : ℕ) (Q : Out → Seat → View → Type 0) (out : Out) (w : WorldNow) → ((t : Seat) (v : View) → Q out t v → (v.parts ≢ []) × (t ≡ v.seat)) → HasEndedInWorld seat Q out w → IsResting w
 rests_ended seat Q out w leaves ended = ∥∥₁_map ended (λ e. (
   e.0,
   e.1,
@@ -147,9 +147,9 @@ rests_ended seat Q out w leaves ended = ∥∥₁_map ended (λ e. (
 
 -- a machine that the core promises begins at a seat of a world at rest
 pub begins_led : {M Out : Type 0} (seat : ℕ) (script : Script M Out) (m : M) (P : Origin → Seat → Ghost → Type 0) (R : Origin → Out → Seat → Ghost → Type 0) (Q : Out → Seat → View → Type 0) (w : WorldNow) →
-    ((o : Origin) → IsStart o → (number : ℕ) (rest : List Call) (v : View) → IsLinked number rest (P o) (seat_of w seat) v → Leads script (within o seat number script no_record) (IsLeft rest no_record (R o)) m (seat_of w seat) v) →
+    ((o : Origin) → IsStart o → (number : ℕ) (rest : List Call) (v : View) → IsLinkedToView number rest (P o) (seat_of w seat) v → Leads script (within o seat number script no_record) (IsLeft rest no_record (R o)) m (seat_of w seat) v) →
     ((o : Origin) (c : Core) (g : Ghost) → IsKnown w o c seat g → P o (seat_of w seat) g) →
-    ((o : Origin) (c : Core) → Stands w o c → (rest : List Call) (out : Out) (t : Seat) (v : View) → IsLeft rest no_record (R o) out t v → Q out t v) →
+    ((o : Origin) (c : Core) → StandsForCore w o c → (rest : List Call) (out : Out) (t : Seat) (v : View) → IsLeft rest no_record (R o) out t v → Q out t v) →
     seat < length w.seats → IsResting w → IsLed seat script no_record Q m w
 begins_led {M} {Out} seat script m P R Q w promise holds weaker inside resting = ∥∥₁_map resting (λ r. (r.0, r.1, begin r.0 r.1 r.2))
   where
@@ -182,8 +182,8 @@ pub left_all : {Out : Type 0} (out : Out) (t : Seat) (v : View) → HasLeft out 
 left_all out t v left = (left.unspent, left.same)
 
 -- marks are a seat's own
-others_marks : (m : Memory) (seat other : ℕ) (ask : Ask) → other ≢ seat → notes_of other (memory_after m seat ask).notes ≡ notes_of other m.notes
-others_marks m seat other (Mark word) apart = notes_of-push_other other m.notes (record { seat = seat; word = word; time = length m.past }) apart
+others_marks : (m : Memory) (seat other : ℕ) (ask : Ask) → other ≢ seat → pending_of other (memory_after m seat ask).pending ≡ pending_of other m.pending
+others_marks m seat other (Mark word) apart = pending_of-push_other other m.pending (record { seat = seat; word = word; time = length m.past }) apart
 others_marks m seat other Fence apart = (fences_forget_own_marks m seat).1 other apart
 others_marks m seat other (Load p) apart = refl
 others_marks m seat other (Store p value) apart = refl

@@ -9,13 +9,13 @@ use Rattle.log_image.specs.KeepsStart.{KeepsStart}
 use Rattle.pmem_words.specs.declared.keeps.Task.{Task}
 use Rattle.pmem_words.specs.Seats.{Seat, new_seat}
 use Rattle.pmem_words.specs.declared.TheConstants.{SEATS}
-use Rattle.persistence.specs.Memory.{Memory, Noted, cell, notes_of}
+use Rattle.persistence.specs.Memory.{Memory, PendingMark, cell, pending_of}
 use Rattle.persistence.specs.Cells.{CellsNow, fresh_memory}
 use Rattle.log_core.specs.Views.{View, Ghost, view_of, spent_view, new_view, no_geometry, op_in}
 use Rattle.log_core.specs.Origin.{Origin, first_position, first_views, made_by}
 use Rattle.log_core.specs.Files.{end_of}
 use Rattle.log_core.specs.Cores.{Core, first_core}
-use Rattle.log_core.specs.Works.{Work, Begins, SetsWord, MaySetWord, MayWork, worked}
+use Rattle.log_core.specs.Works.{Work, Begins, SetsWord, MaySetWord, MayWork, state_after_work}
 use Rattle.log_core.specs.Steps.{is_begun, ghost_begun}
 use Rattle.log_core.specs.After.{began_if}
 use Rattle.log_core.specs.Records.{mark_of}
@@ -23,12 +23,12 @@ use Rattle.log_core.specs.Runs.{MayNumber, is_offered_work}
 use Rattle.log_core.specs.Invariant.{Invariant}
 use Rattle.log_core.specs.Knows.{Knows}
 use Rattle.log_core.specs.Starts.{origin_of}
-use Rattle.log_core.proofs.OneView.{same_or_other}
-use Rattle.log_core.proofs.Parts.{worked_more, may_more, all_more}
-use Rattle.log_core.proofs.Serving.{knows_here, reached_keeps}
-use Rattle.log_core.proofs.StartKept.{same_position}
-use Rattle.log_core.proofs.StartMeets.{start_meets}
-use Rattle.crash_model.specs.Worlds.{WorldNow, Stands, seat_of, set_seat, new_world}
+use Rattle.log_core.proofs.clauses.OneView.{same_or_other}
+use Rattle.log_core.proofs.machines.Parts.{worked_more, may_more, all_more}
+use Rattle.log_core.proofs.machines.Serving.{knows_here, reached_keeps}
+use Rattle.log_core.proofs.starts.StartKept.{same_position}
+use Rattle.log_core.proofs.starts.StartMeets.{start_meets}
+use Rattle.crash_model.specs.Worlds.{WorldNow, StandsForCore, seat_of, set_seat, new_world}
 use Rattle.crash_model.specs.Led.{IsComputed, IsAtRest, RestsIn, IsResting, HasNoMarks, MayBeginAt}
 use Rattle.crash_model.proofs.Standing.{stands_with, new_stands_by}
 
@@ -53,7 +53,7 @@ next_may v s = may_by (is_begun (op_in v.seat) (op_in s)) v.ghost.call.number
 
 -- what a core that the world stands for knows of a seat, with what contracts alone see of it
 pub record IsKnown (w : WorldNow) (o : Origin) (c : Core) (seat : ℕ) (g : Ghost) : Type 0 where
-  pub stands : Stands w o c
+  pub stands : StandsForCore w o c
   pub holds : Invariant o c
   pub pin : ℕ
   pub began : ℕ
@@ -94,14 +94,14 @@ module _ (w : WorldNow) (o : Origin) (c : Core) (seat : ℕ) (g : Ghost) (known 
   -- what contracts see of marks is in the memory
   pub no_marks_known : HasNoMarks w seat → g.marks ≡ []
   no_marks_known none = known.knows.marks
-      ∙ ap (λ (notes : List Noted). map (mark_of (λ word. cell c.memory word) c.memory.past) notes) (ap (λ (m : Memory). notes_of seat m.notes) known.stands.memory ∙ none)
+      ∙ ap (λ (pending : List PendingMark). map (mark_of (λ word. cell c.memory word) c.memory.past) pending) (ap (λ (m : Memory). pending_of seat m.pending) known.stands.memory ∙ none)
 
 -- a world at rest stays so where a seat computes, by a computation that is offered
 module _ (w : WorldNow) (seat : ℕ) (work : Work) (offered : is_offered_work work ≡ true) (inside : seat < length w.seats) where
   abbrev computed : WorldNow
-  computed = set_seat w seat (worked (seat_of w seat) work)
+  computed = set_seat w seat (state_after_work (seat_of w seat) work)
 
-  computed_at : (o : Origin) (c : Core) → IsAtRest w c seat → MayWork (view_of c.views seat).ghost (seat_of w seat) work → IsComputed (view_of c.views seat) (worked (seat_of w seat) work)
+  computed_at : (o : Origin) (c : Core) → IsAtRest w c seat → MayWork (view_of c.views seat).ghost (seat_of w seat) work → IsComputed (view_of c.views seat) (state_after_work (seat_of w seat) work)
   computed_at o c at may =
       (let v = view_of c.views seat in
       let begins = at.computed.begins in
@@ -110,22 +110,22 @@ module _ (w : WorldNow) (seat : ℕ) (work : Work) (offered : is_offered_work wo
         begins = record {
           works = begins.works ++ work ∷ [];
           may = may_more v.ghost v.seat begins.works (work ∷ []) begins.may (subst (λ (s : Seat). MayWork v.ghost s work) begins.gives may, tt);
-          gives = ap (λ (s : Seat). worked s work) begins.gives ∙ sym (worked_more v.seat begins.works (work ∷ []));
+          gives = ap (λ (s : Seat). state_after_work s work) begins.gives ∙ sym (worked_more v.seat begins.works (work ∷ []));
         };
         offered = all_more is_offered_work begins.works (work ∷ []) at.computed.offered (rw offered refl);
       })
 
   rests_computed : (o : Origin) (c : Core) → MayWork (view_of c.views seat).ghost (seat_of w seat) work → RestsIn w o c → RestsIn computed o c
   rests_computed o c may rests = record {
-    stands = stands_with w (slice_set w.seats seat (worked (seat_of w seat) work)) (length-set w.seats seat (worked (seat_of w seat) work)) o c rests.stands;
+    stands = stands_with w (slice_set w.seats seat (state_after_work (seat_of w seat) work)) (length-set w.seats seat (state_after_work (seat_of w seat) work)) o c rests.stands;
     seats = λ other low. same_or_other other seat
         (λ same. subst (λ (k : ℕ). IsAtRest computed c k) (sym same) (let at = rests.seats seat inside in record {
           made = at.made;
-          computed = subst (λ (s : Seat). IsComputed (view_of c.views seat) s) (sym (get_or-set_same w.seats seat (worked (seat_of w seat) work) (new_seat no_geometry 0 0 0) inside)) (computed_at o c at may);
+          computed = subst (λ (s : Seat). IsComputed (view_of c.views seat) s) (sym (get_or-set_same w.seats seat (state_after_work (seat_of w seat) work) (new_seat no_geometry 0 0 0) inside)) (computed_at o c at may);
         }))
-        (λ apart. (let at = rests.seats other (subst (λ (n : ℕ). other < n) (length-set w.seats seat (worked (seat_of w seat) work)) low) in record {
+        (λ apart. (let at = rests.seats other (subst (λ (n : ℕ). other < n) (length-set w.seats seat (state_after_work (seat_of w seat) work)) low) in record {
           made = at.made;
-          computed = subst (λ (s : Seat). IsComputed (view_of c.views other) s) (sym (get_or-set_other w.seats seat other (worked (seat_of w seat) work) (new_seat no_geometry 0 0 0) apart)) at.computed;
+          computed = subst (λ (s : Seat). IsComputed (view_of c.views other) s) (sym (get_or-set_other w.seats seat other (state_after_work (seat_of w seat) work) (new_seat no_geometry 0 0 0) apart)) at.computed;
         }));
   }
 
@@ -133,10 +133,10 @@ module _ (w : WorldNow) (seat : ℕ) (work : Work) (offered : is_offered_work wo
   computed_rests may resting = ∥∥₁_map resting (λ r. (r.0, r.1, rests_computed r.0 r.1 (may r.0 r.1 r.2) r.2))
 
 -- it sets a word of an owned block, or begins a task
-pub word_rests : (w : WorldNow) (seat place word value : ℕ) → seat < length w.seats → MaySetWord (seat_of w seat) place word value → IsResting w → IsResting (set_seat w seat (worked (seat_of w seat) (SetsWord place word value)))
+pub word_rests : (w : WorldNow) (seat place word value : ℕ) → seat < length w.seats → MaySetWord (seat_of w seat) place word value → IsResting w → IsResting (set_seat w seat (state_after_work (seat_of w seat) (SetsWord place word value)))
 word_rests w seat place word value inside may resting = computed_rests w seat (SetsWord place word value) refl inside (λ o c rests. may) resting
 
-pub begun_rests : (w : WorldNow) (seat : ℕ) (task : Task) (bytes : List ℕ) → seat < length w.seats → MayBeginAt w seat task bytes → IsResting w → IsResting (set_seat w seat (worked (seat_of w seat) (Begins task bytes)))
+pub begun_rests : (w : WorldNow) (seat : ℕ) (task : Task) (bytes : List ℕ) → seat < length w.seats → MayBeginAt w seat task bytes → IsResting w → IsResting (set_seat w seat (state_after_work (seat_of w seat) (Begins task bytes)))
 begun_rests w seat task bytes inside may resting = computed_rests w seat (Begins task bytes) refl inside
     (λ o c rests. (let v = view_of c.views seat in
     let g = ghost_begun v.ghost v.seat (seat_of w seat) (number_next v (seat_of w seat)) in

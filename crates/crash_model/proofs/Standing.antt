@@ -7,7 +7,7 @@ use Rattle.std.specs.List.{AllByRecursion, range_with_len}
 use Rattle.std.proofs.lemmas.List.FromFn.{map-range_with_len_more, length-map-range_with_len}
 use Rattle.log_image.specs.KeepsStart.{KeepsStart}
 use Rattle.log_core.specs.Starts.{origin_of}
-use Rattle.log_core.proofs.StartKept.{kept_start, same_position}
+use Rattle.log_core.proofs.starts.StartKept.{kept_start, same_position}
 use Rattle.log_entry.specs.declared.layouts.TheConstants.{SEAL}
 use Rattle.pmem_words.specs.Seats.{Seat, q_of, new_seat}
 use Rattle.pmem_words.specs.declared.TheConstants.{SEATS}
@@ -16,22 +16,22 @@ use Rattle.asks.specs.declared.ask.Place.TheVariants.{Image, Pin, Map, FenceOf}
 use Rattle.asks.specs.declared.ask.Ask.{Ask}
 use Rattle.asks.specs.declared.ask.Ask.TheVariants.{Load, Store, Exchange, SetBits, ClearBits, Mark, Fence}
 use Rattle.persistence.specs.Memory.{Memory, found, found_answer, memory_after}
-use Rattle.persistence.specs.Cells.{CellsNow, TakesAsk, cells_after, fresh_memory}
-use Rattle.log_core.specs.Origin.{Origin, first_position, q_of as words_in_block}
+use Rattle.persistence.specs.Cells.{CellsNow, MemoryTakes, cells_after, fresh_memory}
+use Rattle.log_core.specs.Origin.{Origin, first_position, q_of_origin as words_in_block}
 use Rattle.log_core.specs.Files.{Write}
 use Rattle.log_core.specs.Cores.{Core, first_core}
-use Rattle.log_core.specs.Steps.{Note, Does, Kind, LoadsHead, StoresOwnPin, LoadsPinWord, LoadsImageWord, LoadsBitmapWord, SetsBits, ClearsBits, StoresWord, ExchangesSlot, ExchangesLink, ExchangesHead, MarksWord, Fences, NoKind, kind_of}
+use Rattle.log_core.specs.Steps.{Note, Does, Kind, LoadsHead, StoresOwnPin, LoadsPinWord, LoadsImageWord, LoadsBitmapWord, SetsBits, ClearsBits, StoresWord, ExchangesSlot, ExchangesLink, ExchangesHead, MarksWord, Fences, NoKind, kind_of_ask}
 use Rattle.log_core.specs.After.{after, history_after, history_if, write_of, synced_after}
 use Rattle.log_core.specs.Runs.{IsReached}
 use Rattle.log_core.specs.Invariant.{Invariant}
-use Rattle.log_core.proofs.Serving.{reached_keeps}
-use Rattle.log_core.proofs.StartMeets.{start_meets}
-use Rattle.log_core.proofs.Takes.{takes_asked}
-use Rattle.log_core.proofs.OverPlain.{reached_next}
-use Rattle.crash_model.specs.Worlds.{WorldNow, Stands, StandsForSome, FitsCore, HasFitting, StandsAfter, seat_of, rises, rise_if, synced_by, kind_in, world_after, new_world}
+use Rattle.log_core.proofs.machines.Serving.{reached_keeps}
+use Rattle.log_core.proofs.starts.StartMeets.{start_meets}
+use Rattle.log_core.proofs.machines.Takes.{takes_asked}
+use Rattle.log_core.proofs.machines.OverPlain.{reached_next}
+use Rattle.crash_model.specs.Worlds.{WorldNow, StandsForCore, StandsForSome, FitsCore, HasFitting, StandsAfter, seat_of, rises, rise_if, synced_by, kind_in, world_after, new_world}
 
 -- room is no part of what a world stands for
-with_room : (w : WorldNow) (room : ℕ) → ((o : Origin) × (c : Core) × Stands w o c) → (o : Origin) × (c : Core) × Stands (record w { cells = record (w.cells) { room = room } }) o c
+with_room : (w : WorldNow) (room : ℕ) → ((o : Origin) × (c : Core) × StandsForCore w o c) → (o : Origin) × (c : Core) × StandsForCore (record w { cells = record (w.cells) { room = room } }) o c
 with_room w room s = (s.0, s.1, record { start = s.2.start; geometry = s.2.geometry; seats = s.2.seats; reached = s.2.reached; memory = s.2.memory; position = s.2.position; synced = s.2.synced })
 
 pub room_stands : (w : WorldNow) (cells : CellsNow) (room : ℕ) → cells ≡ record (w.cells) { room = room } → StandsForSome w → StandsForSome (record w { cells = cells })
@@ -80,7 +80,7 @@ rises_pin : (b : Bool) (value f g : ℕ) → rises (if b then StoresOwnPin value
 rises_pin true value f g = refl
 rises_pin false value f g = refl
 
-rises_answer : (q seat : ℕ) (ask : Ask) (f : ℕ) → rises (kind_of q seat ask) f ≡ rises (kind_of q seat ask) (answer ask f)
+rises_answer : (q seat : ℕ) (ask : Ask) (f : ℕ) → rises (kind_of_ask q seat ask) f ≡ rises (kind_of_ask q seat ask) (answer ask f)
 rises_answer q seat (Load p) f = refl
 rises_answer q seat (Store (Image word) value) f = refl
 rises_answer q seat (Store (Pin other) value) f = rises_pin (other == seat) value f 0
@@ -93,14 +93,14 @@ rises_answer q seat (Mark word) f = refl
 rises_answer q seat Fence f = refl
 
 module _ (w : WorldNow) (seat : ℕ) (ask : Ask) (o : Origin) (c : Core) (note : Note) (fits : FitsCore w seat ask o c note) where
-  kind_same : kind_of (words_in_block o) seat ask ≡ kind_in w seat ask
-  kind_same = ap (λ (g : Rattle.log_entry.specs.declared.shapes.Geometry.Geometry). kind_of (q_of g) seat ask) fits.stands.geometry
+  kind_same : kind_of_ask (words_in_block o) seat ask ≡ kind_in w seat ask
+  kind_same = ap (λ (g : Rattle.log_entry.specs.declared.shapes.Geometry.Geometry). kind_of_ask (q_of g) seat ask) fits.stands.geometry
 
   pub reached_after : IsReached o (after o c (Does seat ask note))
   reached_after = reached_next o c (Does seat ask note) fits.stands.reached fits.step
 
   -- the world after the step stands for the core after it
-  pub stands_after : Stands (world_after w seat ask) o (after o c (Does seat ask note))
+  pub stands_after : StandsForCore (world_after w seat ask) o (after o c (Does seat ask note))
   stands_after = record {
     start = fits.stands.start;
     geometry = fits.stands.geometry;
@@ -108,15 +108,15 @@ module _ (w : WorldNow) (seat : ℕ) (ask : Ask) (o : Origin) (c : Core) (note :
     reached = reached_after;
     memory = ap (λ (m : Memory). memory_after m seat ask) fits.stands.memory;
     position = position;
-    synced = synced_same c.synced note (kind_of (words_in_block o) seat ask)
+    synced = synced_same c.synced note (kind_of_ask (words_in_block o) seat ask)
         ∙ (ap (λ (kind : Kind). synced_by c.synced note.before kind) kind_same
         ∙ (ap (λ (s : Seat). synced_by c.synced s (kind_in w seat ask)) fits.before ∙ ap (λ (d : ℕ). synced_by d (seat_of w seat) (kind_in w seat ask)) fits.stands.synced));
   }
     where
-      position : first_position o + length (history_after c.history seat note (kind_of (words_in_block o) seat ask) (found c.memory ask)) ≡ w.position + rises (kind_in w seat ask) (found_answer w.cells.memory ask)
+      position : first_position o + length (history_after c.history seat note (kind_of_ask (words_in_block o) seat ask) (found c.memory ask)) ≡ w.position + rises (kind_in w seat ask) (found_answer w.cells.memory ask)
       position =
-          (let long = history_long c.history seat note (kind_of (words_in_block o) seat ask) (found c.memory ask) in
-          let same : rises (kind_of (words_in_block o) seat ask) (found c.memory ask) ≡ rises (kind_in w seat ask) (found_answer w.cells.memory ask) =
+          (let long = history_long c.history seat note (kind_of_ask (words_in_block o) seat ask) (found c.memory ask) in
+          let same : rises (kind_of_ask (words_in_block o) seat ask) (found c.memory ask) ≡ rises (kind_in w seat ask) (found_answer w.cells.memory ask) =
           rises_answer (words_in_block o) seat ask (found c.memory ask)
           ∙ (ap (λ (kind : Kind). rises kind (found_answer c.memory ask)) kind_same ∙ ap (λ (m : Memory). rises (kind_in w seat ask) (found_answer m ask)) fits.stands.memory) in
           let before = fits.stands.position in
@@ -130,16 +130,16 @@ module _ (w : WorldNow) (seat : ℕ) (ask : Ask) (o : Origin) (c : Core) (note :
   low_one : w.position < 2 ^ 40
   low_one = (let limit = inv.order.log.limit in let is = fits.stands.position in omega (arith, limit, is))
 
-  takes_one : TakesAsk w.cells.memory ask
-  takes_one = subst (λ (m : Memory). TakesAsk m ask) fits.stands.memory (takes_asked o c seat ask note inv fits.step)
+  takes_one : MemoryTakes w.cells.memory ask
+  takes_one = subst (λ (m : Memory). MemoryTakes m ask) fits.stands.memory (takes_asked o c seat ask note inv fits.step)
 
   made_one : seat < length w.seats
   made_one = (let made = fits.step.fits.made in let few = inv.sizes.few in let many = fits.stands.seats in omega (arith, made, few, many))
 
-  stands_one : (p : Origin) × (d : Core) × Stands (world_after w seat ask) p d
+  stands_one : (p : Origin) × (d : Core) × StandsForCore (world_after w seat ask) p d
   stands_one = (o, after o c (Does seat ask note), stands_after)
 
-takes_prop : (m : Memory) (ask : Ask) → IsProp (TakesAsk m ask)
+takes_prop : (m : Memory) (ask : Ask) → IsProp (MemoryTakes m ask)
 takes_prop m (Load (Image word)) = le_prop
 takes_prop m (Load (Pin seat)) = le_prop
 takes_prop m (Load (Map word)) = le_prop
@@ -165,7 +165,7 @@ takes_prop m Fence = λ x y. refl
 
 -- what a fitting core state, of whatever run, says of the world
 module _ (w : WorldNow) (seat : ℕ) (ask : Ask) (fitting : HasFitting w seat ask) where
-  pub takes : TakesAsk w.cells.memory ask
+  pub takes : MemoryTakes w.cells.memory ask
   takes = ∥∥₁_elim fitting (takes_prop w.cells.memory ask) (λ f. takes_one w seat ask f.0 f.1 f.2 f.3)
 
   pub seat_made : seat < length w.seats
@@ -188,7 +188,7 @@ room_stands_by w cells steps (Ok value) ok err some = room_stands w cells (max w
 room_stands_by w cells steps (Err e) ok err some = room_stands w cells w.cells.room (err refl) some
 
 -- a state of a seat that is lent back changes nothing that a world stands for
-pub stands_with : (w : WorldNow) (seats : List Seat) → length seats ≡ length w.seats → (o : Origin) (c : Core) → Stands w o c → Stands (record w { seats = seats }) o c
+pub stands_with : (w : WorldNow) (seats : List Seat) → length seats ≡ length w.seats → (o : Origin) (c : Core) → StandsForCore w o c → StandsForCore (record w { seats = seats }) o c
 stands_with w seats same o c s = record { start = s.start; geometry = s.geometry; seats = s.seats ∙ sym same; reached = s.reached; memory = s.memory; position = s.position; synced = s.synced }
 
 pub lent_stands : (w : WorldNow) (number : ℕ) (s : Seat) → StandsForSome w → StandsForSome (record w { seats = slice_set w.seats number s })
@@ -196,7 +196,7 @@ lent_stands w number s some = ∥∥₁_map some (λ st. (st.0, st.1, stands_wit
 
 -- the world after a step is the one that the step makes
 pub world_is : (w : WorldNow) (seat : ℕ) (ask : Ask) (cells : CellsNow) (answered q rise synced : ℕ) (s : Seat) → cells ≡ cells_after w.cells seat ask → answered ≡ found_answer w.cells.memory ask → q ≡ q_of w.geometry →
-    rise ≡ rises (kind_of q seat ask) answered → s ≡ seat_of w seat → synced ≡ synced_by w.synced s (kind_of q seat ask) →
+    rise ≡ rises (kind_of_ask q seat ask) answered → s ≡ seat_of w seat → synced ≡ synced_by w.synced s (kind_of_ask q seat ask) →
     record w { cells = cells; position = w.position + rise; synced = synced } ≡ world_after w seat ask
 world_is w seat ask cells answered q rise synced s cells_is answered_is q_is rise_is s_is synced_is = rw (cells_is, rise_is, synced_is, s_is, answered_is, q_is) refl
 
@@ -213,7 +213,7 @@ each_small (word ∷ words) small = (small 0, each_small words (λ place. subst 
 
 -- a world in which nothing was done stands for the core that a run of all seats starts with
 module _ (geometry : Rattle.log_entry.specs.declared.shapes.Geometry.Geometry) (words taken : List ℕ) (generation position size seats : ℕ) (small : (place : ℕ) → slice_index words place < 2 ^ 64) (some : 0 < seats) (few : seats ≤ SEATS) where
-  pub new_stands_by : (k : KeepsStart geometry words taken generation position size) → Stands (new_world geometry words taken position seats) (origin_of geometry seats seats words taken k.chain k.file) (first_core (origin_of geometry seats seats words taken k.chain k.file))
+  pub new_stands_by : (k : KeepsStart geometry words taken generation position size) → StandsForCore (new_world geometry words taken position seats) (origin_of geometry seats seats words taken k.chain k.file) (first_core (origin_of geometry seats seats words taken k.chain k.file))
   new_stands_by k = record {
     start = kept_start geometry words taken generation position size seats seats k (each_small words small) (record { some = some; few = few; made = inr refl });
     geometry = refl;

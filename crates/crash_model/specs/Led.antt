@@ -7,14 +7,14 @@ use Rattle.pmem_words.specs.declared.keeps.Task.{Task}
 use Rattle.pmem_words.specs.Seats.{Seat}
 use Rattle.pmem_words.specs.Scripts.{Script}
 use Rattle.pmem_words.specs.Leads.{Leads}
-use Rattle.persistence.specs.Memory.{notes_of}
+use Rattle.persistence.specs.Memory.{pending_of}
 use Rattle.log_core.specs.Views.{View, view_of, op_in, op_of}
 use Rattle.log_core.specs.Origin.{Origin}
 use Rattle.log_core.specs.Cores.{Core}
 use Rattle.log_core.specs.Works.{Computes, laid_bytes, is_quiet}
 use Rattle.log_core.specs.Runs.{is_offered_work}
 use Rattle.log_core.specs.Within.{within}
-use Rattle.crash_model.specs.Worlds.{WorldNow, Stands, seat_of}
+use Rattle.crash_model.specs.Worlds.{WorldNow, StandsForCore, seat_of}
 
 -- a view that is not spent is computed on to this state, by computations that are offered
 pub record IsComputed (v : View) (s : Seat) : Type 0 where
@@ -30,7 +30,7 @@ pub record IsAtRest (w : WorldNow) (c : Core) (seat : ℕ) : Type 0 where
 -- in some core state that the world stands for, the machine leads from the seat's state and view to its end, and each other seat is
 -- at rest. The number is the seat's present call's
 pub record LeadsIn {M Out : Type 0} (seat : ℕ) (script : Script M Out) (rec : Out → Seat → List Call) (Q : Out → Seat → View → Type 0) (m : M) (w : WorldNow) (o : Origin) (c : Core) : Type 0 where
-  pub stands : Stands w o c
+  pub stands : StandsForCore w o c
   pub made : seat < length c.views
   pub number : ℕ
   pub leads : Leads script (within o seat number script rec) Q m (seat_of w seat) (view_of c.views seat)
@@ -40,18 +40,18 @@ abbrev pub IsLed : {M Out : Type 0} → ℕ → Script M Out → (Out → Seat �
 IsLed seat script rec Q m w = ∥ ((o : Origin) × (c : Core) × LeadsIn seat script rec Q m w o c) ∥₁
 
 -- it has ended so, in some core state that the world stands for
-pub record EndsIn {Out : Type 0} (seat : ℕ) (Q : Out → Seat → View → Type 0) (out : Out) (w : WorldNow) (o : Origin) (c : Core) : Type 0 where
-  pub stands : Stands w o c
+pub record EndsInWorld {Out : Type 0} (seat : ℕ) (Q : Out → Seat → View → Type 0) (out : Out) (w : WorldNow) (o : Origin) (c : Core) : Type 0 where
+  pub stands : StandsForCore w o c
   pub made : seat < length c.views
   pub ends : Q out (seat_of w seat) (view_of c.views seat)
   pub others : (other : ℕ) → other ≢ seat → other < length w.seats → IsAtRest w c other
 
-abbrev pub HasEnded : {Out : Type 0} → ℕ → (Out → Seat → View → Type 0) → Out → WorldNow → Type 0
-HasEnded seat Q out w = ∥ ((o : Origin) × (c : Core) × EndsIn seat Q out w o c) ∥₁
+abbrev pub HasEndedInWorld : {Out : Type 0} → ℕ → (Out → Seat → View → Type 0) → Out → WorldNow → Type 0
+HasEndedInWorld seat Q out w = ∥ ((o : Origin) × (c : Core) × EndsInWorld seat Q out w o c) ∥₁
 
 -- in some core state that the world stands for each seat is at rest
 pub record RestsIn (w : WorldNow) (o : Origin) (c : Core) : Type 0 where
-  pub stands : Stands w o c
+  pub stands : StandsForCore w o c
   pub seats : (seat : ℕ) → seat < length w.seats → IsAtRest w c seat
 
 abbrev pub IsResting : WorldNow → Type 0
@@ -59,7 +59,7 @@ IsResting w = ∥ ((o : Origin) × (c : Core) × RestsIn w o c) ∥₁
 
 -- each mark of a seat was followed by a fence of it
 abbrev pub HasNoMarks : WorldNow → ℕ → Type 0
-HasNoMarks w seat = notes_of seat w.cells.memory.notes ≡ []
+HasNoMarks w seat = pending_of seat w.cells.memory.pending ≡ []
 
 -- a seat at rest may begin a task: it runs no call and has no marks; a read has no bytes, and a call makes steps
 pub record MayBeginAt (w : WorldNow) (seat : ℕ) (task : Task) (bytes : List ℕ) : Type 0 where
@@ -78,5 +78,5 @@ pub record IsTurnOf (May : ℕ → Seat → Type 0) (w v : WorldNow) (seat : ℕ
   pub many : length v.seats ≡ length w.seats
   pub room : v.cells.room + 1 ≡ w.cells.room
   pub others : (other : ℕ) → other ≢ seat → seat_of v other ≡ seat_of w other
-  pub marks : (other : ℕ) → other ≢ seat → notes_of other v.cells.memory.notes ≡ notes_of other w.cells.memory.notes
+  pub marks : (other : ℕ) → other ≢ seat → pending_of other v.cells.memory.pending ≡ pending_of other w.cells.memory.pending
   pub may : May seat (seat_of w seat) → May seat (seat_of v seat)

@@ -12,7 +12,7 @@ use Rattle.log_core.specs.Views.{no_geometry}
 use Rattle.log_core.specs.Origin.{Origin}
 use Rattle.log_core.specs.Files.{end_of}
 use Rattle.log_core.specs.Cores.{Core}
-use Rattle.log_core.specs.Steps.{Note, Does, Kind, ExchangesSlot, Fences, kind_of, sync_fenced}
+use Rattle.log_core.specs.Steps.{Note, Does, Kind, ExchangesSlot, Fences, kind_of_ask, sync_fenced}
 use Rattle.log_core.specs.After.{after, synced_to}
 use Rattle.log_core.specs.Runs.{Allowed, IsReached}
 use Rattle.log_core.specs.Starts.{IsStart}
@@ -45,7 +45,7 @@ new_world geometry words taken position seats = record {
 }
 
 -- the world stands for a core state that a run from a start reaches: the memory and the two positions are that state's
-pub record Stands (w : WorldNow) (o : Origin) (c : Core) : Type 0 where
+pub record StandsForCore (w : WorldNow) (o : Origin) (c : Core) : Type 0 where
   pub start : IsStart o
   pub geometry : o.geometry ≡ w.geometry
   pub seats : o.seats ≡ length w.seats
@@ -70,7 +70,7 @@ synced_by synced s _ = synced
 
 -- the world after an ask of a seat: the seats' states stay, until their machines are told the answer
 abbrev pub kind_in : WorldNow → ℕ → Ask → Kind
-kind_in w seat ask = kind_of (q_of w.geometry) seat ask
+kind_in w seat ask = kind_of_ask (q_of w.geometry) seat ask
 
 abbrev pub world_after : WorldNow → ℕ → Ask → WorldNow
 world_after w seat ask = record w {
@@ -82,7 +82,7 @@ world_after w seat ask = record w {
 -- a core state fits an ask of a seat: the world stands for it, the ask is a step of that seat in it, and what the seat has computed
 -- since its last step makes its view's state the world's
 pub record FitsCore (w : WorldNow) (seat : ℕ) (ask : Ask) (o : Origin) (c : Core) (note : Note) : Type 0 where
-  pub stands : Stands w o c
+  pub stands : StandsForCore w o c
   pub step : Allowed o c (Does seat ask note)
   pub before : note.before ≡ seat_of w seat
 
@@ -93,11 +93,11 @@ HasFitting w seat ask = ∥ ((o : Origin) × (c : Core) × (note : Note) × Fits
 -- for each, the answer is the one that comes there, and the world afterwards stands for the core state after the step
 abbrev pub StandsAfter : WorldNow → ℕ → Ask → ℕ → WorldNow → Type 0
 StandsAfter w seat ask answered later =
-    (o : Origin) (c : Core) (note : Note) → FitsCore w seat ask o c note → (found_answer c.memory ask ≡ answered) × Stands later o (after o c (Does seat ask note))
+    (o : Origin) (c : Core) (note : Note) → FitsCore w seat ask o c note → (found_answer c.memory ask ≡ answered) × StandsForCore later o (after o c (Does seat ask note))
 
 -- a run from some start reaches a core state that the world stands for
 abbrev pub StandsForSome : WorldNow → Type 0
-StandsForSome w = ∥ ((o : Origin) × (c : Core) × Stands w o c) ∥₁
+StandsForSome w = ∥ ((o : Origin) × (c : Core) × StandsForCore w o c) ∥₁
 
 -- a turn of a seat with a machine: what its ask finds, and the world after the machine was told
 abbrev pub answer_in : {M Out : Type 0} → Script M Out → WorldNow → ℕ → M → ℕ

@@ -3,7 +3,7 @@
 ghost use Rattle.std.specs.Prelude.{◌≡◌, ◌<◌, ◌≤◌, ◌^◌, ℕ, slice_index, max, length, IfOk, IsErr, map};
 ghost use Rattle.std.specs.List.{range_with_len};
 ghost use Rattle.pmem_words.specs.Seats.{new_seat};
-ghost use Rattle.log_core.specs.Steps.{kind_of};
+ghost use Rattle.log_core.specs.Steps.{kind_of_ask};
 ghost use Rattle.crash_model.specs.Worlds.{rises, synced_by};
 
 use log_entry::Geometry;
@@ -181,7 +181,7 @@ fn new_seats(
 /// How far the position rises with a step: by 1 where an exchange put an entry in a slot. `q` is the words of a block.
 fn rise(q: u32, seat: u8, ask: Ask, answer: u64) -> u64
     requires { 0 < q }
-    ensures { result ≡ rises (kind_of q seat ask) answer }
+    ensures { result ≡ rises (kind_of_ask q seat ask) answer }
 {
     match ask {
         Ask::Exchange {
@@ -203,7 +203,7 @@ fn rise(q: u32, seat: u8, ask: Ask, answer: u64) -> u64
 
 /// The synced position after a step of a seat: it rises with the fence that a sync makes at its tail.
 fn synced_by(synced: u64, state: &SeatState, ask: Ask) -> u64
-    ensures { (q seat : ℕ) → result ≡ synced_by synced state.now (kind_of q seat ask) }
+    ensures { (q seat : ℕ) → result ≡ synced_by synced state.now (kind_of_ask q seat ask) }
 {
     match ask {
         Ask::Fence => {

@@ -3,12 +3,12 @@ use Rattle.std.specs.Prelude.{ℕ, ◌+◌, ◌*◌, ◌≤◌, ◌≡◌, lengt
 use Rattle.log_entry.specs.Shape.{total_of}
 use Rattle.pmem_words.specs.Seats.{Seat, q_of}
 use Rattle.asks.specs.SharedWords.{SharedWords}
-use Rattle.block_bitmap.specs.OwnedWords.{block_at}
+use Rattle.block_bitmap.specs.OwnedWords.{owned_block_at}
 
 -- the seat owns block 1 alone, of 512 words, and the memory has the header and that block
 pub record OwnsOne (s : Seat) (p : SharedWords) : Type 0 where
   pub one : length s.blocks.owned ≡ 1
-  pub block : block_at s 0 ≡ 1
+  pub block : owned_block_at s 0 ≡ 1
   pub size : q_of s.geometry ≡ 512
   pub words : length p.words ≡ 1024
 

@@ -2,7 +2,7 @@
 
 ghost use Rattle.std.specs.Prelude.{◌≡◌, ◌+◌, ◌<◌, ◌≤◌, length, IfOk};
 ghost use Rattle.persistence.specs.Memory.{Memory};
-ghost use Rattle.persistence.specs.Cells.{TakesAsk};
+ghost use Rattle.persistence.specs.Cells.{MemoryTakes};
 ghost use Rattle.drive_bench.specs.declared.cells.TheConstants.{WORDS};
 
 use persistence::Cells;
@@ -14,7 +14,7 @@ const WORDS: u32 = 8_464_896;
 
 /// A step by a drawn number: of sixteen, seven store, four load, three mark, one exchanges 5 and one fences.
 fn drawn_ask(draw: u64) -> Ask
-    ensures { (memory : Memory) → length memory.now.words ≡ WORDS → TakesAsk memory result }
+    ensures { (memory : Memory) → length memory.now.words ≡ WORDS → MemoryTakes memory result }
 {
     let word = ((draw >> 8) % WORDS as u64) as u32;
     let place = Place::Image(word);

@@ -27,10 +27,7 @@ pub fn file_of(alloc: Global, start: &Start) -> Result<Vec<u8>, AllocError>
 {
     let mut gathered = Gathered::new(alloc);
     match write_file(alloc, start, &mut gathered) {
-        Ok(()) => {
-            let bytes = Vec::from_slice(alloc, gathered.bytes())?;
-            Ok(bytes)
-        }
+        Ok(()) => Ok(gathered.into_bytes()),
         Err(_) => Err(AllocError),
     }
 }
@@ -42,7 +39,7 @@ pub fn file_of(alloc: Global, start: &Start) -> Result<Vec<u8>, AllocError>
 pub fn write_file<K: Sink>(alloc: Global, start: &Start, sink: &mut K) -> Result<(), WriteAll>
     ensures all { OnOk result ((chain file : List ℕ) (position : ℕ) → StandsBy start.now.words.items chain file position → Gives (K.written sink.old) (K.written sink.new) file) }
     ensures part { OnErr result ((chain file : List ℕ) (position : ℕ) → StandsBy start.now.words.items chain file position → GivesPrefix (K.written sink.old) (K.written sink.new) file) }
-    ensures cause { WriteAllFaults result (K.faults sink.old) (K.faults sink.new) }
+    ensures cause { WriteAllFaults K.exact result (K.faults sink.old) (K.faults sink.new) }
     ensures later { K.faults sink.old ≤ K.faults sink.new }
 {
     let words = start.words();
@@ -83,7 +80,7 @@ fn add_block<K: Sink>(
     ensures long { length (held_bytes words.now (shape_by geometry) block) ≡ geometry.block_bytes }
     ensures all { OnOk result (GivesFront (K.written sink.old) (K.written sink.new) piece.new.items (piece.old.items ++ take count (held_bytes words.now (shape_by geometry) block))) }
     ensures part { OnErr result (GivesPrefix (K.written sink.old) (K.written sink.new) (piece.old.items ++ take count (held_bytes words.now (shape_by geometry) block))) }
-    ensures cause { WriteAllFaults result (K.faults sink.old) (K.faults sink.new) }
+    ensures cause { WriteAllFaults K.exact result (K.faults sink.old) (K.faults sink.new) }
     ensures later { K.faults sink.old ≤ K.faults sink.new }
 {
     let mut longest = [0u8; LONGEST_BLOCK];

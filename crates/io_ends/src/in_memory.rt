@@ -1,5 +1,5 @@
 //! A source and a sink in memory, which never fail.
-ghost use Rattle.std.specs.Prelude.{◌≡◌, ℕ, List, [], Some, length, take, min};
+ghost use Rattle.std.specs.Prelude.{true, ◌≡◌, ℕ, List, [], Some, length, take, min};
 
 use crate::sinks::{Put, Sink};
 use crate::sources::{Got, Source};
@@ -36,6 +36,8 @@ impl Source for Bytes {
     ghost left = { λ source. Some source };
 
     ghost faults = { λ _. 0 };
+
+    ghost exact = { true };
 
     fn read(&mut self, into: &mut [u8]) -> Got {
         let count = lay(&self.all[self.at..], into);
@@ -88,12 +90,21 @@ impl Gathered {
     {
         self.taken.as_slice()
     }
+
+    /// The bytes that it took, without a copy.
+    pub fn into_bytes(self) -> Vec<u8>
+        ensures { result.items ≡ self }
+    {
+        self.taken
+    }
 }
 
 impl Sink for Gathered {
     ghost written = { λ sink. Some sink };
 
     ghost faults = { λ _. 0 };
+
+    ghost exact = { true };
 
     fn write(&mut self, piece: &[u8]) -> Put {
         match self.taken.extend_from_slice(piece) {

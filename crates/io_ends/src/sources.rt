@@ -1,5 +1,5 @@
 //! Where bytes come from, and reading all of them.
-ghost use Rattle.std.specs.Prelude.{◌≡◌, ◌+◌, ◌-◌, ◌<◌, ◌≤◌, ℕ, List, Option, length, vec_len, min, IfOk, IfErr};
+ghost use Rattle.std.specs.Prelude.{◌≡◌, ◌+◌, ◌-◌, ◌<◌, ◌≤◌, ℕ, Bool, List, Option, length, vec_len, min, IfOk, IfErr};
 ghost use Rattle.io_ends.specs.Faults.{ReadCounts, ReadAllFaults};
 ghost use Rattle.io_ends.specs.Taking.{IsGivenCount, ReadTakes, ReadAllTakes, TakesAll};
 
@@ -21,8 +21,11 @@ pub trait Source {
     /// The bytes that it has left, where it tells that.
     ghost left: { Self → Option (List ℕ) };
 
-    /// How many faults it has counted. The count stands still at 2^64 - 1.
+    /// How many faults it has counted. The count never falls, and stands still at 2^64 - 1.
     ghost faults: { Self → ℕ };
+
+    /// Whether it counts nothing but the reads that it answers by `Failed`.
+    ghost exact: { Bool };
 
     /// Lays the next bytes, from 1 up to its length, at the front of `into`, which is not empty.
     /// What stands in `into` behind them is not promised.
@@ -30,7 +33,7 @@ pub trait Source {
         requires { 0 < length into.old }
         ensures count { IsGivenCount result (length into.old) }
         ensures bytes { ReadTakes result (left self.old) (left self.new) into.new }
-        ensures cause { ReadCounts result (faults self.old) (faults self.new) }
+        ensures cause { ReadCounts exact result (faults self.old) (faults self.new) }
         ensures later { faults self.old ≤ faults self.new };
 }
 
@@ -56,7 +59,7 @@ pub fn read_all<S: Source>(alloc: Global, source: &mut S, limit: usize) -> Resul
     ensures fits { IfOk result (λ bytes. vec_len bytes ≤ limit) }
     ensures all { IfOk result (λ bytes. TakesAll (S.left source.old) (S.left source.new) bytes.items) }
     ensures part { IfErr result (λ cause. ReadAllTakes cause (S.left source.old) (S.left source.new) limit) }
-    ensures cause { ReadAllFaults result (S.faults source.old) (S.faults source.new) }
+    ensures cause { ReadAllFaults S.exact result (S.faults source.old) (S.faults source.new) }
     ensures later { S.faults source.old ≤ S.faults source.new }
 {
     let mut buffer = match zeros(alloc, PIECE) {

@@ -1,6 +1,6 @@
 //! A source over std's readers and a sink over its writers. They tell no content, as none is known of
 //! a file or a standard stream; only their counts of faults bind them.
-ghost use Rattle.std.specs.Prelude.{◌≡◌, ◌<◌, ◌≤◌, ℕ, List, None, IfSome, MatchOption, length, take};
+ghost use Rattle.std.specs.Prelude.{true, ◌≡◌, ◌<◌, ◌≤◌, ℕ, List, None, IfSome, MatchOption, length, take};
 ghost use Rattle.std.specs.Io.KnownBytes.{Appends};
 ghost use Rattle.io_ends.specs.Faults.{ReadCounts, WriteCounts};
 ghost use Rattle.io_ends.specs.Taking.{IsGivenCount, ReadTakes};
@@ -32,11 +32,13 @@ impl<R: Read> Source for FromRead<R> {
 
     ghost faults = { λ source. source.failed };
 
+    ghost exact = { true };
+
     fn read(&mut self, into: &mut [u8]) -> Got
         requires { 0 < length into.old }
         ensures count { IsGivenCount result (length into.old) }
         ensures bytes { ReadTakes result None None into.new }
-        ensures cause { ReadCounts result self.old.failed self.new.failed }
+        ensures cause { ReadCounts true result self.old.failed self.new.failed }
         ensures later { self.old.failed ≤ self.new.failed }
         ensures reader { ReaderLoses result (R.remaining self.old.reader) (R.remaining self.new.reader) into.new }
     {
@@ -76,11 +78,13 @@ impl<W: Write> Sink for ToWrite<W> {
 
     ghost faults = { λ sink. sink.failed };
 
+    ghost exact = { true };
+
     fn write(&mut self, piece: &[u8]) -> Put
         requires { 0 < length piece.now }
         ensures count { IsTakenCount result (length piece.now) }
         ensures bytes { WriteGives result None None piece.now }
-        ensures cause { WriteCounts result self.old.failed self.new.failed }
+        ensures cause { WriteCounts true result self.old.failed self.new.failed }
         ensures later { self.old.failed ≤ self.new.failed }
         ensures writer { WriterGains result (W.contents self.old.writer) (W.contents self.new.writer) piece.now }
     {

@@ -9,7 +9,7 @@ use Rattle.pmem_words.specs.Seats.{Seat, bitmap_words}
 use Rattle.log_core.specs.Views.{Ghost, view_of}
 use Rattle.log_core.specs.Origin.{Origin, shape}
 use Rattle.log_core.specs.Cores.{Core}
-use Rattle.log_core.specs.Works.{shape_of}
+use Rattle.log_core.specs.Works.{seat_shape}
 use Rattle.log_core.specs.Needs.{is_in_area}
 use Rattle.log_core.specs.Invariant.{Invariant}
 use Rattle.log_core.specs.Knows.{Knows}
@@ -27,11 +27,11 @@ area_inside image Spare block is =
     (omega (arith, ltb-true (image.data_blocks + image.log_blocks) block parts.0), ltb-true block (total image) parts.1)
 
 module _ (o : Origin) (c : Core) (n : ℕ) (s : Seat) (g : Ghost) (pin began : ℕ) (inv : Invariant o c) (f : Knows o c n s g pin began) (unspent : (view_of c.views n).parts ≢ []) where
-  pub same_shape : shape_of s ≡ shape o
+  pub same_shape : seat_shape s ≡ shape o
   same_shape = ap (λ (geometry : Geometry). record { data_blocks = geometry.data_blocks; log_blocks = geometry.log_blocks; block_bytes = geometry.block_bytes }) (f.fits unspent).geometry
 
   pub word_inside : (word : ℕ) → word < length s.blocks.found → word < length c.memory.now.taken
   word_inside word low = (let long : length s.blocks.found ≡ bitmap_words o.geometry = (f.fits unspent).found in let taken = inv.sizes.words.taken in let room = inv.sizes.image.bitmap in omega (arith, low, long, taken, room))
 
-  pub block_inside : (area : Area) (block : ℕ) → is_in_area (shape_of s) area block ≡ true → (0 < block) × (block < total (shape o))
+  pub block_inside : (area : Area) (block : ℕ) → is_in_area (seat_shape s) area block ≡ true → (0 < block) × (block < total (shape o))
   block_inside area block is = area_inside (shape o) area block (subst (λ (image : Shape). is_in_area image area block ≡ true) same_shape is)

@@ -7,7 +7,7 @@ use Rattle.log_core.specs.Cores.{Core}
 use Rattle.log_core.specs.Walks.{WalkHolds}
 use Rattle.log_core.specs.Invariant.{Invariant, around}
 use Rattle.log_core.specs.Knows.{Knows}
-use Rattle.log_core.proofs.Leaves.{moved}
+use Rattle.log_core.proofs.clauses.Leaves.{moved}
 
 module _ (o : Origin) (c : Core) (n : ℕ) (inv : Invariant o c) (here : n < length c.views) where
   abbrev v : View

@@ -13,10 +13,10 @@ use Rattle.asks.specs.declared.ask.Ask.{Ask}
 use Rattle.persistence.specs.Memory.{found, memory_after}
 use Rattle.log_core.specs.Entries.{has}
 use Rattle.log_core.specs.Views.{view_of, spent_view, op_in}
-use Rattle.log_core.specs.Origin.{Origin, q_of, Owner, Free, Header, InChain, OwnedBy, LeftTo, LogBlock, Generation}
+use Rattle.log_core.specs.Origin.{Origin, q_of_origin, Owner, Free, Header, InChain, OwnedBy, LeftTo, LogBlock, Generation}
 use Rattle.log_core.specs.Files.{Write, end_of}
 use Rattle.log_core.specs.Cores.{Core, number_at}
-use Rattle.log_core.specs.Steps.{Note, Step, Does, Splits, Joins, Kind, SetsBits, ClearsBits, ExchangesSlot, ExchangesLink, ExchangesHead, Fences, kind_of, is_gained, content_of, new_meaning, new_snapshots, replaced_by, effect, is_begun, view_after, view_left, view_right, view_joined}
+use Rattle.log_core.specs.Steps.{Note, Step, Does, Splits, Joins, Kind, SetsBits, ClearsBits, ExchangesSlot, ExchangesLink, ExchangesHead, Fences, kind_of_ask, is_gained, content_of, new_meaning, new_snapshots, replaced_by, effect, is_begun, view_after, view_left, view_right, view_joined}
 
 -- the write of the running call, with this word as its entry
 abbrev pub op_or_size : Option Op → Op
@@ -142,7 +142,7 @@ owner_joined seat other (OwnedBy n) = OwnedBy n
 
 -- the core after a step
 abbrev pub after : Origin → Core → Step → Core
-after o c (Does seat ask note) = stepped o c seat ask note (kind_of (q_of o) seat ask) (found c.memory ask)
+after o c (Does seat ask note) = stepped o c seat ask note (kind_of_ask (q_of_origin o) seat ask) (found c.memory ask)
 after o c (Splits seat) = record c {
   views = slice_set c.views seat (view_left (view_of c.views seat)) ++ view_right (view_of c.views seat) ∷ [];
   began = c.began ++ 0 ∷ [];

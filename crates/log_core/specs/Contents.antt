@@ -4,8 +4,8 @@ use Rattle.log_image.specs.Image.{Shape, words_in}
 use Rattle.log_image.specs.Entries.{all_names}
 use Rattle.persistence.specs.Memory.{Cell}
 use Rattle.log_core.specs.Entries.{has, LogEntry, no_entry, entry_by, place_in}
-use Rattle.log_core.specs.Origin.{Origin, shape, first_base, first_position, Owner, InChain, LeftTo, LogBlock, Generation}
-use Rattle.log_core.specs.Files.{Write, entries, end_of, map_at, size_at, file_at, Holds, HoldsBelow}
+use Rattle.log_core.specs.Origin.{Origin, shape, start_base, first_position, Owner, InChain, LeftTo, LogBlock, Generation}
+use Rattle.log_core.specs.Files.{Write, entries, end_of, history_map_at, history_size_at, file_at, Holds, HoldsBelow}
 use Rattle.log_core.specs.Cores.{nth_log, data_names, is_named}
 use Rattle.log_core.specs.After.{snapshot_meanings}
 use Rattle.log_core.specs.Snapshots.{IsSnapshot}
@@ -29,16 +29,16 @@ pub record EntriesSay (image : Shape) (recorded : ℕ → List ℕ) (from : ℕ)
 -- the file at a position is what the blocks of the map there hold; before the start's position its bytes alone are said
 pub record HoldsFileAt (o : Origin) (history : List Write) (recorded : ℕ → List ℕ) (position : ℕ) : Type 0 where
   pub early : position < first_position o →
-      HoldsBelow (shape o) (size_at o (entries o history) position) recorded (map_at o (entries o history) position) (file_at o history position)
-  pub held : first_position o ≤ position → Holds (shape o) recorded (map_at o (entries o history) position) (file_at o history position)
-  pub size_is : length (file_at o history position) ≡ size_at o (entries o history) position
+      HoldsBelow (shape o) (history_size_at o (entries o history) position) recorded (history_map_at o (entries o history) position) (file_at o history position)
+  pub held : first_position o ≤ position → Holds (shape o) recorded (history_map_at o (entries o history) position) (file_at o history position)
+  pub size_is : length (file_at o history position) ≡ history_size_at o (entries o history) position
 
 -- a generation's snapshot holds the map and the size at its position; one without a snapshot begins at position 0 with an empty file
 pub record SnapshotHolds (o : Origin) (history : List Write) (recorded : ℕ → List ℕ) (logs : List LogBlock) (g : Generation) : Type 0 where
   pub whole : 0 < length g.snapshots →
-      IsSnapshot (shape o) recorded g.base g.size g.snapshots (nth_log logs g.cut).block (map_at o (entries o history) g.base)
-  pub empty : length g.snapshots ≡ 0 → (g.base ≡ 0) × (g.size ≡ 0) × ((virt : ℕ) → map_at o (entries o history) g.base virt ≡ None)
-  pub size_is : g.size ≡ size_at o (entries o history) g.base
+      IsSnapshot (shape o) recorded g.base g.size g.snapshots (nth_log logs g.cut).block (history_map_at o (entries o history) g.base)
+  pub empty : length g.snapshots ≡ 0 → (g.base ≡ 0) × (g.size ≡ 0) × ((virt : ℕ) → history_map_at o (entries o history) g.base virt ≡ None)
+  pub size_is : g.size ≡ history_size_at o (entries o history) g.base
   pub shared_is : g.shared ≡ all_names (snapshot_meanings recorded g.snapshots)
 
 -- a kept generation: its blocks are still taken, those of the snapshot and of the data area have their recorded words, and they say
@@ -47,6 +47,6 @@ pub record GenerationHolds (o : Origin) (cells : ℕ → Cell) (history : List W
   pub taken : (block : ℕ) → is_named o logs (entries o history) g block ≡ true → IsStillTaken (owner block)
   pub whole : (block : ℕ) → is_named o logs (entries o history) g block ≡ true → length (recorded block) ≡ words_in (shape o)
   pub words : AreRecorded (shape o) cells recorded (g.snapshots ++ data_names o (entries o history) g)
-  pub entries_say : EntriesSay (shape o) recorded (g.base - first_base o) (entries o history)
+  pub entries_say : EntriesSay (shape o) recorded (g.base - start_base o) (entries o history)
   pub snapshot : SnapshotHolds o history recorded logs g
   pub files : (position : ℕ) → g.base ≤ position → position ≤ end_of o history → HoldsFileAt o history recorded position

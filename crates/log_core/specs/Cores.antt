@@ -7,7 +7,7 @@ use Rattle.log_image.specs.Blocks.{entry_words}
 use Rattle.persistence.specs.Memory.{Memory, cell}
 use Rattle.log_core.specs.Entries.{has, place_in, head_place, LogEntry, entry_names}
 use Rattle.log_core.specs.Views.{View, view_of}
-use Rattle.log_core.specs.Origin.{Origin, Owner, LogBlock, no_log, Generation, no_generation, first_base, first_position, first_generation, start_generation, first_logs, first_owner, first_recorded, first_memory, first_views}
+use Rattle.log_core.specs.Origin.{Origin, Owner, LogBlock, no_log, Generation, no_generation, start_base, first_position, first_generation, start_generation, first_logs, first_owner, first_recorded, first_memory, first_views}
 use Rattle.log_core.specs.Files.{Write}
 
 -- the state of a core: the memory; the views, a seat's number being its view's place; the accepted writes, the oldest first; the
@@ -69,8 +69,8 @@ abbrev pub log_blocks : List LogBlock → List ℕ
 log_blocks logs = map (λ (log : LogBlock). log.block) logs
 
 -- how many entries a log block has
-abbrev pub entry_count : LogBlock → ℕ
-entry_count log = length (entry_words log.slots)
+abbrev pub entries_used : LogBlock → ℕ
+entries_used log = length (entry_words log.slots)
 
 -- the snapshot and log blocks of a generation's chain up to the end
 abbrev pub chain_names : List LogBlock → Generation → List ℕ
@@ -78,14 +78,14 @@ chain_names logs g = g.snapshots ++ log_blocks (drop g.cut logs)
 
 -- the data and indirect blocks that it names: those of the snapshot, and those of the entries of its log blocks
 abbrev pub data_names : Origin → List LogEntry → Generation → List ℕ
-data_names o es g = g.shared ++ entry_names (drop (g.base - first_base o) es)
+data_names o es g = g.shared ++ entry_names (drop (g.base - start_base o) es)
 
 -- all blocks that a generation names
-abbrev pub named : Origin → List LogBlock → List LogEntry → Generation → List ℕ
-named o logs es g = chain_names logs g ++ data_names o es g
+abbrev pub generation_blocks : Origin → List LogBlock → List LogEntry → Generation → List ℕ
+generation_blocks o logs es g = chain_names logs g ++ data_names o es g
 
 abbrev pub is_named : Origin → List LogBlock → List LogEntry → Generation → ℕ → Bool
-is_named o logs es g block = has (named o logs es g) block
+is_named o logs es g block = has (generation_blocks o logs es g) block
 
 -- a seat has a valid pin of the generation at this place
 pub record IsPinned (o : Origin) (views : List View) (place : ℕ) : Type 0 where

@@ -11,7 +11,7 @@ use Rattle.log_entry.specs.declared.calls.Call.{Call}
 use Rattle.log_image.specs.Image.{Shape}
 use Rattle.log_image.specs.Maps.{map_of, size_after}
 use Rattle.log_core.specs.Entries.{LogEntry, no_entry, meanings}
-use Rattle.log_core.specs.Origin.{Origin, shape, first_position, first_base, first_size, first_snapshot, first_entries, first_recorded}
+use Rattle.log_core.specs.Origin.{Origin, shape, first_position, start_base, start_size, first_snapshot, first_entries, first_recorded}
 
 -- an accepted write: whose, its number among its seat's calls, what it asked, the file's length before it, and its entry
 pub record Write : Type 0 where
@@ -51,16 +51,16 @@ abbrev pub entries : Origin → List Write → List LogEntry
 entries o history = first_entries o ++ map (λ (w : Write). w.entry) history
 
 -- the entries up to a position
-abbrev pub entries_to : Origin → List LogEntry → ℕ → List LogEntry
-entries_to o es position = take (position - first_base o) es
+abbrev pub history_entries_to : Origin → List LogEntry → ℕ → List LogEntry
+history_entries_to o es position = take (position - start_base o) es
 
 -- the physical block of a virtual block at a position that is not before the start's snapshot, if it has one
-abbrev pub map_at : Origin → List LogEntry → ℕ → ℕ → Option ℕ
-map_at o es position virt = map_of (first_snapshot o ++ meanings (entries_to o es position)) virt
+abbrev pub history_map_at : Origin → List LogEntry → ℕ → ℕ → Option ℕ
+history_map_at o es position virt = map_of (first_snapshot o ++ meanings (history_entries_to o es position)) virt
 
 -- the file's size at such a position
-abbrev pub size_at : Origin → List LogEntry → ℕ → ℕ
-size_at o es position = size_after (shape o) (first_size o) (meanings (entries_to o es position))
+abbrev pub history_size_at : Origin → List LogEntry → ℕ → ℕ
+history_size_at o es position = size_after (shape o) (start_size o) (meanings (history_entries_to o es position))
 
 -- a byte of a block, by the words of blocks; 0 where there is none
 abbrev pub byte_in : (ℕ → List ℕ) → Option ℕ → ℕ → ℕ
@@ -70,8 +70,8 @@ byte_in content (Some block) at = slice_index (word_bytes (content block)) at
 -- the file at a position before the start's, as far as the start's blocks still hold it
 abbrev pub early_file : Origin → ℕ → List ℕ
 early_file o position =
-    map (λ (place : ℕ). byte_in (first_recorded o) (map_at o (first_entries o) position (place / (shape o).block_bytes)) (place % (shape o).block_bytes))
-    (range_with_len 0 (size_at o (first_entries o) position))
+    map (λ (place : ℕ). byte_in (first_recorded o) (history_map_at o (first_entries o) position (place / (shape o).block_bytes)) (place % (shape o).block_bytes))
+    (range_with_len 0 (history_size_at o (first_entries o) position))
 
 -- the file at a position
 abbrev pub file_at : Origin → List Write → ℕ → List ℕ

@@ -4,7 +4,7 @@ use Rattle.std.specs.List.{AllByRecursion}
 use Rattle.persistence.specs.Memory.{Memory, cell}
 use Rattle.log_core.specs.Entries.{LogEntry, head_place}
 use Rattle.log_core.specs.Views.{View, view_of}
-use Rattle.log_core.specs.Origin.{Origin, shape, q_of, first_generation, Owner, LogBlock, Generation}
+use Rattle.log_core.specs.Origin.{Origin, shape, q_of_origin, first_generation, Owner, LogBlock, Generation}
 use Rattle.log_core.specs.Files.{Write, entries, end_of}
 use Rattle.log_core.specs.Cores.{Core, generation_at, current, chain_names, data_names, is_named, IsKept, head_floor}
 use Rattle.log_core.specs.Sizes.{Sizes}
@@ -79,13 +79,13 @@ pub record Records (o : Origin) (memory : Memory) (views : List View) (history :
   pub never_fall : (seat part : ℕ) → NeverFall part 0 0 (view_of views seat).done
   pub calls : (seat : ℕ) → CallHolds o history (view_of views seat)
   pub tails : (seat : ℕ) → TailHolds (view_of views seat) (began seat)
-  pub marks : (seat : ℕ) → MarksFit (λ word. cell memory word) memory.past memory.notes seat (view_of views seat)
+  pub marks : (seat : ℕ) → MarksFit (λ word. cell memory word) memory.past memory.pending seat (view_of views seat)
 
 -- synced: no crash takes back an entry up to the synced position, nor what leads to it
 pub record Syncs (o : Origin) (memory : Memory) (views : List View) (history : List Write) (generations : List Generation) (logs : List LogBlock) (synced : ℕ) : Type 0 where
   pub to_end : synced ≤ end_of o history
   pub words : IsSynced (shape o) (λ word. cell memory word) generations logs (head_floor memory) synced
-  pub views_hold : SyncsHold (q_of o) (names_by o logs (entries o history) generations) (λ word. cell memory word) memory.past memory.notes synced views
+  pub views_hold : SyncsHold (q_of_origin o) (names_by o logs (entries o history) generations) (λ word. cell memory word) memory.past memory.pending synced views
 
 pub record Invariant (o : Origin) (c : Core) : Type 0 where
   pub sizes : Sizes o c.memory c.views c.began
@@ -94,7 +94,7 @@ pub record Invariant (o : Origin) (c : Core) : Type 0 where
   pub contents : Contents o c.memory c.history c.recorded c.owner c.generations c.logs (λ place. KeptIn o c place)
   pub pins : Pins o c.memory c.views c.generations
   pub walks : WalksHold (around o c) c.views
-  pub owned : OwnedAllHold (λ word. cell c.memory word) c.memory.past c.memory.notes c.views
+  pub owned : OwnedAllHold (λ word. cell c.memory word) c.memory.past c.memory.pending c.views
   pub givings : Givings o c.memory c.views c.history c.generations c.logs
   pub records : Records o c.memory c.views c.history c.generations (λ seat. Rattle.std.specs.Prelude.slice_index c.began seat)
   pub syncs : Syncs o c.memory c.views c.history c.generations c.logs c.synced

@@ -5,7 +5,7 @@ use Rattle.pmem_words.specs.Seats.{Seat}
 use Rattle.persistence.specs.Memory.{cell}
 use Rattle.log_core.specs.Entries.{head_place}
 use Rattle.log_core.specs.Views.{View, Ghost, view_of}
-use Rattle.log_core.specs.Origin.{Origin, q_of, first_generation}
+use Rattle.log_core.specs.Origin.{Origin, q_of_origin, first_generation}
 use Rattle.log_core.specs.Files.{entries}
 use Rattle.log_core.specs.Cores.{Core, current, head_floor, IsPinned}
 use Rattle.log_core.specs.Sizes.{SeatFits}
@@ -31,7 +31,7 @@ pub record Knows (o : Origin) (c : Core) (n : ℕ) (s : Seat) (g : Ghost) (pin b
   pub pin_is : pin ≡ s.hold.pin
   pub pin_holds : PinHolds (first_generation o) (current o c.generations) (cell c.memory head_place) s.hold
   pub walk : (view_of c.views n).parts ≢ [] → WalkHolds (around o c) s.hold s.walk
-  pub owned : OwnedHold (λ word. cell c.memory word) c.memory.past c.memory.notes n g s
+  pub owned : OwnedHold (λ word. cell c.memory word) c.memory.past c.memory.pending n g s
   pub giving : GivingHolds (names_by o c.logs (entries o c.history) c.generations) (current o c.generations) (first_generation o + head_floor c.memory) s.giving
   pub scan_others : (k : ℕ) → k ≢ n → ScanHolds s.giving k (view_of c.views k).seat.hold
   pub scan_self : ScanHolds s.giving n s.hold
@@ -42,5 +42,5 @@ pub record Knows (o : Origin) (c : Core) (n : ℕ) (s : Seat) (g : Ghost) (pin b
   pub same_put : g.call.put ≡ (view_of c.views n).ghost.call.put
   pub calls : CallHolds o c.history (with_seat (view_of c.views n) s g)
   pub tail : TailHolds (with_seat (view_of c.views n) s g) began
-  pub marks : MarksFit (λ word. cell c.memory word) c.memory.past c.memory.notes n (with_seat (view_of c.views n) s g)
-  pub syncs : SyncHolds (q_of o) (names_by o c.logs (entries o c.history) c.generations) (λ word. cell c.memory word) c.memory.past c.memory.notes c.synced n (with_seat (view_of c.views n) s g)
+  pub marks : MarksFit (λ word. cell c.memory word) c.memory.past c.memory.pending n (with_seat (view_of c.views n) s g)
+  pub syncs : SyncHolds (q_of_origin o) (names_by o c.logs (entries o c.history) c.generations) (λ word. cell c.memory word) c.memory.past c.memory.pending c.synced n (with_seat (view_of c.views n) s g)

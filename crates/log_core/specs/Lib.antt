@@ -28,9 +28,4 @@ pub mod Histories
 pub mod Laws
 pub mod Knows
 pub mod Within
-pub mod Samples
-pub mod Rows
-pub mod Refused
-pub mod Gaps
-pub mod Offered
-pub mod Accepted
+pub mod worked_rows

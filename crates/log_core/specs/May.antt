@@ -21,18 +21,18 @@ use Rattle.pmem_words.specs.declared.keeps.Task.TheVariants.{Sync, Collect}
 use Rattle.pmem_words.specs.declared.owned.OwnedBlock.{OwnedBlock}
 use Rattle.pmem_words.specs.Seats.{Seat}
 use Rattle.log_core.specs.Entries.{has, place_in, head_place, meaning_by}
-use Rattle.log_core.specs.Views.{Marked, Ghost, op_in}
+use Rattle.log_core.specs.Views.{MarkedWord, Ghost, op_in}
 use Rattle.log_core.specs.Origin.{Origin, shape}
-use Rattle.log_core.specs.Files.{Write, entries, map_at, file_at, accepted_reply, byte_in}
+use Rattle.log_core.specs.Files.{Write, entries, history_map_at, file_at, accepted_reply, byte_in}
 use Rattle.log_core.specs.Cores.{Core, generation_at, is_named, log_at, TrailWord, trail}
-use Rattle.log_core.specs.Works.{shape_of, words_of, tail_index}
+use Rattle.log_core.specs.Works.{seat_shape, words_of, tail_index}
 use Rattle.log_core.specs.Needs.{owned_numbers, lacking, is_in_area}
 use Rattle.log_core.specs.Steps.{Kind, LoadsHead, StoresOwnPin, LoadsPinWord, LoadsImageWord, LoadsBitmapWord, SetsBits, ClearsBits, StoresWord, ExchangesSlot, ExchangesLink, ExchangesHead, MarksWord, Fences, NoKind, is_of_owned, content_of, new_meaning, new_snapshots, replaced_by}
 use Rattle.log_core.specs.After.{new_generation, snapshot_meanings}
 use Rattle.log_core.specs.Snapshots.{first_or, IsSnapshot}
 
 -- a store of the own pin word: 0, or the generation of the head found last; a sync that has marks keeps its pin
-pub record MayStoreOwnPin (s : Seat) (marks : List Marked) (value : ℕ) : Type 0 where
+pub record MayStoreOwnPin (s : Seat) (marks : List MarkedWord) (value : ℕ) : Type 0 where
   pub value_is : (value ≡ 0) ⊎ ((s.hold.head ≢ 0) × (value ≡ field HEAD_GENERATION s.hold.head))
   pub no_marks : s.calling.job ≡ Sync → marks ≡ []
 
@@ -59,7 +59,7 @@ pub record MayLoadBitmapWord (s : Seat) (word : ℕ) : Type 0 where
 pub record MaySetBits (s : Seat) (word bits : ℕ) : Type 0 where
   pub inside : word < length s.blocks.found
   pub area : Area
-  pub in_area : (block : ℕ) → is_among word bits block ≡ true → is_in_area (shape_of s) area block ≡ true
+  pub in_area : (block : ℕ) → is_among word bits block ≡ true → is_in_area (seat_shape s) area block ≡ true
   pub few : length (filter (λ (block : ℕ). is_among word bits block) (range_with_len (word * 64) 64)) ≤ lacking s s.calling.job area
 
 -- a scan of all seats has found each pin 0 or above this generation
@@ -114,17 +114,17 @@ pub record IsAtTail (s : Seat) : Type 0 where
 -- and fenced, none twice; and the map with them holds the file after the write
 pub record MayCommit (o : Origin) (history : List Write) (s : Seat) (word entry : ℕ) : Type 0 where
   pub at_tail : IsAtTail s
-  pub slot : word ≡ place_in (shape_of s) s.walk.tail_block s.walk.tail_slot
+  pub slot : word ≡ place_in (seat_shape s) s.walk.tail_block s.walk.tail_slot
   pub inside : s.walk.tail_slot < words_of s
   pub op : Op
   pub job : op_in s ≡ Some op
   pub is_write : is_write op (accepted_reply op s.walk.size) ≡ true
   pub allowed : refusal_at s.geometry.block_bytes s.walk.position s.walk.size op ≡ None
-  pub form : is_log_entry_by (λ block. content_of s block) (shape_of s) entry ≡ true
+  pub form : is_log_entry_by (λ block. content_of s block) (seat_shape s) entry ≡ true
   pub owned : (block : ℕ) → has (names (new_meaning s entry)) block ≡ true → is_fenced s.blocks.owned block ≡ true
-  pub in_data : (block : ℕ) → has (names (new_meaning s entry)) block ≡ true → is_in_data (shape_of s) block ≡ true
+  pub in_data : (block : ℕ) → has (names (new_meaning s entry)) block ≡ true → is_in_data (seat_shape s) block ≡ true
   pub once : all_different (names (new_meaning s entry)) ≡ true
-  pub size_is : max s.walk.size (entry_end (shape_of s) (new_meaning s entry)) ≡ length (file_after (file_at o history s.walk.position) op (accepted_reply op s.walk.size))
+  pub size_is : max s.walk.size (entry_end (seat_shape s) (new_meaning s entry)) ≡ length (file_after (file_at o history s.walk.position) op (accepted_reply op s.walk.size))
   pub holds : (virt block at : ℕ) → block_in (new_meaning s entry) virt ≡ Some block → at < s.geometry.block_bytes →
       byte_in (λ other. content_of s other) (Some block) at ≡ slice_index (file_after (file_at o history s.walk.position) op (accepted_reply op s.walk.size)) (virt * s.geometry.block_bytes + at)
   pub rest : (virt at : ℕ) → block_in (new_meaning s entry) virt ≡ None → at < s.geometry.block_bytes →
@@ -134,7 +134,7 @@ pub record MayCommit (o : Origin) (history : List Write) (s : Seat) (word entry 
 -- an exchange of the tail's slot for a seal: in a collection, and not of a block's first slot
 pub record MaySeal (s : Seat) (word : ℕ) : Type 0 where
   pub at_tail : IsAtTail s
-  pub slot : word ≡ place_in (shape_of s) s.walk.tail_block s.walk.tail_slot
+  pub slot : word ≡ place_in (seat_shape s) s.walk.tail_block s.walk.tail_slot
   pub later : 3 < s.walk.tail_slot
   pub inside : s.walk.tail_slot < words_of s
   pub job : s.calling.job ≡ Collect
@@ -146,10 +146,10 @@ MayExchangeSlot o history s word entry = (entry ≡ SEAL → MaySeal s word) × 
 pub record MayExchangeLink (s : Seat) (word block : ℕ) : Type 0 where
   pub valid : s.hold.valid ≡ true
   pub ready : s.walk.ready ≡ true
-  pub link : word ≡ place_in (shape_of s) s.walk.tail_block 0
+  pub link : word ≡ place_in (seat_shape s) s.walk.tail_block 0
   pub at_end : s.walk.tail_slot ≡ words_of s
   pub owned : is_fenced s.blocks.owned block ≡ true
-  pub in_log : is_in_log (shape_of s) block ≡ true
+  pub in_log : is_in_log (seat_shape s) block ≡ true
   pub content : content_of s block ≡ 0 ∷ block_word (record { kind = LogKind; base = s.walk.position }) ∷ replicate (words_of s - 2) 0
 
 -- entries that give no virtual block twice
@@ -179,18 +179,18 @@ pub record MayExchangeHead (o : Origin) (c : Core) (g : Ghost) (s : Seat) (befor
   pub cut_block : (log_at c.logs s.walk.position).block ≡ s.walk.tail_block
   pub cut_slot : (s.walk.tail_slot ≡ 3) × (s.walk.tail_base ≡ s.walk.position)
   pub owned : (block : ℕ) → has (new_snapshots s next) block ≡ true → is_fenced s.blocks.owned block ≡ true
-  pub in_log : (block : ℕ) → has (new_snapshots s next) block ≡ true → is_in_log (shape_of s) block ≡ true
+  pub in_log : (block : ℕ) → has (new_snapshots s next) block ≡ true → is_in_log (seat_shape s) block ≡ true
   pub once : all_different (new_snapshots s next) ≡ true
-  pub snapshot : IsSnapshot (shape_of s) (λ block. content_of s block) s.walk.position (length (file_at o c.history s.walk.position)) (new_snapshots s next) s.walk.tail_block
-      (map_at o (entries o c.history) s.walk.position)
+  pub snapshot : IsSnapshot (seat_shape s) (λ block. content_of s block) s.walk.position (length (file_at o c.history s.walk.position)) (new_snapshots s next) s.walk.tail_block
+      (history_map_at o (entries o c.history) s.walk.position)
   pub apart : AreApart (snapshot_meanings (λ block. content_of s block) (new_snapshots s next))
   pub replaced : (block : ℕ) → has (replaced_by s) block
       ≡ (is_named o c.logs (entries o c.history) (generation_at o c.generations s.hold.generation) block
       && not (is_named o c.logs (entries o c.history) (new_generation s c.logs next) block))
 
 -- whether a place is marked
-abbrev pub is_marked : List Marked → ℕ → Bool
-is_marked marks place = list_any (λ (mark : Marked). mark.word == place) marks
+abbrev pub is_marked : List MarkedWord → ℕ → Bool
+is_marked marks place = list_any (λ (mark : MarkedWord). mark.word == place) marks
 
 -- the used slots and links of the pinned chain up to the tail of a walk
 abbrev pub trail_before : ℕ → List TrailWord → List TrailWord
@@ -210,7 +210,7 @@ pub data MayMark (walked : List TrailWord) (g : Ghost) (s : Seat) (word : ℕ) :
   OfTrail : list_any (λ (t : TrailWord). t.place == word) walked ≡ true → s.calling.job ≡ Sync → s.hold.valid ≡ true → MayMark walked g s word
 
 -- the head is marked, and each used slot and link up to the tail
-pub record IsAllMarked (walked : List TrailWord) (marks : List Marked) : Type 0 where
+pub record IsAllMarked (walked : List TrailWord) (marks : List MarkedWord) : Type 0 where
   pub head : is_marked marks head_place ≡ true
   pub each : (place : ℕ) → list_any (λ (t : TrailWord). t.place == place) walked ≡ true → is_marked marks place ≡ true
 

@@ -12,7 +12,7 @@ use Rattle.pmem_words.specs.declared.keeps.Task.TheVariants.{Pwrite, Append, Col
 use Rattle.pmem_words.specs.declared.owned.OwnedBlock.{OwnedBlock}
 use Rattle.pmem_words.specs.Seats.{Seat}
 use Rattle.log_core.specs.Entries.{has}
-use Rattle.log_core.specs.Works.{shape_of}
+use Rattle.log_core.specs.Works.{seat_shape}
 
 -- the blocks of an area
 abbrev pub is_in_area : Shape → Area → ℕ → Bool
@@ -31,7 +31,7 @@ abbrev pub owned_numbers : List OwnedBlock → List ℕ
 owned_numbers owned = map (λ (o : OwnedBlock). o.block) owned
 
 abbrev pub owned_in : Seat → Area → List ℕ
-owned_in s area = filter (λ (block : ℕ). is_in_area (shape_of s) area block) (owned_numbers s.blocks.owned)
+owned_in s area = filter (λ (block : ℕ). is_in_area (seat_shape s) area block) (owned_numbers s.blocks.owned)
 
 -- the blocks are those of one run: from one of them on, as many in a row are theirs
 abbrev pub is_one_run : List ℕ → Bool
@@ -63,8 +63,8 @@ lacking s _ area = 0
 -- each block of an area is among those found taken
 abbrev pub is_found_taken : Seat → Area → Bool
 is_found_taken s area =
-    list_all (λ (block : ℕ). not (is_in_area (shape_of s) area block) || (bit_at (slice_index s.blocks.found (block / 64)) (block % 64) == 1))
-    (range_with_len 1 (total (shape_of s) - 1))
+    list_all (λ (block : ℕ). not (is_in_area (seat_shape s) area block) || (bit_at (slice_index s.blocks.found (block / 64)) (block % 64) == 1))
+    (range_with_len 1 (total (seat_shape s) - 1))
 
 -- the pass over an area has found each of its blocks taken, and the seat still lacks some
 abbrev pub is_pass_found : Seat → Area → Bool

@@ -7,8 +7,8 @@ use Rattle.log_image.specs.Image.{Shape, words_in}
 use Rattle.persistence.specs.Memory.{Cell}
 use Rattle.persistence.specs.Survivors.{value_at}
 use Rattle.log_core.specs.Entries.{LogEntry, no_entry, place_in, head_place}
-use Rattle.log_core.specs.Origin.{Origin, shape, first_base, first_generation, LogBlock, Generation, no_generation}
-use Rattle.log_core.specs.Cores.{nth_log, entry_count, is_sealed, is_full}
+use Rattle.log_core.specs.Origin.{Origin, shape, start_base, first_generation, LogBlock, Generation, no_generation}
+use Rattle.log_core.specs.Cores.{nth_log, entries_used, is_sealed, is_full}
 use Rattle.log_core.specs.Snapshots.{first_or}
 use Rattle.log_core.specs.Certain.{IsCertain, IsGrowing}
 
@@ -33,7 +33,7 @@ pub record HeadsInOrder (o : Origin) (cells : ℕ → Cell) (generations : List 
 
 -- the snapshots' positions rise with the generation, and so do the first log blocks, which begin there
 pub record GenerationsRise (o : Origin) (end : ℕ) (generations : List Generation) (logs : List LogBlock) : Type 0 where
-  pub from_first : (place : ℕ) → place < length generations → first_base o ≤ (nth_generation generations place).base
+  pub from_first : (place : ℕ) → place < length generations → start_base o ≤ (nth_generation generations place).base
   pub to_end : (place : ℕ) → place < length generations → (nth_generation generations place).base ≤ end
   pub rise : (place : ℕ) → place + 1 < length generations → (nth_generation generations place).base < (nth_generation generations (place + 1)).base
   pub cuts_rise : (place : ℕ) → place + 1 < length generations → (nth_generation generations place).cut ≤ (nth_generation generations (place + 1)).cut
@@ -42,18 +42,18 @@ pub record GenerationsRise (o : Origin) (end : ℕ) (generations : List Generati
 
 -- the used slots of the log blocks are the entries in order, and a seal as the last slot of some blocks
 pub record LogInOrder (o : Origin) (es : List LogEntry) (end : ℕ) (logs : List LogBlock) : Type 0 where
-  pub count : first_base o + length es ≡ end
+  pub count : start_base o + length es ≡ end
   pub limit : end < 2 ^ 40
   pub some : 0 < length logs
-  pub first : (nth_log logs 0).base ≡ first_base o
-  pub next : (number : ℕ) → number + 1 < length logs → (nth_log logs (number + 1)).base ≡ (nth_log logs number).base + entry_count (nth_log logs number)
-  pub last : (nth_log logs (length logs - 1)).base + entry_count (nth_log logs (length logs - 1)) ≡ end
+  pub first : (nth_log logs 0).base ≡ start_base o
+  pub next : (number : ℕ) → number + 1 < length logs → (nth_log logs (number + 1)).base ≡ (nth_log logs number).base + entries_used (nth_log logs number)
+  pub last : (nth_log logs (length logs - 1)).base + entries_used (nth_log logs (length logs - 1)) ≡ end
   pub full : (number : ℕ) → number + 1 < length logs → is_full (shape o) (nth_log logs number).slots ≡ true
   pub inside : (number : ℕ) → number < length logs → length (nth_log logs number).slots + 3 ≤ words_in (shape o)
   pub used : (number k : ℕ) → k < length (nth_log logs number).slots → slice_index (nth_log logs number).slots k ≢ EMPTY
   pub seal_last : (number k : ℕ) → slice_index (nth_log logs number).slots k ≡ SEAL → (k + 1 ≡ length (nth_log logs number).slots) × (0 < k)
   pub entries : (number k : ℕ) → k < length (nth_log logs number).slots → slice_index (nth_log logs number).slots k ≢ SEAL →
-      slice_index (nth_log logs number).slots k ≡ (slice_index_or es ((nth_log logs number).base + k - first_base o) no_entry).word
+      slice_index (nth_log logs number).slots k ≡ (slice_index_or es ((nth_log logs number).base + k - start_base o) no_entry).word
 
 -- a log block in the image, with the block that follows it, 0 for none. Of the slots behind a seal the first one alone is said to be
 -- empty: nobody comes to the others, and the image that a run starts from may have anything there

@@ -29,8 +29,8 @@ abbrev pub shape : Origin → Shape
 shape o = record { data_blocks = o.geometry.data_blocks; log_blocks = o.geometry.log_blocks; block_bytes = o.geometry.block_bytes }
 
 -- the 64-bit words of a block
-abbrev pub q_of : Origin → ℕ
-q_of o = words_in (shape o)
+abbrev pub q_of_origin : Origin → ℕ
+q_of_origin o = words_in (shape o)
 
 -- the position and the generation at the start, and the position and the size of the start's snapshot
 abbrev pub first_position : Origin → ℕ
@@ -39,11 +39,11 @@ first_position o = position_of o.words (shape o) o.chain
 abbrev pub first_generation : Origin → ℕ
 first_generation o = generation_of o.words
 
-abbrev pub first_base : Origin → ℕ
-first_base o = snapshot_base o.words (shape o) o.chain
+abbrev pub start_base : Origin → ℕ
+start_base o = snapshot_base o.words (shape o) o.chain
 
-abbrev pub first_size : Origin → ℕ
-first_size o = snapshot_size o.words (shape o) o.chain
+abbrev pub start_size : Origin → ℕ
+start_size o = snapshot_size o.words (shape o) o.chain
 
 -- who has a block: nobody, the header, the present chain, the seat that took it, or the seat whose collection replaced it
 pub data Owner : Type 0 where
@@ -97,8 +97,8 @@ start_generation o = record {
   snapshots = snapshots_of o.words (shape o) o.chain;
   shared = all_names (first_snapshot o);
   cut = 0;
-  base = first_base o;
-  size = first_size o;
+  base = start_base o;
+  size = start_size o;
 }
 
 -- the entries of the start's log
@@ -118,7 +118,7 @@ first_memory o = record {
   now = record { words = o.words; taken = o.taken; pins = replicate o.seats 0 };
   past = [];
   floors = replicate (length o.words) 0;
-  notes = [];
+  pending = [];
 }
 
 -- seat 0 counts the seats made

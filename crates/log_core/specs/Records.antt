@@ -10,10 +10,10 @@ use Rattle.log_entry.specs.declared.calls.Reply.TheVariants.{Collected, NotColle
 use Rattle.log_entry.specs.declared.calls.Call.{Call}
 use Rattle.pmem_words.specs.declared.keeps.Task.TheVariants.{Pread}
 use Rattle.pmem_words.specs.Seats.{Seat}
-use Rattle.persistence.specs.Memory.{Replaced, Noted, Cell, index_at, notes_of}
+use Rattle.persistence.specs.Memory.{Replaced, PendingMark, Cell, index_at, pending_of}
 use Rattle.persistence.specs.Survivors.{value_at}
 use Rattle.log_core.specs.Entries.{has}
-use Rattle.log_core.specs.Views.{Marked, HeadPut, View, op_in}
+use Rattle.log_core.specs.Views.{MarkedWord, HeadPut, View, op_in}
 use Rattle.log_core.specs.Origin.{Origin, first_position, first_generation, Generation}
 use Rattle.log_core.specs.Files.{Write, write_at, call_of, file_at, end_of}
 use Rattle.log_core.specs.Works.{words_of, laid_bytes}
@@ -142,8 +142,8 @@ pub record TailHolds (v : View) (began : ℕ) : Type 0 where
   pub records : v.seat.walk.at_tail ≡ true → AllByRecursion (λ (call : Call). call.position ≤ v.seat.walk.position) v.done
 
 -- the memory's marks of a seat are those that its view has, each of the value found
-abbrev pub mark_of : (ℕ → Cell) → List Replaced → Noted → Marked
+abbrev pub mark_of : (ℕ → Cell) → List Replaced → PendingMark → MarkedWord
 mark_of cells past note = record { word = note.word; value = value_at (cells note.word) (index_at past note.time note.word) }
 
-abbrev pub MarksFit : (ℕ → Cell) → List Replaced → List Noted → ℕ → View → Type 0
-MarksFit cells past notes seat v = v.ghost.marks ≡ map (mark_of cells past) (notes_of seat notes)
+abbrev pub MarksFit : (ℕ → Cell) → List Replaced → List PendingMark → ℕ → View → Type 0
+MarksFit cells past pending seat v = v.ghost.marks ≡ map (mark_of cells past) (pending_of seat pending)

@@ -5,10 +5,10 @@ use Rattle.pmem_words.specs.Seats.{Seat}
 use Rattle.asks.specs.declared.ask.Ask.{Ask}
 use Rattle.persistence.specs.Memory.{found_answer}
 use Rattle.log_core.specs.Views.{View, Ghost, view_of, op_in}
-use Rattle.log_core.specs.Origin.{Origin, q_of}
+use Rattle.log_core.specs.Origin.{Origin, q_of_origin}
 use Rattle.log_core.specs.Cores.{Core, first_core}
 use Rattle.log_core.specs.Works.{Work, Begins, Forgets, SetsWord, CountsFilled, Computes}
-use Rattle.log_core.specs.Steps.{Note, Step, Does, Splits, Joins, Kind, kind_of, effect, is_begun, ghost_begun, ghost_after}
+use Rattle.log_core.specs.Steps.{Note, Step, Does, Splits, Joins, Kind, kind_of_ask, effect, is_begun, ghost_begun, ghost_after}
 use Rattle.log_core.specs.After.{after}
 use Rattle.log_core.specs.May.{May, IsOfferedKind}
 use Rattle.log_core.specs.Answers.{Enters}
@@ -40,7 +40,7 @@ pub record MayStep (o : Origin) (c : Core) (v : View) (kind : Kind) (note : Note
 pub record MayDo (o : Origin) (c : Core) (seat : ℕ) (ask : Ask) (note : Note) : Type 0 where
   pub made : seat < length c.views
   pub unspent : (view_of c.views seat).parts ≢ []
-  pub step : MayStep o c (view_of c.views seat) (kind_of (q_of o) seat ask) note (found_answer c.memory ask)
+  pub step : MayStep o c (view_of c.views seat) (kind_of_ask (q_of_origin o) seat ask) note (found_answer c.memory ask)
 
 -- a split: of seat 0, before any call, where fewer seats are made than there may be
 pub record MaySplit (o : Origin) (c : Core) (seat : ℕ) : Type 0 where
@@ -73,10 +73,10 @@ pub record MayJoin (c : Core) (seat other : ℕ) : Type 0 where
   pub idle_too : IsIdle (view_of c.views other)
 
 -- a step whose condition holds, of whatever kind
-abbrev pub Fits : Origin → Core → Step → Type 0
-Fits o c (Does seat ask note) = MayDo o c seat ask note
-Fits o c (Splits seat) = MaySplit o c seat
-Fits o c (Joins seat other) = MayJoin c seat other
+abbrev pub MayMakeStep : Origin → Core → Step → Type 0
+MayMakeStep o c (Does seat ask note) = MayDo o c seat ask note
+MayMakeStep o c (Splits seat) = MaySplit o c seat
+MayMakeStep o c (Joins seat other) = MayJoin c seat other
 
 -- what a call may compute so far with a step that is offered: it begins, gives up its kept words, sets a word of an owned block, or
 -- counts one as filled
@@ -89,20 +89,20 @@ is_offered_work _ = false
 
 -- a step of an offered kind, with offered computations, and no record yet
 pub record DoesOffered (o : Origin) (c : Core) (seat : ℕ) (ask : Ask) (note : Note) (fits : MayDo o c seat ask note) : Type 0 where
-  pub kind : IsOfferedKind note.before (kind_of (q_of o) seat ask)
+  pub kind : IsOfferedKind note.before (kind_of_ask (q_of_origin o) seat ask)
   pub before : list_all is_offered_work fits.step.begins.works ≡ true
   pub later : list_all is_offered_work fits.step.enters.computed.works ≡ true
   pub no_record : note.adds ≡ []
 
 -- the steps that are proved to keep the invariant; no other is allowed yet
-abbrev pub IsOffered : (o : Origin) (c : Core) (step : Step) → Fits o c step → Type 0
+abbrev pub IsOffered : (o : Origin) (c : Core) (step : Step) → MayMakeStep o c step → Type 0
 IsOffered o c (Does seat ask note) fits = DoesOffered o c seat ask note fits
 IsOffered o c (Splits seat) fits = ⊥
 IsOffered o c (Joins seat other) fits = ⊥
 
 -- the steps that seats make
 pub record Allowed (o : Origin) (c : Core) (step : Step) : Type 0 where
-  pub fits : Fits o c step
+  pub fits : MayMakeStep o c step
   pub offered : IsOffered o c step fits
 
 -- the core after a list of steps

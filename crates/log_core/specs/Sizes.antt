@@ -4,7 +4,7 @@ use Rattle.std.specs.List.{AllByRecursion}
 use Rattle.log_image.specs.Image.{words_in, total}
 use Rattle.pmem_words.specs.Seats.{bitmap_words}
 use Rattle.pmem_words.specs.declared.TheConstants.{SEATS}
-use Rattle.persistence.specs.Memory.{Memory, Noted}
+use Rattle.persistence.specs.Memory.{Memory, PendingMark}
 use Rattle.log_core.specs.Views.{View, view_of, spent_view}
 use Rattle.log_core.specs.Origin.{Origin, shape, first_position}
 
@@ -27,7 +27,7 @@ pub record MemoryFits (o : Origin) (memory : Memory) (views : ℕ) : Type 0 wher
   pub pins : length memory.now.pins ≡ o.seats
   pub floors : length memory.floors ≡ length o.words
   pub reached : (word : ℕ) → slice_index memory.floors word ≤ length memory.past
-  pub notes : AllByRecursion (λ (note : Noted). (note.seat < views) × (note.word < length o.words) × (note.time ≤ length memory.past)) memory.notes
+  pub pending : AllByRecursion (λ (note : PendingMark). (note.seat < views) × (note.word < length o.words) × (note.time ≤ length memory.past)) memory.pending
 
 -- what an unspent view has of the start: its number is its place, and its lists have the lengths of the image
 pub record SeatFits (o : Origin) (place : ℕ) (v : View) : Type 0 where

@@ -21,8 +21,8 @@ use Rattle.asks.specs.declared.ask.Place.TheVariants.{Image, Pin, Map, FenceOf}
 use Rattle.asks.specs.declared.ask.Ask.{Ask}
 use Rattle.asks.specs.declared.ask.Ask.TheVariants.{Load, Store, Exchange, SetBits, ClearBits, Mark, Fence}
 use Rattle.log_core.specs.Entries.{has, head_place, place_in, meaning_by}
-use Rattle.log_core.specs.Views.{Marked, Stored, HeadPut, Running, Ghost, View, new_view, op_in}
-use Rattle.log_core.specs.Works.{shape_of, words_of, tail_index, without_bases, walk_past}
+use Rattle.log_core.specs.Views.{MarkedWord, Stored, HeadPut, Running, Ghost, View, new_view, op_in}
+use Rattle.log_core.specs.Works.{seat_shape, words_of, tail_index, without_bases, walk_past}
 use Rattle.log_core.specs.Needs.{owned_numbers, is_pass_found}
 
 -- what a call computed that enters the view with the step: the seat's state at the ask, the state after the answer and what is
@@ -66,29 +66,29 @@ exchange_kind q word before after =
     else ExchangesSlot word after
 
 -- the kind of an ask, by the words of a block and the seat's number
-abbrev pub kind_of : ℕ → ℕ → Ask → Kind
-kind_of q seat (Load (Image word)) = if word == head_place then LoadsHead else LoadsImageWord word
-kind_of q seat (Load (Pin other)) = LoadsPinWord other
-kind_of q seat (Load (Map word)) = LoadsBitmapWord word
-kind_of q seat (Load (FenceOf other)) = NoKind
-kind_of q seat (Store (Image word) value) = StoresWord word value
-kind_of q seat (Store (Pin other) value) = if other == seat then StoresOwnPin value else NoKind
-kind_of q seat (Store (Map word) value) = NoKind
-kind_of q seat (Store (FenceOf other) value) = NoKind
-kind_of q seat (Exchange (Image word) before after) = exchange_kind q word before after
-kind_of q seat (Exchange (Pin other) before after) = NoKind
-kind_of q seat (Exchange (Map word) before after) = NoKind
-kind_of q seat (Exchange (FenceOf other) before after) = NoKind
-kind_of q seat (SetBits (Map word) bits) = SetsBits word bits
-kind_of q seat (SetBits (Image word) bits) = NoKind
-kind_of q seat (SetBits (Pin other) bits) = NoKind
-kind_of q seat (SetBits (FenceOf other) bits) = NoKind
-kind_of q seat (ClearBits (Map word) bits) = ClearsBits word bits
-kind_of q seat (ClearBits (Image word) bits) = NoKind
-kind_of q seat (ClearBits (Pin other) bits) = NoKind
-kind_of q seat (ClearBits (FenceOf other) bits) = NoKind
-kind_of q seat (Mark word) = MarksWord word
-kind_of q seat Fence = Fences
+abbrev pub kind_of_ask : ℕ → ℕ → Ask → Kind
+kind_of_ask q seat (Load (Image word)) = if word == head_place then LoadsHead else LoadsImageWord word
+kind_of_ask q seat (Load (Pin other)) = LoadsPinWord other
+kind_of_ask q seat (Load (Map word)) = LoadsBitmapWord word
+kind_of_ask q seat (Load (FenceOf other)) = NoKind
+kind_of_ask q seat (Store (Image word) value) = StoresWord word value
+kind_of_ask q seat (Store (Pin other) value) = if other == seat then StoresOwnPin value else NoKind
+kind_of_ask q seat (Store (Map word) value) = NoKind
+kind_of_ask q seat (Store (FenceOf other) value) = NoKind
+kind_of_ask q seat (Exchange (Image word) before after) = exchange_kind q word before after
+kind_of_ask q seat (Exchange (Pin other) before after) = NoKind
+kind_of_ask q seat (Exchange (Map word) before after) = NoKind
+kind_of_ask q seat (Exchange (FenceOf other) before after) = NoKind
+kind_of_ask q seat (SetBits (Map word) bits) = SetsBits word bits
+kind_of_ask q seat (SetBits (Image word) bits) = NoKind
+kind_of_ask q seat (SetBits (Pin other) bits) = NoKind
+kind_of_ask q seat (SetBits (FenceOf other) bits) = NoKind
+kind_of_ask q seat (ClearBits (Map word) bits) = ClearsBits word bits
+kind_of_ask q seat (ClearBits (Image word) bits) = NoKind
+kind_of_ask q seat (ClearBits (Pin other) bits) = NoKind
+kind_of_ask q seat (ClearBits (FenceOf other) bits) = NoKind
+kind_of_ask q seat (Mark word) = MarksWord word
+kind_of_ask q seat Fence = Fences
 
 -- whether setting these bits takes the block: its bit is among them and was found clear
 abbrev pub is_gained : ℕ → ℕ → ℕ → ℕ → Bool
@@ -139,7 +139,7 @@ kept_with q kept word found = kept ++ record { block = word / q; slot = word % q
 
 -- whether an empty slot or a link 0 was found at the tail of a view that is ready
 abbrev pub is_tail_found : Seat → ℕ → ℕ → Bool
-is_tail_found s word found = s.walk.ready && (found == 0) && (word == place_in (shape_of s) s.walk.tail_block (tail_index s))
+is_tail_found s word found = s.walk.ready && (found == 0) && (word == place_in (seat_shape s) s.walk.tail_block (tail_index s))
 
 -- the meaning of the word of an entry, by the contents of the owned blocks
 abbrev pub new_meaning : Seat → ℕ → Meaning
@@ -148,7 +148,7 @@ new_meaning s entry = meaning_by (λ block. content_of s block) entry
 -- an exchange of a slot for an entry, won or lost
 abbrev pub slot_exchanged : Seat → ℕ → ℕ → ℕ → Bool → Seat
 slot_exchanged s word entry found true = record s {
-  walk = record (walk_past (shape_of s) s.walk (new_meaning s entry)) { at_tail = true; kept = s.walk.kept };
+  walk = record (walk_past (seat_shape s) s.walk (new_meaning s entry)) { at_tail = true; kept = s.walk.kept };
   calling = record (without_bases (words_of s) (new_meaning s entry) s.calling) { won = true };
   blocks = blocks_but (words_of s) (λ block. has (names (new_meaning s entry)) block) s.blocks;
 }
@@ -192,7 +192,7 @@ is_mapped blocks block = list_any (λ (held : Option ℕ). is_block block held) 
 abbrev pub replaced_by : Seat → List ℕ
 replaced_by s =
     filter (λ (block : ℕ). (bit_at (slice_index s.blocks.named (block / 64)) (block % 64) == 1) && not (is_mapped s.walk.map block) && not (block == s.walk.tail_block))
-    (range_with_len 1 (total (shape_of s) - 1))
+    (range_with_len 1 (total (seat_shape s) - 1))
 
 -- an exchange of the head
 abbrev pub head_exchanged : Seat → ℕ → ℕ → Bool → Seat
@@ -223,8 +223,8 @@ abbrev pub given_back : Seat → ℕ → ℕ → Seat
 given_back s word bits = not_found (give_if (is_of_owned s word bits) s word bits) word bits
 
 -- whether a head of a generation above this one is marked
-abbrev pub is_head_marked : ℕ → List Marked → Bool
-is_head_marked generation marks = list_any (λ (mark : Marked). (mark.word == head_place) && nat_lt generation (field HEAD_GENERATION mark.value)) marks
+abbrev pub is_head_marked : ℕ → List MarkedWord → Bool
+is_head_marked generation marks = list_any (λ (mark : MarkedWord). (mark.word == head_place) && nat_lt generation (field HEAD_GENERATION mark.value)) marks
 
 -- the position that a sync answers, from the fence on that it makes at the tail
 abbrev pub sync_fenced : Task → Bool → ℕ → Option ℕ → Option ℕ
@@ -232,7 +232,7 @@ sync_fenced Sync true position None = Some position
 sync_fenced task at_tail position sync_to = sync_to
 
 -- what a step makes of the seat's state, by its marks, the kind and the answer
-abbrev pub effect : List Marked → Seat → Kind → ℕ → Seat
+abbrev pub effect : List MarkedWord → Seat → Kind → ℕ → Seat
 effect marks s LoadsHead f = record s { hold = hold_found s.hold f; walk = record (s.walk) { ready = ready_found s.hold f s.walk.ready } }
 effect marks s (StoresOwnPin value) f = record s { hold = record (s.hold) { pin = value; valid = false }; walk = record (s.walk) { kept = [] } }
 effect marks s (LoadsPinWord seat) f = record s { giving = record (s.giving) { pins_seen = take seat s.giving.pins_seen ++ f ∷ [] } }
@@ -240,7 +240,7 @@ effect marks s (LoadsImageWord word) f = record s { walk = record (s.walk) { kep
 effect marks s (LoadsBitmapWord word) f = record s { blocks = record (s.blocks) { found = slice_set s.blocks.found word (bit_or (slice_index s.blocks.found word) f) } }
 effect marks s (SetsBits word bits) f = record s {
   blocks = record (s.blocks) {
-    owned = s.blocks.owned ++ map (taken_block (shape_of s)) (gained word bits f);
+    owned = s.blocks.owned ++ map (taken_block (seat_shape s)) (gained word bits f);
     contents = s.blocks.contents ++ replicate (length (gained word bits f) * words_of s) 0;
     found = slice_set s.blocks.found word (bit_or (slice_index s.blocks.found word) (bit_or f bits));
   };
@@ -259,7 +259,7 @@ effect marks s Fences f = record s {
 effect marks s NoKind f = s
 
 -- the marks after a step
-abbrev pub marks_after : List Marked → Kind → ℕ → List Marked
+abbrev pub marks_after : List MarkedWord → Kind → ℕ → List MarkedWord
 marks_after marks (MarksWord word) f = marks ++ record { word = word; value = f } ∷ []
 marks_after marks Fences f = []
 marks_after marks _ f = marks
@@ -367,13 +367,13 @@ abbrev pub walk_of : Bool → Walk → Walk → Walk
 walk_of true w x = record x { at_tail = false }
 walk_of false w x = record w { at_tail = false }
 
-abbrev pub generation_of : Bool → ℕ → ℕ → ℕ
-generation_of true generation other = other
-generation_of false generation other = generation
+abbrev pub generation_found : Bool → ℕ → ℕ → ℕ
+generation_found true generation other = other
+generation_found false generation other = generation
 
 abbrev pub seat_joined : Seat → Seat → Seat
 seat_joined s t = record s {
-  hold = record (s.hold) { generation = generation_of (nat_lt s.walk.position t.walk.position) s.hold.generation t.hold.generation };
+  hold = record (s.hold) { generation = generation_found (nat_lt s.walk.position t.walk.position) s.hold.generation t.hold.generation };
   walk = walk_of (nat_lt s.walk.position t.walk.position) s.walk t.walk;
   giving = record (s.giving) {
     limbo = s.giving.limbo ++ t.giving.limbo;

@@ -7,7 +7,7 @@ use Rattle.log_entry.specs.declared.calls.Reply.TheVariants.{Synced}
 use Rattle.log_entry.specs.declared.calls.Call.{Call}
 use Rattle.log_image.specs.Image.{Shape}
 use Rattle.pmem_words.specs.declared.keeps.Task.TheVariants.{Sync}
-use Rattle.persistence.specs.Memory.{Replaced, Noted, Cell, index_at, notes_of}
+use Rattle.persistence.specs.Memory.{Replaced, PendingMark, Cell, index_at, pending_of}
 use Rattle.persistence.specs.Survivors.{value_at}
 use Rattle.log_core.specs.Entries.{place_in, head_place}
 use Rattle.log_core.specs.Views.{View, view_of}
@@ -29,17 +29,17 @@ IsSynced image cells generations logs floor synced =
 
 -- a mark of a running sync: of the head, at its own generation or a later one; of another word, which is of a block that its generation
 -- names, at its present value, which is not 0
-pub record SyncMarkHolds (q : ℕ) (names : ℕ → ℕ → Bool) (cells : ℕ → Cell) (past : List Replaced) (generation : ℕ) (note : Noted) : Type 0 where
+pub record SyncMarkHolds (q : ℕ) (names : ℕ → ℕ → Bool) (cells : ℕ → Cell) (past : List Replaced) (generation : ℕ) (note : PendingMark) : Type 0 where
   pub head : note.word ≡ head_place → generation ≤ field HEAD_GENERATION (value_at (cells head_place) (index_at past note.time head_place))
   pub named : note.word ≢ head_place → names generation (note.word / q) ≡ true
   pub other : note.word ≢ head_place → (index_at past note.time note.word ≡ length (cells note.word).past) × ((cells note.word).present ≢ 0)
 
 -- what a view knows of syncs: the position that a running one will answer is the view's, and it and each that was answered is synced
-pub record SyncHolds (q : ℕ) (names : ℕ → ℕ → Bool) (cells : ℕ → Cell) (past : List Replaced) (notes : List Noted) (synced seat : ℕ) (v : View) : Type 0 where
+pub record SyncHolds (q : ℕ) (names : ℕ → ℕ → Bool) (cells : ℕ → Cell) (past : List Replaced) (pending : List PendingMark) (synced seat : ℕ) (v : View) : Type 0 where
   pub to : (position : ℕ) → v.seat.calling.sync_to ≡ Some position → (position ≡ v.seat.walk.position) × (position ≤ synced)
-  pub marks : v.seat.calling.job ≡ Sync → AllByRecursion (SyncMarkHolds q names cells past v.seat.hold.generation) (notes_of seat notes)
-  pub valid : v.seat.calling.job ≡ Sync → notes_of seat notes ≢ [] → v.seat.hold.valid ≡ true
+  pub marks : v.seat.calling.job ≡ Sync → AllByRecursion (SyncMarkHolds q names cells past v.seat.hold.generation) (pending_of seat pending)
+  pub valid : v.seat.calling.job ≡ Sync → pending_of seat pending ≢ [] → v.seat.hold.valid ≡ true
   pub answered : AllByRecursion (λ (call : Call). (position : ℕ) → call.reply ≡ Synced position → position ≤ synced) v.done
 
-abbrev pub SyncsHold : ℕ → (ℕ → ℕ → Bool) → (ℕ → Cell) → List Replaced → List Noted → ℕ → List View → Type 0
-SyncsHold q names cells past notes synced views = (seat : ℕ) → SyncHolds q names cells past notes synced seat (view_of views seat)
+abbrev pub SyncsHold : ℕ → (ℕ → ℕ → Bool) → (ℕ → Cell) → List Replaced → List PendingMark → ℕ → List View → Type 0
+SyncsHold q names cells past pending synced views = (seat : ℕ) → SyncHolds q names cells past pending synced seat (view_of views seat)

@@ -12,7 +12,7 @@ use Rattle.pmem_words.specs.declared.keeps.Task.TheVariants.{Pwrite, Append, Pre
 use Rattle.pmem_words.specs.Seats.{Seat, new_seat}
 
 -- an image word that the seat has marked since its last fence, and the value found
-pub record Marked : Type 0 where
+pub record MarkedWord : Type 0 where
   pub word : ℕ
   pub value : ℕ
 
@@ -42,7 +42,7 @@ pub record Running : Type 0 where
 -- what contracts alone see of a seat, and its steps change: the words marked since its last fence, the oldest first; the words
 -- stored in the blocks that it owns; and the present call
 pub record Ghost : Type 0 where
-  pub marks : List Marked
+  pub marks : List MarkedWord
   pub stored : List Stored
   pub call : Running
 

@@ -11,8 +11,8 @@ use Rattle.pmem_words.specs.Maps.{map_at as mapped_at}
 use Rattle.log_core.specs.Entries.{has, place_in, LogEntry}
 use Rattle.log_core.specs.Views.{View, view_of}
 use Rattle.log_core.specs.Origin.{Origin, shape, first_position, first_generation, LogBlock, Generation}
-use Rattle.log_core.specs.Files.{map_at, size_at}
-use Rattle.log_core.specs.Cores.{generation_at, is_named, log_at, log_blocks, entry_count, is_full}
+use Rattle.log_core.specs.Files.{history_map_at, history_size_at}
+use Rattle.log_core.specs.Cores.{generation_at, is_named, log_at, log_blocks, entries_used, is_full}
 
 -- the entries of a snapshot up to a slot of one of its blocks
 abbrev pub read_meanings : (ℕ → List ℕ) → List ℕ → ℕ → ℕ → List Meaning
@@ -38,15 +38,15 @@ pub record IsKeptWord (image : Shape) (words : List ℕ) (is_named : ℕ → Boo
 
 -- a view that has walked: its table and size are those of its position, and its tail is a place of the log block with its tail's base
 pub record HasWalked (o : Origin) (es : List LogEntry) (logs : List LogBlock) (w : Walk) : Type 0 where
-  pub table : (virt : ℕ) → mapped_at w.map virt ≡ map_at o es w.position virt
-  pub size_is : w.size ≡ size_at o es w.position
+  pub table : (virt : ℕ) → mapped_at w.map virt ≡ history_map_at o es w.position virt
+  pub size_is : w.size ≡ history_size_at o es w.position
   pub base : (log_at logs w.tail_base).base ≡ w.tail_base
   pub block : (log_at logs w.tail_base).block ≡ w.tail_block
   pub from : 3 ≤ w.tail_slot
   pub upto : w.tail_slot ≤ words_in (shape o)
-  pub inside : w.tail_slot ≢ words_in (shape o) → (w.position ≡ w.tail_base + (w.tail_slot - 3)) × (w.tail_slot - 3 ≤ entry_count (log_at logs w.tail_base))
+  pub inside : w.tail_slot ≢ words_in (shape o) → (w.position ≡ w.tail_base + (w.tail_slot - 3)) × (w.tail_slot - 3 ≤ entries_used (log_at logs w.tail_base))
   pub at_end : w.tail_slot ≡ words_in (shape o) →
-      (is_full (shape o) (log_at logs w.tail_base).slots ≡ true) × (w.position ≡ w.tail_base + entry_count (log_at logs w.tail_base))
+      (is_full (shape o) (log_at logs w.tail_base).slots ≡ true) × (w.position ≡ w.tail_base + entries_used (log_at logs w.tail_base))
 
 -- the parts of a core that the clause reads beside the view; which generations are kept, by their places
 pub record Around : Type 1 where

@@ -12,10 +12,10 @@ use Rattle.pmem_words.specs.Parts.{Next, Into, End}
 use Rattle.asks.specs.SharedWords.{SharedWords}
 use Rattle.persistence.specs.Memory.{Memory, found_answer}
 use Rattle.log_core.specs.Views.{View, Ghost, view_of, op_in}
-use Rattle.log_core.specs.Origin.{Origin, q_of}
+use Rattle.log_core.specs.Origin.{Origin, q_of_origin}
 use Rattle.log_core.specs.Cores.{Core}
 use Rattle.log_core.specs.Works.{Computes}
-use Rattle.log_core.specs.Steps.{Note, Does, kind_of, effect, is_begun, ghost_begun, ghost_after, view_after}
+use Rattle.log_core.specs.Steps.{Note, Does, kind_of_ask, effect, is_begun, ghost_begun, ghost_after, view_after}
 use Rattle.log_core.specs.May.{May, IsOfferedKind}
 use Rattle.log_core.specs.Answers.{Enters}
 use Rattle.log_core.specs.Runs.{MayNumber, Allowed, IsReached, is_offered_work}
@@ -46,7 +46,7 @@ pub record Did (o : Origin) (seat : ℕ) (v : View) (ask : Ask) (note : ℕ → 
   pub made : seat < length core.views
   pub at : view_of core.views seat ≡ v
   pub answer : found_answer core.memory ask ≡ f
-  pub left : w ≡ view_after v (kind_of (q_of o) seat ask) (note f) f
+  pub left : w ≡ view_after v (kind_of_ask (q_of_origin o) seat ask) (note f) f
 
 -- the ask is a step of the seat in each core that a run reaches in which the seat has this view, and each answer there is admitted
 pub record IsReadyIn {M Out : Type 0} (o : Origin) (seat number : ℕ) (script : Script M Out) (rec : Out → Seat → List Call) (m : M) (s : Seat) (v : View) : Type 0 where
@@ -81,24 +81,24 @@ pub record IsFound (o : Origin) (seat : ℕ) (s : Seat) (g : Ghost) (ask : Ask) 
 -- and it goes on to what holds on the way, or ends in what holds at the end
 pub record Lawful {M Out : Type 0} (o : Origin) (seat : ℕ) (script : Script M Out) (rec : Out → Seat → List Call)
     (P : M → Seat → Ghost → Type 0) (R : Out → Seat → Ghost → Type 0) (m : M) (s : Seat) (g : Ghost) : Type 0 where
-  pub may : (c : Core) (pin began : ℕ) → Invariant o c → (view_of c.views seat).parts ≢ [] → Knows o c seat s g pin began → May o c g s (kind_of (q_of o) seat (script.asks m s))
-  pub offered : IsOfferedKind s (kind_of (q_of o) seat (script.asks m s))
+  pub may : (c : Core) (pin began : ℕ) → Invariant o c → (view_of c.views seat).parts ≢ [] → Knows o c seat s g pin began → May o c g s (kind_of_ask (q_of_origin o) seat (script.asks m s))
+  pub offered : IsOfferedKind s (kind_of_ask (q_of_origin o) seat (script.asks m s))
   pub admitted : (c : Core) (pin began : ℕ) → Invariant o c → (view_of c.views seat).parts ≢ [] → Knows o c seat s g pin began → script.admits m s (found_answer c.memory (script.asks m s))
   pub enters : (f : ℕ) → IsFound o seat s g (script.asks m s) f → script.admits m s f →
-      EntersOffered (ghost_after g s (effect g.marks s (kind_of (q_of o) seat (script.asks m s)) f) (kind_of (q_of o) seat (script.asks m s)) f)
-      (effect g.marks s (kind_of (q_of o) seat (script.asks m s)) f) (script.after m s f).seat (adds_at rec (script.after m s f).seat (script.after m s f).turn)
+      EntersOffered (ghost_after g s (effect g.marks s (kind_of_ask (q_of_origin o) seat (script.asks m s)) f) (kind_of_ask (q_of_origin o) seat (script.asks m s)) f)
+      (effect g.marks s (kind_of_ask (q_of_origin o) seat (script.asks m s)) f) (script.after m s f).seat (adds_at rec (script.after m s f).seat (script.after m s f).turn)
   pub none_added : (f : ℕ) → IsFound o seat s g (script.asks m s) f → script.admits m s f → adds_at rec (script.after m s f).seat (script.after m s f).turn ≡ []
   pub goes : (f : ℕ) → IsFound o seat s g (script.asks m s) f → script.admits m s f → (script.after m s f).turn ≡ Go →
-      P (script.after m s f).machine (script.after m s f).seat (ghost_after g s (effect g.marks s (kind_of (q_of o) seat (script.asks m s)) f) (kind_of (q_of o) seat (script.asks m s)) f)
+      P (script.after m s f).machine (script.after m s f).seat (ghost_after g s (effect g.marks s (kind_of_ask (q_of_origin o) seat (script.asks m s)) f) (kind_of_ask (q_of_origin o) seat (script.asks m s)) f)
   pub ends : (f : ℕ) (out : Out) → IsFound o seat s g (script.asks m s) f → script.admits m s f → (script.after m s f).turn ≡ Done out →
-      R out (script.after m s f).seat (ghost_after g s (effect g.marks s (kind_of (q_of o) seat (script.asks m s)) f) (kind_of (q_of o) seat (script.asks m s)) f)
+      R out (script.after m s f).seat (ghost_after g s (effect g.marks s (kind_of_ask (q_of_origin o) seat (script.asks m s)) f) (kind_of_ask (q_of_origin o) seat (script.asks m s)) f)
 
 -- wherever P holds the machine is lawful
 abbrev pub Serves : {M Out : Type 0} → Origin → ℕ → Script M Out → (Out → Seat → List Call) → (M → Seat → Ghost → Type 0) → (Out → Seat → Ghost → Type 0) → Type 0
 Serves {M} {Out} o seat script rec P R = (m : M) (s : Seat) (g : Ghost) → P m s g → Lawful o seat script rec P R m s g
 
 -- what holds between two steps of a seat: its state is the view's, or what is computed from that, and P holds
-pub record IsLinked (number : ℕ) (rest : List Call) (P : Seat → Ghost → Type 0) (s : Seat) (v : View) : Type 0 where
+pub record IsLinkedToView (number : ℕ) (rest : List Call) (P : Seat → Ghost → Type 0) (s : Seat) (v : View) : Type 0 where
   pub unspent : v.parts ≢ []
   pub begins : Computes v.ghost v.seat s
   pub offered : list_all is_offered_work begins.works ≡ true

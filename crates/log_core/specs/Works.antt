@@ -25,8 +25,8 @@ use Rattle.log_core.specs.Entries.{place_in, meaning_by}
 use Rattle.log_core.specs.Views.{Ghost, Stored, op_in, op_of}
 
 -- the shape of a seat's image
-abbrev pub shape_of : Seat → Shape
-shape_of s = record { data_blocks = s.geometry.data_blocks; log_blocks = s.geometry.log_blocks; block_bytes = s.geometry.block_bytes }
+abbrev pub seat_shape : Seat → Shape
+seat_shape s = record { data_blocks = s.geometry.data_blocks; log_blocks = s.geometry.log_blocks; block_bytes = s.geometry.block_bytes }
 
 -- the words of a block
 abbrev pub words_of : Seat → ℕ
@@ -229,48 +229,48 @@ abbrev pub word_of_block : Seat → Option ℕ → ℕ → ℕ
 word_of_block s None slot = 0
 word_of_block s (Some block) slot = kept_word s block slot
 
-abbrev pub worked : Seat → Work → Seat
-worked s (Begins task bytes) = record s {
+abbrev pub state_after_work : Seat → Work → Seat
+state_after_work s (Begins task bytes) = record s {
   walk = walk_at_begin s.walk;
   calling = record { job = task; bytes = bytes; bases = []; base_words = []; lost = 0; won = false; sync_to = None };
   blocks = record (s.blocks) { found = replicate (length s.blocks.found) 0 };
   giving = record (s.giving) { limbo_held = held_at_begin task s.giving.limbo_held };
 }
-worked s KeepsTable = record s { walk = record (s.walk) { ready = true; snapshot_base = front_base s } }
-worked s StartsFromLog = record s { walk = walk_from_log s.walk (front s) (front_base s) }
-worked s StartsFromSnapshot = record s { walk = walk_from_snapshot s.walk s.hold.generation (front s) (front_base s) (front_size s) }
-worked s ReadsRun = record s {
+state_after_work s KeepsTable = record s { walk = record (s.walk) { ready = true; snapshot_base = front_base s } }
+state_after_work s StartsFromLog = record s { walk = walk_from_log s.walk (front s) (front_base s) }
+state_after_work s StartsFromSnapshot = record s { walk = walk_from_snapshot s.walk s.hold.generation (front s) (front_base s) (front_size s) }
+state_after_work s ReadsRun = record s {
   walk = record (s.walk) {
     map = with_entry (direct_meaning (kept_word s s.walk.reading_block s.walk.reading_slot)) s.walk.map;
     reading_slot = s.walk.reading_slot + 1;
     kept = [];
   };
 }
-worked s NextSnapshot = record s { walk = record (s.walk) { reading_block = kept_word s s.walk.reading_block 0; reading_slot = 3; kept = [] } }
-worked s EndsReading = record s { walk = walk_read s.walk (kept_word s s.walk.reading_block 0) }
-worked s TakesEntry = record s { walk = walk_past (shape_of s) s.walk (tail_meaning s); calling = without_bases (words_of s) (tail_meaning s) s.calling }
-worked s TakesSeal = record s { walk = record (s.walk) { tail_slot = words_of s; kept = [] } }
-worked s Follows = record s { walk = record (s.walk) { tail_block = kept_word s s.walk.tail_block 0; tail_slot = 3; tail_base = s.walk.position; kept = [] } }
-worked s Forgets = record s { walk = record (s.walk) { kept = [] } }
-worked s (OpensBase virt) = record s { calling = record (s.calling) { bases = s.calling.bases ++ virt ∷ [] } }
-worked s AddsBaseWord = record s { calling = record (s.calling) { base_words = s.calling.base_words ++ word_of_block s (base_block s) (base_slot s) ∷ [] } }
-worked s (Lays bytes) = record s { calling = record (s.calling) { bytes = s.calling.bytes ++ bytes } }
-worked s (SetsWord place word value) = record s {
+state_after_work s NextSnapshot = record s { walk = record (s.walk) { reading_block = kept_word s s.walk.reading_block 0; reading_slot = 3; kept = [] } }
+state_after_work s EndsReading = record s { walk = walk_read s.walk (kept_word s s.walk.reading_block 0) }
+state_after_work s TakesEntry = record s { walk = walk_past (seat_shape s) s.walk (tail_meaning s); calling = without_bases (words_of s) (tail_meaning s) s.calling }
+state_after_work s TakesSeal = record s { walk = record (s.walk) { tail_slot = words_of s; kept = [] } }
+state_after_work s Follows = record s { walk = record (s.walk) { tail_block = kept_word s s.walk.tail_block 0; tail_slot = 3; tail_base = s.walk.position; kept = [] } }
+state_after_work s Forgets = record s { walk = record (s.walk) { kept = [] } }
+state_after_work s (OpensBase virt) = record s { calling = record (s.calling) { bases = s.calling.bases ++ virt ∷ [] } }
+state_after_work s AddsBaseWord = record s { calling = record (s.calling) { base_words = s.calling.base_words ++ word_of_block s (base_block s) (base_slot s) ∷ [] } }
+state_after_work s (Lays bytes) = record s { calling = record (s.calling) { bytes = s.calling.bytes ++ bytes } }
+state_after_work s (SetsWord place word value) = record s {
   blocks = record (s.blocks) {
     owned = with_fenced (with_filled s.blocks.owned place false) place false;
     contents = slice_set s.blocks.contents (place * words_of s + word) value;
   };
 }
-worked s (CountsFilled place) = record s { blocks = record (s.blocks) { owned = with_filled s.blocks.owned place true } }
-worked s (NotesNamed words) = record s { blocks = record (s.blocks) { named = words } }
-worked s KeepsReplaced = record s {
+state_after_work s (CountsFilled place) = record s { blocks = record (s.blocks) { owned = with_filled s.blocks.owned place true } }
+state_after_work s (NotesNamed words) = record s { blocks = record (s.blocks) { named = words } }
+state_after_work s KeepsReplaced = record s {
   giving = record (s.giving) {
     replaced = [];
     limbo = s.giving.limbo ++ s.giving.replaced;
     limbo_generation = max s.giving.limbo_generation s.giving.replaced_generation;
   };
 }
-worked s (NotesHeld held) = record s { giving = record (s.giving) { limbo_held = held } }
+state_after_work s (NotesHeld held) = record s { giving = record (s.giving) { limbo_held = held } }
 
 -- the present call may still take in what it finds: it has put in no entry and no head, laid no byte, and is not synced
 pub record IsFree (g : Ghost) (c : Calling) : Type 0 where
@@ -379,8 +379,8 @@ pub record MaySetWord (s : Seat) (place word value : ℕ) : Type 0 where
 pub record MayCountFilled (g : Ghost) (s : Seat) (place : ℕ) : Type 0 where
   pub owned : place < length s.blocks.owned
   pub each : (word : ℕ) → word < words_of s →
-      stored_at g.stored (place_in (shape_of s) (owned_block s place) word)
-      ≡ Some (record { word = place_in (shape_of s) (owned_block s place) word; value = content_word s place word; marked = true })
+      stored_at g.stored (place_in (seat_shape s) (owned_block s place) word)
+      ≡ Some (record { word = place_in (seat_shape s) (owned_block s place) word; value = content_word s place word; marked = true })
 
 -- a scan of this collection found the pin of another seat at a generation that needs the blocks kept earlier
 pub record IsHeldPin (s : Seat) (generation : ℕ) (held : Held) : Type 0 where
@@ -422,19 +422,19 @@ MayWork g s KeepsReplaced = s.giving.head_fenced ≡ true
 MayWork g s (NotesHeld held) = (pin : Held) → held ≡ Some pin → IsHeldPin s s.giving.limbo_generation pin
 
 -- computations, one after the other
-abbrev pub worked_all : Seat → List Work → Seat
-worked_all s [] = s
-worked_all s (work ∷ works) = worked_all (worked s work) works
+abbrev pub state_after_all_work : Seat → List Work → Seat
+state_after_all_work s [] = s
+state_after_all_work s (work ∷ works) = state_after_all_work (state_after_work s work) works
 
 abbrev pub MayWorkAll : Ghost → Seat → List Work → Type 0
 MayWorkAll g s [] = Unit {0}
-MayWorkAll g s (work ∷ works) = MayWork g s work × MayWorkAll g (worked s work) works
+MayWorkAll g s (work ∷ works) = MayWork g s work × MayWorkAll g (state_after_work s work) works
 
 -- the later state comes from the earlier one by computing alone
 pub record Computes (g : Ghost) (s t : Seat) : Type 0 where
   pub works : List Work
   pub may : MayWorkAll g s works
-  pub gives : t ≡ worked_all s works
+  pub gives : t ≡ state_after_all_work s works
 
 -- whether a computation goes on with a call, and begins none
 abbrev pub is_going_on : Work → Bool

@@ -1,10 +1,10 @@
 //! Worked states and steps, each the contract of a function that does nothing: what they compute to, and states that are refused.
 
-ghost use Rattle.log_core.specs.Rows.{JustMade, PinsInThreeSteps, ScanSeesPins, ComesToTail, BitsTaken, FenceFollows, SlotWon, SlotLost, WriteEnds, LinkWon, LinkLost, HeadWon, HeadLost, KeptUntilUnpinned, BitsCleared, BitsNotCleared, CollectEnds, SyncEnds, FilesByPosition, EarlyFiles, WalkedTrail, LacksBlocks, EntryTakenIn, ReadLays, BaseWords, SnapshotRead, QuietCalls, RepliesFit, LimitsFit};
-ghost use Rattle.log_core.specs.Offered.{FilledNoMore, BitmapMayBeRead, OfferedKinds, NotOffered, BlockRuns};
-ghost use Rattle.log_core.specs.Refused.{OtherEntryPossible, HeadSkips, LogHasMore, BitWithoutOwner, BlockOnTwoLists, ChainBlockFree, OtherContentPossible, PinOfAnother, ViewOfAnother, StoredNotPresent, ReplacedStillNamed, RecordOfNoWrite, SyncedMayBeLost, NamedTwice, SnapshotNamesMore, WriteOfNoSeat};
-ghost use Rattle.log_core.specs.Gaps.{BitPastTheWord, MarkOfOwnedBlock, FloorAhead, SpentViewHolds};
-ghost use Rattle.log_core.specs.Accepted.{PinMayBeStored, WordMayBeLoaded, WordMayBeMarked, EntryMayBePut, OrderStands, PinsStand, ViewsStand, OwnedStands, GivingsStand, RecordsStand, SyncsStand, ContentsStand, OwnersStand, PinRuns, WriteFits, ViewsJoin, ViewsSplit, LateWrite, LateSync, LateWalk, RunsMayBePut, CollectionsInTurn};
+ghost use Rattle.log_core.specs.worked_rows.Rows.{JustMade, PinsInThreeSteps, ScanSeesPins, ComesToTail, BitsTaken, FenceFollows, SlotWon, SlotLost, WriteEnds, LinkWon, LinkLost, HeadWon, HeadLost, KeptUntilUnpinned, BitsCleared, BitsNotCleared, CollectEnds, SyncEnds, FilesByPosition, EarlyFiles, WalkedTrail, LacksBlocks, EntryTakenIn, ReadLays, BaseWords, SnapshotRead, QuietCalls, RepliesFit, LimitsFit};
+ghost use Rattle.log_core.specs.worked_rows.Offered.{FilledNoMore, BitmapMayBeRead, OfferedKinds, NotOffered, BlockRuns};
+ghost use Rattle.log_core.specs.worked_rows.Refused.{OtherEntryPossible, HeadSkips, LogHasMore, BitWithoutOwner, BlockOnTwoLists, ChainBlockFree, OtherContentPossible, PinOfAnother, ViewOfAnother, StoredNotPresent, ReplacedStillNamed, RecordOfNoWrite, SyncedMayBeLost, NamedTwice, SnapshotNamesMore, WriteOfNoSeat};
+ghost use Rattle.log_core.specs.worked_rows.Gaps.{BitPastTheWord, MarkOfOwnedBlock, FloorAhead, SpentViewHolds};
+ghost use Rattle.log_core.specs.worked_rows.Accepted.{PinMayBeStored, WordMayBeLoaded, WordMayBeMarked, EntryMayBePut, OrderStands, PinsStand, ViewsStand, OwnedStands, GivingsStand, RecordsStand, SyncsStand, ContentsStand, OwnersStand, PinRuns, WriteFits, ViewsJoin, ViewsSplit, LateWrite, LateSync, LateWalk, RunsMayBePut, CollectionsInTurn};
 
 /// Worked states and steps of small images: what each comes to.
 pub fn law_rows()

@@ -1,5 +1,5 @@
 //! The file that an image is read from. It does not tell its content.
-ghost use Rattle.std.specs.Prelude.{◌≡◌, ◌<◌, ◌≤◌, None, IsTrue, length};
+ghost use Rattle.std.specs.Prelude.{true, ◌≡◌, ◌<◌, ◌≤◌, None, IsTrue, length};
 ghost use Rattle.io_ends.specs.Faults.{ReadCounts};
 ghost use Rattle.io_ends.specs.Taking.{IsGivenCount, ReadTakes};
 
@@ -69,11 +69,13 @@ impl<'a, R: Files> Source for ImageFile<'a, R> {
 
     ghost faults = { λ source. source.failed };
 
+    ghost exact = { true };
+
     fn read(&mut self, into: &mut [u8]) -> Got
         requires { 0 < length into.old }
         ensures count { IsGivenCount result (length into.old) }
         ensures bytes { ReadTakes result None None into.new }
-        ensures cause { ReadCounts result self.old.failed self.new.failed }
+        ensures cause { ReadCounts true result self.old.failed self.new.failed }
         ensures later { self.old.failed ≤ self.new.failed }
     {
         if let Origin::Unread = &self.origin {

@@ -1,5 +1,5 @@
 //! The file that a new image goes to, and how it takes the image's place. It does not tell its content.
-ghost use Rattle.std.specs.Prelude.{◌≡◌, ◌<◌, ◌≤◌, None, IfSome, IsNone, IsTrue, length};
+ghost use Rattle.std.specs.Prelude.{true, ◌≡◌, ◌<◌, ◌≤◌, None, IfSome, IsNone, IsTrue, length};
 ghost use Rattle.io_ends.specs.Faults.{WriteCounts};
 ghost use Rattle.io_ends.specs.Giving.{IsTakenCount, WriteGives};
 
@@ -70,11 +70,13 @@ impl<'a, R: Files> Sink for NewImage<'a, R> {
 
     ghost faults = { λ sink. sink.failed };
 
+    ghost exact = { true };
+
     fn write(&mut self, piece: &[u8]) -> Put
         requires { 0 < length piece.now }
         ensures count { IsTakenCount result (length piece.now) }
         ensures bytes { WriteGives result None None piece.now }
-        ensures cause { WriteCounts result self.old.failed self.new.failed }
+        ensures cause { WriteCounts true result self.old.failed self.new.failed }
         ensures later { self.old.failed ≤ self.new.failed }
     {
         let Some(name) = self.name else {

@@ -1,14 +1,20 @@
 -- What an opened image says of the image that a command reads.
-use Rattle.std.proofs.Common.{◌≡◌, ◌+◌, ◌<◌, ◌≤◌, ℕ, List, ◌++◌, length, None, Err, length-append, refl, sym, ap, ◌∙◌, subst, inl, inr, Some, Option, arith}
+use Rattle.std.proofs.Common.{◌≡◌, ◌+◌, ◌*◌, ◌<◌, ◌≤◌, ◌==◌, nat_lt, ℕ, Bool, true, false, if◌then◌else◌, List, [], ◌∷◌, ◌++◌, length, get_or, None, Err, length-append, refl, sym, ap, ◌∙◌, subst, inl, inr, Some, Option, arith}
+use Rattle.std.specs.List.{list_all}
+use Rattle.std.proofs.lemmas.Bool.{ltb-true, ne_eqb, le-ltb}
+use Rattle.std.proofs.Math.Nat.{mul-le-mul_right}
 use Rattle.io_ends.specs.Taking.{TakesAll, TakesCount}
+use Rattle.log_image.specs.Image.{Shape, words_in, total, is_in_log, block_words}
+use Rattle.log_image.specs.Blocks.{slots_of, entry_words, is_closed}
 use Rattle.log_image.specs.Header.{shape_of}
-use Rattle.log_image.specs.Chains.{IsChain}
-use Rattle.log_image.specs.Tails.{tail_of, IsCleared}
+use Rattle.log_image.specs.Chains.{IsChain, IsLinked}
+use Rattle.log_image.specs.Tails.{AtSlot, AtLink, last_block, tail_in, tail_of, is_after, IsCleared}
 use Rattle.log_image.specs.Positions.{position_of}
 use Rattle.log_image.specs.Laws.{StaysCleared}
 use Rattle.log_image.specs.Stands.{StandsBy}
 use Rattle.log_image.specs.Recovered.{Recovered}
 use Rattle.log_image.specs.declared.starts.Start.{Start}
+use Rattle.log_image.proofs.HoldingLemmas.{both_left, both_right}
 use Rattle.log_image.proofs.OneChain.{one_chain}
 use Rattle.log_image.proofs.ClearedImages.{clearing_keeps}
 use Rattle.opening_rules.specs.Opening.{RefusesBytes, AcceptsBytes, chain_of}
@@ -106,3 +112,39 @@ image_refused bytes read (Bad other) why same refuses is few =
     let one : other ≡ why = cc in
     inr (few, subst (λ (l : List ℕ). RefusesBytes l why) is (subst (λ (w : BadImage). RefusesBytes read w) one refuses))
 image_refused bytes read NoMemory why same refuses is few = cc
+
+-- the last block of a chain is in the log area, where all of them are
+last_in_log : (shape : Shape) (block : ℕ) (rest : List ℕ) → is_in_log shape block ≡ true → list_all (is_in_log shape) rest ≡ true → is_in_log shape (last_block block rest) ≡ true
+last_in_log shape block [] first all = first
+last_in_log shape block (next ∷ rest) first all = last_in_log shape next rest (both_left (is_in_log shape next) (list_all (is_in_log shape) rest) all) (both_right (is_in_log shape next) (list_all (is_in_log shape) rest) all)
+
+end_in_log : (words : List ℕ) (shape : Shape) (chain : List ℕ) → IsLinked words shape chain → list_all (is_in_log shape) chain ≡ true → is_in_log shape (last_block 0 chain) ≡ true
+end_in_log words shape [] linked all = absurd linked
+end_in_log words shape (first ∷ rest) linked all = last_in_log shape first rest (both_left (is_in_log shape first) (list_all (is_in_log shape) rest) all) (both_right (is_in_log shape first) (list_all (is_in_log shape) rest) all)
+
+-- no word of block 0 is after a tail of a block of the log area
+not_after : (shape : Shape) (block : ℕ) (words : List ℕ) (place : ℕ) → is_in_log shape block ≡ true → place < words_in shape → is_after shape (tail_in block words) place ≡ false
+not_after shape block words place log inside = go (is_closed (slots_of words))
+  where
+    past : words_in shape ≤ block * words_in shape
+    past =
+        let low : shape.data_blocks < block = ltb-true shape.data_blocks block (both_left (nat_lt shape.data_blocks block) (nat_lt block (total shape)) log) in
+        let times : 1 * words_in shape ≤ block * words_in shape = mul-le-mul_right (words_in shape) (omega (arith, low)) in
+        omega (arith, times)
+
+    go : (closed : Bool) → is_after shape (if closed then AtLink block else AtSlot block (3 + length (entry_words (slots_of words)))) place ≡ false
+    go true = refl
+    go false =
+        let link : (place == block * words_in shape) ≡ false = ne_eqb place (block * words_in shape) (λ e. omega (arith, e, inside, past)) in
+        let slot : nat_lt (block * words_in shape + (3 + length (entry_words (slots_of words)))) place ≡ false = le-ltb (block * words_in shape + (3 + length (entry_words (slots_of words)))) place (omega (arith, inside, past)) in
+        rw (link, slot) refl
+
+-- clearing changes no word of block 0
+pub first_kept : (bytes chain cleared : List ℕ) → (clears : Clears bytes chain cleared) → (place : ℕ) → place < words_in (shape_of clears.words) → get_or cleared place 0 ≡ get_or clears.words place 0
+first_kept bytes chain cleared clears place inside =
+    let stands : StandsBy clears.words chain (file_of clears.words clears.rest) (position_of clears.words (shape_of clears.words) (chain_of clears.words clears.rest)) =
+    subst (λ (l : List ℕ). StandsBy clears.words l (file_of clears.words clears.rest) (position_of clears.words (shape_of clears.words) (chain_of clears.words clears.rest))) (sym clears.chain_is) (stands_by clears.words clears.rest clears.accepts.accepts) in
+    clears.cleared_is.each place
+    ∙ ap (λ (b : Bool). if b then 0 else get_or clears.words place 0)
+    (not_after (shape_of clears.words) (last_block 0 chain) (block_words clears.words (shape_of clears.words) (last_block 0 chain)) place
+    (end_in_log clears.words (shape_of clears.words) chain stands.stands.is_chain.linked stands.stands.format.areas) inside)

@@ -1,5 +1,5 @@
 -- What the calls on an engine say of a run, and of the run on an image that opens.
-use Rattle.std.proofs.Common.{◌≡◌, ℕ, List, sym, ap, ◌∙◌, subst, Ok}
+use Rattle.std.proofs.Common.{◌≡◌, ◌<◌, ◌^◌, ℕ, List, get_or, sym, ap, ◌∙◌, subst, Ok}
 use Rattle.log_entry.specs.WordBytes.{word_bytes}
 use Rattle.log_entry.specs.Legal.{Legal, last_file, last_position_of}
 use Rattle.log_entry.specs.declared.calls.Call.{Call}
@@ -7,10 +7,11 @@ use Rattle.log_entry.specs.declared.calls.Job.{Job}
 use Rattle.log_entry.specs.declared.shapes.Geometry.{Geometry}
 use Rattle.log_entry.specs.Kinds.{HaveKinds}
 use Rattle.log_entry.proofs.HistoryLemmas.{HaveKinds-Legal}
-use Rattle.log_image.specs.Image.{Shape, shape_by}
+use Rattle.log_image.specs.Image.{Shape, words_in, shape_by}
 use Rattle.log_image.specs.Header.{shape_of, generation_of}
 use Rattle.log_image.specs.Positions.{position_of}
 use Rattle.log_image.specs.Stands.{StandsBy}
+use Rattle.log_image.specs.Tails.{tail_of, IsClear}
 use Rattle.log_image.specs.Laws.{StaysCleared}
 use Rattle.trace_reader.specs.Reading.{ReadsTrace}
 use Rattle.history_report.specs.Report.{report_text}
@@ -22,7 +23,7 @@ use Rattle.plain_engine.specs.Replaying.{Replays}
 use Rattle.plain_engine.specs.declared.engine.PlainEngine.{PlainEngine}
 use Rattle.madfs_cli.specs.Images.{OpensTo}
 use Rattle.madfs_cli.specs.Replays.{IsRunOf, IsReplayOf}
-use Rattle.madfs_cli.proofs.ImageLemmas.{clears_stand}
+use Rattle.madfs_cli.proofs.ImageLemmas.{clears_stand, first_kept}
 
 -- the shape of an engine's words
 engine_shape : (words : List ℕ) (engine : PlainEngine) (chain file : List ℕ) → engine.words.items ≡ words → Running engine chain file → shape_of words ≡ shape_by engine.geometry
@@ -44,6 +45,10 @@ run_of words engine new chain file position jobs calls text at size after same f
       same_generation = ap generation_of after_is ∙ replays.generation ∙ ap generation_of same;
       longer = replays.longer;
       stands = subst (λ (l : List ℕ). StandsBy l replays.longer (last_file file calls) (last_position_of position calls)) (sym after_is) (subst (λ (n : ℕ). StandsBy new.words.items replays.longer (last_file file calls) n) last replays.runs.stands);
+      clear = subst (λ (l : List ℕ). IsClear l (shape_of l) (tail_of l (shape_of l) replays.longer)) (sym after_is)
+          (subst (λ (s : Shape). IsClear new.words.items s (tail_of new.words.items s replays.longer)) (sym replays.runs.fits.same_shape) replays.runs.fits.clear);
+      past_header = λ place past inside. ap (λ (l : List ℕ). get_or l place 0) after_is
+          ∙ replays.first_block place (subst (λ (s : Shape). place < words_in s) shape inside) ∙ ap (λ (l : List ℕ). get_or l place 0) same;
       served = subst (λ (s : Shape). AreServed s words chain file position calls after replays.longer) (sym shape)
           (subst (λ (l : List ℕ). AreServed (shape_by engine.geometry) l chain file position calls after replays.longer) same
           (subst (λ (n : ℕ). AreServed (shape_by engine.geometry) engine.words.items chain file n calls after replays.longer) (sym from)
@@ -56,11 +61,13 @@ kinds_of engine new chain file jobs calls shown replays same = rw same (HaveKind
 
 -- a run on what clearing leaves of an image
 pub replayed : (image cleared trace text after fresh : List ℕ) (jobs : List Job) → OpensTo image cleared → ReadsTrace 1 trace (Ok jobs) →
-    ((chain file : List ℕ) (position : ℕ) → StandsBy cleared chain file position → IsRunOf cleared chain file position jobs text after) → fresh ≡ word_bytes after → IsReplayOf image trace text fresh
-replayed image cleared trace text after fresh jobs opens read runs fresh_is =
+    ((chain file : List ℕ) (position : ℕ) → StandsBy cleared chain file position → IsRunOf cleared chain file position jobs text after) → ((place : ℕ) → get_or after place 0 < 2 ^ 64) → fresh ≡ word_bytes after → IsReplayOf image trace text fresh
+replayed image cleared trace text after fresh jobs opens read runs small fresh_is =
     let clears = opens.clears in
     let stays : StaysCleared clears.words cleared opens.chain (file_of clears.words clears.rest) (position_of clears.words (shape_of clears.words) (chain_of clears.words clears.rest)) =
     subst (λ (l : List ℕ). StaysCleared clears.words cleared l (file_of clears.words clears.rest) (position_of clears.words (shape_of clears.words) (chain_of clears.words clears.rest))) (sym clears.chain_is) (clears_stand image opens.chain cleared clears) in
+    let run : IsRunOf cleared opens.chain (file_of clears.words clears.rest) (position_of clears.words (shape_of clears.words) (chain_of clears.words clears.rest)) jobs text after =
+    runs opens.chain (file_of clears.words clears.rest) (position_of clears.words (shape_of clears.words) (chain_of clears.words clears.rest)) stays.stands in
     record {
       chain = opens.chain;
       cleared = cleared;
@@ -72,6 +79,8 @@ replayed image cleared trace text after fresh jobs opens read runs fresh_is =
       jobs = jobs;
       read = read;
       after = after;
-      run = runs opens.chain (file_of clears.words clears.rest) (position_of clears.words (shape_of clears.words) (chain_of clears.words clears.rest)) stays.stands;
+      run = run;
+      past_header = λ place past inside. run.past_header place past (subst (λ (s : Shape). place < words_in s) (sym stays.same_shape) inside) ∙ first_kept image opens.chain cleared clears place inside;
+      small = small;
       fresh_is = fresh_is;
     }

@@ -1,7 +1,9 @@
--- Why a command has nothing of what it reads.
+-- What a command has of what it reads, and why it has nothing of it.
 use Rattle.std.specs.Prelude.{ℕ, ◌≡◌, List, Option, Some, Err}
 use Rattle.io_ends.specs.Faults.{Rose}
+use Rattle.io_ends.specs.Taking.{IsAtEnd}
 use Rattle.trace_reader.specs.Reading.{ReadsTrace}
+use Rattle.opening_rules.specs.declared.refusals.BadImage.{BadImage as ImageRefusal}
 use Rattle.madfs_cli.specs.Images.{RefusesImage}
 use Rattle.madfs_cli.specs.declared.statuses.Status.{Status}
 use Rattle.madfs_cli.specs.declared.statuses.Status.TheVariants.{Done, Usage, BadImage, BadTrace, ReadFault, WriteFault, NoMemory}
@@ -25,3 +27,8 @@ IsNotOpened left before now Done = ⊥
 IsNotOpened left before now Usage = ⊥
 IsNotOpened left before now (BadTrace why) = ⊥
 IsNotOpened left before now WriteFault = ⊥
+
+-- an image was read to its end, and what it had left is not refused, where it tells that
+pub record WasAccepted (before after : Option (List ℕ)) : Type 0 where
+  pub at_end : IsAtEnd after
+  pub accepted : (bytes : List ℕ) (why : ImageRefusal) → before ≡ Some bytes → RefusesImage bytes why → ⊥

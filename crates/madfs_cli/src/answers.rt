@@ -4,7 +4,7 @@ ghost use Rattle.std.specs.Prelude.{◌≡◌, ◌≢◌, ◌⊎◌, ℕ, List, 
 ghost use Rattle.io_ends.specs.Taking.{IsAtEnd};
 ghost use Rattle.log_image.specs.Image.{shape_by};
 ghost use Rattle.madfs_cli.specs.Commands.{ShowFile, made_request, reads_image, reads_trace, writes_image};
-ghost use Rattle.madfs_cli.specs.Inputs.{IsNotOpened};
+ghost use Rattle.madfs_cli.specs.Inputs.{IsNotOpened, WasAccepted};
 ghost use Rattle.madfs_cli.specs.Images.{RefusesImage, IsDumpOf, made_text, IsNewImage};
 ghost use Rattle.madfs_cli.specs.Outcomes.{TakenFrom, GivenTo, IsOutcome, IsOutputOf, ImageRefused, TraceRefused, IsNotMade};
 ghost use Rattle.opening_rules.specs.declared.refusals.BadImage.{BadImage};
@@ -52,12 +52,23 @@ fn make_image(alloc: Global, shape: Geometry) -> Result<Output, AllocError>
 pub fn show_file<I: Source, O: Sink>(alloc: Global, image: &mut I, report: &mut O) -> Status
     ensures not_usage { result ≢ Status.Usage }
     ensures order { (report.new ≡ report.old) ⊎ IsAtEnd (I.left image.new) }
-    ensures unwritten { (result ≡ Status.ReadFault) ⊎ ((why : BadImage) × (result ≡ Status.BadImage why)) ⊎ ((why : BadTrace) × (result ≡ Status.BadTrace why)) → report.new ≡ report.old }
-    ensures outcome { (trace : TakenFrom) (fresh : GivenTo) → fresh.given_after ≡ fresh.given_before → IsOutcome ShowFile
+    ensures unwritten { (result ≡ Status.ReadFault) ⊎ ((why : BadImage) × (result ≡ Status.BadImage why))
+        ⊎ ((why : BadTrace) × (result ≡ Status.BadTrace why)) → report.new ≡ report.old }
+    ensures outcome { (trace : TakenFrom) (fresh : GivenTo) → fresh.given_after ≡ fresh.given_before
+        → IsOutcome ShowFile
         (record {
-          image = record { left = I.left image.old; faults_before = I.faults image.old; faults_after = I.faults image.new };
+          image = record {
+            left = I.left image.old;
+            faults_before = I.faults image.old;
+            faults_after = I.faults image.new;
+          };
           trace = trace;
-          report = record { given_before = O.written report.old; given_after = O.written report.new; faults_before = O.faults report.old; faults_after = O.faults report.new };
+          report = record {
+            given_before = O.written report.old;
+            given_after = O.written report.new;
+            faults_before = O.faults report.old;
+            faults_after = O.faults report.new;
+          };
           fresh = fresh;
         })
         result }
@@ -77,8 +88,10 @@ pub fn show_file<I: Source, O: Sink>(alloc: Global, image: &mut I, report: &mut 
 
 /// The text of the image that a source has left, read to its end.
 fn show_image<I: Source>(alloc: Global, image: &mut I) -> Result<Output, Status>
-    ensures text { IfOk result (λ output. (bytes : List ℕ) → I.left image.old ≡ Some bytes → IsDumpOf bytes output.text.items) }
-    ensures accepted { OnOk result ((bytes : List ℕ) (why : BadImage) → I.left image.old ≡ Some bytes → RefusesImage bytes why → ⊥) }
+    ensures text { IfOk result (λ output. (bytes : List ℕ) → I.left image.old ≡ Some bytes
+        → IsDumpOf bytes output.text.items) }
+    ensures accepted { OnOk result ((bytes : List ℕ) (why : BadImage) → I.left image.old ≡ Some bytes
+        → RefusesImage bytes why → ⊥) }
     ensures image { IfOk result (λ output. output.image.items ≡ []) }
     ensures end { OnOk result (IsAtEnd (I.left image.new)) }
     ensures refused { IfErr result (IsNotOpened (I.left image.old) (I.faults image.old) (I.faults image.new)) }
@@ -107,6 +120,10 @@ pub fn output_of<I: Source, T: Source>(
     ensures no_image { writes_image (made_request making) ≡ false → IfOk result (λ output. output.image.items ≡ []) }
     ensures image_good { OnOk result ((why : BadImage) → ImageRefused (made_request making) (record { left = I.left image.old; faults_before = I.faults image.old; faults_after = I.faults image.new }) why → ⊥) }
     ensures trace_good { OnOk result ((why : BadTrace) → TraceRefused (made_request making) (record { left = T.left trace.old; faults_before = T.faults trace.old; faults_after = T.faults trace.new }) why → ⊥) }
+    ensures trace_after_image { reads_image (made_request making) ≡ true → (trace.new ≡ trace.old)
+        ⊎ WasAccepted (I.left image.old) (I.left image.new) }
+    ensures trace_at_bad_image { IfErr result (λ status. (why : BadImage) → status ≡ Status.BadImage why
+        → trace.new ≡ trace.old) }
     ensures image_end { OnOk result (reads_image (made_request making) ≡ true → IsAtEnd (I.left image.new)) }
     ensures trace_end { OnOk result (reads_trace (made_request making) ≡ true → IsAtEnd (T.left trace.new)) }
     ensures image_kept { reads_image (made_request making) ≡ false → image.new ≡ image.old }

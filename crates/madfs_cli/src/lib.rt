@@ -3,14 +3,8 @@
 
 pub mod answers;
 pub mod commands;
-#[cfg(test)]
-mod drawn_tests;
-#[cfg(test)]
-mod image_tests;
 pub mod images;
 pub mod outputs;
-#[cfg(test)]
-mod replay_tests;
 pub mod replays;
 pub mod statuses;
 #[cfg(test)]

@@ -1,6 +1,7 @@
 //! What a command writes.
 
-ghost use Rattle.std.specs.Prelude.{◌≡◌, ◌⊎◌, length};
+ghost use Rattle.std.specs.Prelude.{◌≡◌, ◌≢◌, ◌⊎◌, length};
+ghost use Rattle.opening_rules.specs.declared.refusals.BadImage.{BadImage};
 ghost use Rattle.madfs_cli.specs.Outcomes.{OutputEnds};
 
 use crate::statuses::Status;
@@ -16,9 +17,20 @@ pub struct Output {
 /// Writes the text, and after it the image.
 pub fn write_output<O: Sink, N: Sink>(output: &Output, report: &mut O, fresh: &mut N) -> Status
     ensures ends { OutputEnds
-        (record { given_before = O.written report.old; given_after = O.written report.new; faults_before = O.faults report.old; faults_after = O.faults report.new })
-        (record { given_before = N.written fresh.old; given_after = N.written fresh.new; faults_before = N.faults fresh.old; faults_after = N.faults fresh.new })
+        (record {
+          given_before = O.written report.old;
+          given_after = O.written report.new;
+          faults_before = O.faults report.old;
+          faults_after = O.faults report.new;
+        })
+        (record {
+          given_before = N.written fresh.old;
+          given_after = N.written fresh.new;
+          faults_before = N.faults fresh.old;
+          faults_after = N.faults fresh.new;
+        })
         output.now.text.items output.now.image.items result }
+    ensures no_refusal { (why : BadImage) → result ≢ Status.BadImage why }
     ensures none { length output.now.image.items ≡ 0 → fresh.new ≡ fresh.old }
 {
     match write_all(report, output.text.as_slice()) {

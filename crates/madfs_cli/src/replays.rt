@@ -1,6 +1,6 @@
 //! A run of a trace's calls on an image.
 
-ghost use Rattle.std.specs.Prelude.{◌≡◌, ℕ, List, [], Some, Ok, IfOk, IfErr, OnOk, true};
+ghost use Rattle.std.specs.Prelude.{◌≡◌, ◌⊎◌, ◌<◌, ◌^◌, ℕ, slice_index, List, [], Some, Ok, IfOk, IfErr, OnOk, true};
 ghost use Rattle.io_ends.specs.Taking.{IsAtEnd};
 ghost use Rattle.log_image.specs.Stands.{StandsBy};
 ghost use Rattle.log_entry.specs.declared.calls.Job.{Job};
@@ -10,7 +10,7 @@ ghost use Rattle.log_image.specs.Image.{shape_by};
 ghost use Rattle.opening_rules.specs.declared.refusals.BadImage.{BadImage};
 ghost use Rattle.trace_reader.specs.declared.refusals.BadTrace.{BadTrace};
 ghost use Rattle.madfs_cli.specs.Commands.{ReplayTrace};
-ghost use Rattle.madfs_cli.specs.Inputs.{IsNotRead};
+ghost use Rattle.madfs_cli.specs.Inputs.{IsNotRead, WasAccepted};
 ghost use Rattle.madfs_cli.specs.Replays.{StandForAFile, IsRunOf, IsTryOf, IsReplayOf};
 ghost use Rattle.madfs_cli.specs.Outcomes.{IsNotMade, ImageRefused, TraceRefused};
 
@@ -38,7 +38,9 @@ struct Run {
 fn run_jobs(alloc: Global, start: Start, jobs: Vec<Job>) -> Result<Run, AllocError>
     requires trace { IsTrace 1 jobs.items }
     requires stands { StandForAFile start.words.items }
-    ensures { IfOk result (λ run. (chain file : List ℕ) (position : ℕ) → StandsBy start.words.items chain file position → IsRunOf start.words.items chain file position jobs.items run.text.items run.words.items) }
+    ensures { IfOk result (λ run. (chain file : List ℕ) (position : ℕ)
+        → StandsBy start.words.items chain file position
+        → IsRunOf start.words.items chain file position jobs.items run.text.items run.words.items) }
 {
     let mut engine = PlainEngine::new(alloc, start)?;
     let calls = replay_all(alloc, &mut engine, jobs)?;
@@ -51,7 +53,8 @@ fn run_jobs(alloc: Global, start: Start, jobs: Vec<Job>) -> Result<Run, AllocErr
 
 /// The report of the trace that a source has left, read to its end and run on a just-made image of this shape.
 pub fn try_trace<T: Source>(alloc: Global, shape: Geometry, trace: &mut T) -> Result<Output, Status>
-    ensures report { IfOk result (λ output. (bytes : List ℕ) → T.left trace.old ≡ Some bytes → IsTryOf (shape_by shape) bytes output.text.items) }
+    ensures report { IfOk result (λ output. (bytes : List ℕ) → T.left trace.old ≡ Some bytes
+        → IsTryOf (shape_by shape) bytes output.text.items) }
     ensures image { IfOk result (λ output. output.image.items ≡ []) }
     ensures end { OnOk result (IsAtEnd (T.left trace.new)) }
     ensures refused { IfErr result (IsNotRead (T.left trace.old) (T.faults trace.old) (T.faults trace.new)) }
@@ -70,6 +73,11 @@ pub fn try_trace<T: Source>(alloc: Global, shape: Geometry, trace: &mut T) -> Re
     })
 }
 
+/// Says of words what their type says, for the clause on the new image.
+fn note_range(words: &[u64])
+    ensures { (place : ℕ) → slice_index words.now place < 2 ^ 64 }
+{}
+
 /// The report of the trace that a source has left, run on the image that another has left, and the image after it. The image is read
 /// to its end first, and then the trace.
 pub fn replay_trace<I: Source, T: Source>(
@@ -77,9 +85,14 @@ pub fn replay_trace<I: Source, T: Source>(
     image: &mut I,
     trace: &mut T,
 ) -> Result<Output, Status>
-    ensures replay { IfOk result (λ output. (bytes text : List ℕ) → I.left image.old ≡ Some bytes → T.left trace.old ≡ Some text → IsReplayOf bytes text output.text.items output.image.items) }
+    ensures replay { IfOk result (λ output. (bytes text : List ℕ) → I.left image.old ≡ Some bytes
+        → T.left trace.old ≡ Some text → IsReplayOf bytes text output.text.items output.image.items) }
     ensures image_good { OnOk result ((why : BadImage) → ImageRefused ReplayTrace (record { left = I.left image.old; faults_before = I.faults image.old; faults_after = I.faults image.new }) why → ⊥) }
-    ensures trace_read { OnOk result ((bytes : List ℕ) → T.left trace.old ≡ Some bytes → (jobs : List Job) × ReadsTrace 1 bytes (Ok jobs)) }
+    ensures trace_read { OnOk result ((bytes : List ℕ) → T.left trace.old ≡ Some bytes → (jobs : List Job)
+        × ReadsTrace 1 bytes (Ok jobs)) }
+    ensures trace_after_image { (trace.new ≡ trace.old) ⊎ WasAccepted (I.left image.old) (I.left image.new) }
+    ensures trace_at_bad_image { IfErr result (λ status. (why : BadImage) → status ≡ Status.BadImage why
+        → trace.new ≡ trace.old) }
     ensures image_end { OnOk result (IsAtEnd (I.left image.new)) }
     ensures trace_end { OnOk result (IsAtEnd (T.left trace.new)) }
     ensures refused { IfErr result (IsNotMade ReplayTrace
@@ -94,6 +107,7 @@ pub fn replay_trace<I: Source, T: Source>(
     let Ok(run) = run_jobs(alloc, start, jobs) else {
         return Err(Status::NoMemory);
     };
+    note_range(&run.words);
     let Ok(image) = to_bytes(alloc, &run.words) else {
         return Err(Status::NoMemory);
     };

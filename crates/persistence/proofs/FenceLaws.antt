@@ -9,25 +9,25 @@ use Rattle.asks.specs.SharedWords.{SharedWords, word_at, with_word}
 use Rattle.asks.specs.declared.ask.Place.{Place}
 use Rattle.asks.specs.declared.ask.Place.TheVariants.{Image, Pin, Map, FenceOf}
 use Rattle.asks.specs.declared.ask.Ask.TheVariants.{Load, Store, Exchange, SetBits, ClearBits, Mark, Fence}
-use Rattle.persistence.specs.Memory.{Memory, Noted, Replaced, index_at, raised, replaced_at, memory_after, notes_of}
+use Rattle.persistence.specs.Memory.{Memory, PendingMark, Replaced, index_at, floors_raised_by, replaced_at, memory_after, pending_of}
 use Rattle.persistence.specs.Steps.{IsOrderly, StepsKeepOrder, FencesRaiseFloors, FencesForgetOwnMarks}
 use Rattle.persistence.proofs.ValueLemmas.{index_at-later}
 
 -- the floors after one mark
-abbrev pub raised_by : Bool → Noted → List ℕ → List ℕ
+abbrev pub raised_by : Bool → PendingMark → List ℕ → List ℕ
 raised_by mine note floors = if mine then slice_set floors note.word (max (slice_index floors note.word) note.time) else floors
 
-length-raised_by : (mine : Bool) (note : Noted) (floors : List ℕ) → length (raised_by mine note floors) ≡ length floors
+length-raised_by : (mine : Bool) (note : PendingMark) (floors : List ℕ) → length (raised_by mine note floors) ≡ length floors
 length-raised_by true note floors = length-set floors note.word (max (slice_index floors note.word) note.time)
 length-raised_by false note floors = refl
 
 -- one word after a mark of the seat
-raised_here : (note : Noted) (floors : List ℕ) (word : ℕ) → word ≡ note.word → word < length floors → slice_index (raised_by true note floors) word ≡ max (slice_index floors word) note.time
+raised_here : (note : PendingMark) (floors : List ℕ) (word : ℕ) → word ≡ note.word → word < length floors → slice_index (raised_by true note floors) word ≡ max (slice_index floors word) note.time
 raised_here note floors word same inside =
     rw same (get_or-set_same floors note.word (max (slice_index floors note.word) note.time) 0 (rw (← same) inside))
 
 -- and a word that is not that mark's, or that is not there
-raised_away : (mine : Bool) (note : Noted) (floors : List ℕ) (word : ℕ) → (word ≢ note.word) ⊎ (length floors ≤ word) → slice_index (raised_by mine note floors) word ≡ slice_index floors word
+raised_away : (mine : Bool) (note : PendingMark) (floors : List ℕ) (word : ℕ) → (word ≢ note.word) ⊎ (length floors ≤ word) → slice_index (raised_by mine note floors) word ≡ slice_index floors word
 raised_away false note floors word away = refl
 raised_away true note floors word (inl other) = get_or-set_other floors note.word word (max (slice_index floors note.word) note.time) 0 other
 raised_away true note floors word (inr outside) =
@@ -37,7 +37,7 @@ raised_away true note floors word (inr outside) =
     ]
 
 -- where a word's floor is after one mark: where it was, or at the mark's time
-one_mark : (mine : Bool) (note : Noted) (floors : List ℕ) (word : ℕ)
+one_mark : (mine : Bool) (note : PendingMark) (floors : List ℕ) (word : ℕ)
     → (slice_index (raised_by mine note floors) word ≡ slice_index floors word)
     ⊎ ((mine ≡ true) × (word ≡ note.word) × (slice_index (raised_by mine note floors) word ≡ note.time) × (slice_index floors word ≤ note.time))
 one_mark false note floors word = inl refl
@@ -56,41 +56,41 @@ one_mark true note floors word =
       | inr h ↦ inl (raised_away true note floors word (inl h.1))
     ]
 
-length-raised : (seat : ℕ) (notes : List Noted) (floors : List ℕ) → length (raised seat notes floors) ≡ length floors
-length-raised seat [] floors = refl
-length-raised seat (note ∷ notes) floors = length-raised seat notes (raised_by (note.seat == seat) note floors) ∙ length-raised_by (note.seat == seat) note floors
+length-floors_raised_by : (seat : ℕ) (pending : List PendingMark) (floors : List ℕ) → length (floors_raised_by seat pending floors) ≡ length floors
+length-floors_raised_by seat [] floors = refl
+length-floors_raised_by seat (note ∷ pending) floors = length-floors_raised_by seat pending (raised_by (note.seat == seat) note floors) ∙ length-raised_by (note.seat == seat) note floors
 
 -- no floor is lowered
-not_lowered : (seat : ℕ) (notes : List Noted) (floors : List ℕ) (word : ℕ) → slice_index floors word ≤ slice_index (raised seat notes floors) word
+not_lowered : (seat : ℕ) (pending : List PendingMark) (floors : List ℕ) (word : ℕ) → slice_index floors word ≤ slice_index (floors_raised_by seat pending floors) word
 not_lowered seat [] floors word = omega arith
-not_lowered seat (note ∷ notes) floors word =
-    let later = not_lowered seat notes (raised_by (note.seat == seat) note floors) word in
+not_lowered seat (note ∷ pending) floors word =
+    let later = not_lowered seat pending (raised_by (note.seat == seat) note floors) word in
     elim (one_mark (note.seat == seat) note floors word) [ inl same ↦ omega (arith, later, same) | inr h ↦ omega (arith, later, h.2, h.3) ]
 
 -- each mark of the seat is reached
-mark_reached : (note : Noted) (floors : List ℕ) (word : ℕ) → word ≡ note.word → word < length floors → note.time ≤ slice_index (raised_by true note floors) word
+mark_reached : (note : PendingMark) (floors : List ℕ) (word : ℕ) → word ≡ note.word → word < length floors → note.time ≤ slice_index (raised_by true note floors) word
 mark_reached note floors word same inside = let most = raised_here note floors word same inside in omega (arith, most)
 
-reached : (seat : ℕ) (notes : List Noted) (floors : List ℕ) (word k : ℕ) (note : Noted) → word < length floors → k < length notes → get_or notes k note ≡ note → note.seat ≡ seat → note.word ≡ word
-    → note.time ≤ slice_index (raised seat notes floors) word
+reached : (seat : ℕ) (pending : List PendingMark) (floors : List ℕ) (word k : ℕ) (note : PendingMark) → word < length floors → k < length pending → get_or pending k note ≡ note → note.seat ≡ seat → note.word ≡ word
+    → note.time ≤ slice_index (floors_raised_by seat pending floors) word
 reached seat [] floors word k note inside below is mine here = absurd (omega (arith, below))
-reached seat (first ∷ notes) floors word zero note inside below is mine here =
-    let own : (first.seat == seat) ≡ true = eq-eqb first.seat seat (ap (λ (n : Noted). n.seat) is ∙ mine) in
+reached seat (first ∷ pending) floors word zero note inside below is mine here =
+    let own : (first.seat == seat) ≡ true = eq-eqb first.seat seat (ap (λ (n : PendingMark). n.seat) is ∙ mine) in
     let first_reached : first.time ≤ slice_index (raised_by (first.seat == seat) first floors) word =
-    rw own (mark_reached first floors word (sym (ap (λ (n : Noted). n.word) is ∙ here)) inside) in
-    let later = not_lowered seat notes (raised_by (first.seat == seat) first floors) word in
-    let time : first.time ≡ note.time = ap (λ (n : Noted). n.time) is in
+    rw own (mark_reached first floors word (sym (ap (λ (n : PendingMark). n.word) is ∙ here)) inside) in
+    let later = not_lowered seat pending (raised_by (first.seat == seat) first floors) word in
+    let time : first.time ≡ note.time = ap (λ (n : PendingMark). n.time) is in
     omega (arith, first_reached, later, time)
-reached seat (first ∷ notes) floors word (suc k) note inside below is mine here =
-    reached seat notes (raised_by (first.seat == seat) first floors) word k note (rw (length-raised_by (first.seat == seat) first floors) inside) (omega (arith, below)) is mine here
+reached seat (first ∷ pending) floors word (suc k) note inside below is mine here =
+    reached seat pending (raised_by (first.seat == seat) first floors) word k note (rw (length-raised_by (first.seat == seat) first floors) inside) (omega (arith, below)) is mine here
 
 -- and a floor is where it was, or at one of them
-attained : (seat : ℕ) (notes : List Noted) (floors : List ℕ) (word : ℕ)
-    → (slice_index (raised seat notes floors) word ≡ slice_index floors word)
-    ⊎ ((note : Noted) × Contains notes note × (note.seat ≡ seat) × (note.word ≡ word) × (slice_index (raised seat notes floors) word ≡ note.time))
+attained : (seat : ℕ) (pending : List PendingMark) (floors : List ℕ) (word : ℕ)
+    → (slice_index (floors_raised_by seat pending floors) word ≡ slice_index floors word)
+    ⊎ ((note : PendingMark) × Contains pending note × (note.seat ≡ seat) × (note.word ≡ word) × (slice_index (floors_raised_by seat pending floors) word ≡ note.time))
 attained seat [] floors word = inl refl
-attained seat (first ∷ notes) floors word =
-    elim (attained seat notes (raised_by (first.seat == seat) first floors) word) [
+attained seat (first ∷ pending) floors word =
+    elim (attained seat pending (raised_by (first.seat == seat) first floors) word) [
       | inl same ↦
           elim (one_mark (first.seat == seat) first floors word) [
             | inl before ↦ inl (same ∙ before)
@@ -105,12 +105,12 @@ fences_raise_floors memory seat word order inside = (
   refl,
   refl,
   record {
-    not_lower = index_at-later memory.past (slice_index memory.floors word) (slice_index (raised seat memory.notes memory.floors) word) word (not_lowered seat memory.notes memory.floors word);
+    not_lower = index_at-later memory.past (slice_index memory.floors word) (slice_index (floors_raised_by seat memory.pending memory.floors) word) word (not_lowered seat memory.pending memory.floors word);
     reaches = λ note stands mine here.
-        index_at-later memory.past note.time (slice_index (raised seat memory.notes memory.floors) word) word
-        (reached seat memory.notes memory.floors word stands.0 note (omega (arith, inside, order.floors)) stands.1 stands.2 mine here);
+        index_at-later memory.past note.time (slice_index (floors_raised_by seat memory.pending memory.floors) word) word
+        (reached seat memory.pending memory.floors word stands.0 note (omega (arith, inside, order.floors)) stands.1 stands.2 mine here);
     attained =
-        elim (attained seat memory.notes memory.floors word) [
+        elim (attained seat memory.pending memory.floors word) [
           | inl same ↦ inl (ap (λ (t : ℕ). index_at memory.past t word) same)
           | inr h ↦ inr (h.0, h.1, h.2, h.3, ap (λ (t : ℕ). index_at memory.past t word) h.4)
         ];
@@ -139,25 +139,25 @@ order_at memory at value grows order =
     record {
       floors = order.floors ∙ sym (words_stay memory.now at value);
       reached = λ word. omega (arith, order.reached word, more);
-      noted = All-weaker (λ (note : Noted). note.time ≤ length memory.past) (λ (note : Noted). note.time ≤ length (replaced_at grows at (word_at memory.now at) memory.past)) (λ note before. omega (arith, before, more)) memory.notes order.noted;
+      noted = All-weaker (λ (note : PendingMark). note.time ≤ length memory.past) (λ (note : PendingMark). note.time ≤ length (replaced_at grows at (word_at memory.now at) memory.past)) (λ note before. omega (arith, before, more)) memory.pending order.noted;
     }
 
 order_marked : (memory : Memory) (seat marked : ℕ) → IsOrderly memory → IsOrderly (memory_after memory seat (Mark marked))
 order_marked memory seat marked order = record {
   floors = order.floors ∙ sym (words_stay memory.now (Image marked) (word_at memory.now (Image marked)));
   reached = order.reached;
-  noted = All-push (λ (note : Noted). note.time ≤ length memory.past) memory.notes (record { seat = seat; word = marked; time = length memory.past }) order.noted (omega arith);
+  noted = All-push (λ (note : PendingMark). note.time ≤ length memory.past) memory.pending (record { seat = seat; word = marked; time = length memory.past }) order.noted (omega arith);
 }
 
 order_fenced : (memory : Memory) (seat : ℕ) → IsOrderly memory → IsOrderly (memory_after memory seat Fence)
 order_fenced memory seat order = record {
-  floors = length-raised seat memory.notes memory.floors ∙ order.floors;
+  floors = length-floors_raised_by seat memory.pending memory.floors ∙ order.floors;
   reached = λ word.
-      elim (attained seat memory.notes memory.floors word) [
+      elim (attained seat memory.pending memory.floors word) [
         | inl same ↦ omega (arith, same, order.reached word)
-        | inr h ↦ let known = order.noted h.1.0 h.0 h.1.1 in let time = ap (λ (n : Noted). n.time) h.1.2 in omega (arith, h.4, known, time)
+        | inr h ↦ let known = order.noted h.1.0 h.0 h.1.1 in let time = ap (λ (n : PendingMark). n.time) h.1.2 in omega (arith, h.4, known, time)
       ];
-  noted = All-filter (λ (note : Noted). not (note.seat == seat)) (λ (note : Noted). note.time ≤ length memory.past) memory.notes order.noted;
+  noted = All-filter (λ (note : PendingMark). not (note.seat == seat)) (λ (note : PendingMark). note.time ≤ length memory.past) memory.pending order.noted;
 }
 
 pub steps_keep_order : StepsKeepOrder
@@ -171,41 +171,41 @@ steps_keep_order memory seat (Mark marked) order = order_marked memory seat mark
 steps_keep_order memory seat Fence order = order_fenced memory seat order
 
 -- the marks that a fence leaves
-forget_own : (seat : ℕ) (notes : List Noted) → filter (λ (note : Noted). note.seat == seat) (filter (λ (note : Noted). not (note.seat == seat)) notes) ≡ []
+forget_own : (seat : ℕ) (pending : List PendingMark) → filter (λ (note : PendingMark). note.seat == seat) (filter (λ (note : PendingMark). not (note.seat == seat)) pending) ≡ []
 forget_own seat [] = refl
-forget_own seat (note ∷ notes) =
+forget_own seat (note ∷ pending) =
     elim (eqb_tells note.seat seat) [
-      | inl h ↦ rw h.0 (forget_own seat notes)
-      | inr h ↦ rw (h.0, h.0) (forget_own seat notes)
+      | inl h ↦ rw h.0 (forget_own seat pending)
+      | inr h ↦ rw (h.0, h.0) (forget_own seat pending)
     ]
 
-forget_none : (seat other : ℕ) (notes : List Noted) → other ≢ seat
-    → filter (λ (note : Noted). note.seat == other) (filter (λ (note : Noted). not (note.seat == seat)) notes) ≡ filter (λ (note : Noted). note.seat == other) notes
+forget_none : (seat other : ℕ) (pending : List PendingMark) → other ≢ seat
+    → filter (λ (note : PendingMark). note.seat == other) (filter (λ (note : PendingMark). not (note.seat == seat)) pending) ≡ filter (λ (note : PendingMark). note.seat == other) pending
 forget_none seat other [] different = refl
-forget_none seat other (note ∷ notes) different =
+forget_none seat other (note ∷ pending) different =
     elim (eqb_tells note.seat seat) [
-      | inl h ↦ rw (h.0, ne_eqb note.seat other (λ same. different (sym same ∙ h.1))) (forget_none seat other notes different)
+      | inl h ↦ rw (h.0, ne_eqb note.seat other (λ same. different (sym same ∙ h.1))) (forget_none seat other pending different)
       | inr h ↦
           elim (eqb_tells note.seat other) [
-            | inl own ↦ rw (h.0, own.0) (ap (λ (l : List Noted). note ∷ l) (forget_none seat other notes different))
-            | inr away ↦ rw (h.0, away.0) (forget_none seat other notes different)
+            | inl own ↦ rw (h.0, own.0) (ap (λ (l : List PendingMark). note ∷ l) (forget_none seat other pending different))
+            | inr away ↦ rw (h.0, away.0) (forget_none seat other pending different)
           ]
     ]
 
 pub fences_forget_own_marks : FencesForgetOwnMarks
 fences_forget_own_marks memory seat = (
-  forget_own seat memory.notes,
-  λ other different. forget_none seat other memory.notes different,
+  forget_own seat memory.pending,
+  λ other different. forget_none seat other memory.pending different,
 )
 
 -- one mark more: of the seat, and of another
-pub notes_of-push_own : (notes : List Noted) (note : Noted) → notes_of note.seat (notes ++ note ∷ []) ≡ notes_of note.seat notes ++ note ∷ []
-notes_of-push_own notes note =
-    filter-append (λ (n : Noted). n.seat == note.seat) notes (note ∷ [])
-    ∙ ap (λ (b : Bool). notes_of note.seat notes ++ cond b (note ∷ []) []) (eq-eqb note.seat note.seat refl)
+pub pending_of-push_own : (pending : List PendingMark) (note : PendingMark) → pending_of note.seat (pending ++ note ∷ []) ≡ pending_of note.seat pending ++ note ∷ []
+pending_of-push_own pending note =
+    filter-append (λ (n : PendingMark). n.seat == note.seat) pending (note ∷ [])
+    ∙ ap (λ (b : Bool). pending_of note.seat pending ++ cond b (note ∷ []) []) (eq-eqb note.seat note.seat refl)
 
-pub notes_of-push_other : (seat : ℕ) (notes : List Noted) (note : Noted) → seat ≢ note.seat → notes_of seat (notes ++ note ∷ []) ≡ notes_of seat notes
-notes_of-push_other seat notes note other =
-    filter-append (λ (n : Noted). n.seat == seat) notes (note ∷ [])
-    ∙ ap (λ (b : Bool). notes_of seat notes ++ cond b (note ∷ []) []) (ne_eqb note.seat seat (λ same. other (sym same)))
-    ∙ append-nil (notes_of seat notes)
+pub pending_of-push_other : (seat : ℕ) (pending : List PendingMark) (note : PendingMark) → seat ≢ note.seat → pending_of seat (pending ++ note ∷ []) ≡ pending_of seat pending
+pending_of-push_other seat pending note other =
+    filter-append (λ (n : PendingMark). n.seat == seat) pending (note ∷ [])
+    ∙ ap (λ (b : Bool). pending_of seat pending ++ cond b (note ∷ []) []) (ne_eqb note.seat seat (λ same. other (sym same)))
+    ∙ append-nil (pending_of seat pending)

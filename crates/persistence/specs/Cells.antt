@@ -15,12 +15,12 @@ fresh_memory words taken seats = record {
   now = record { words = words; taken = taken; pins = replicate seats 0 };
   past = [];
   floors = replicate (length words) 0;
-  notes = [];
+  pending = [];
 }
 
 -- the memory takes the ask: its place is one that it has
-abbrev pub TakesAsk : Memory → Ask → Type 0
-TakesAsk memory ask = WordsTake (length memory.now.pins) memory.now ask
+abbrev pub MemoryTakes : Memory → Ask → Type 0
+MemoryTakes memory ask = WordsTake (length memory.now.pins) memory.now ask
 
 -- after an ask of this seat: the memory after it, and room for one step less
 abbrev pub cells_after : CellsNow → ℕ → Ask → CellsNow

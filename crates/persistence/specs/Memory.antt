@@ -15,7 +15,7 @@ pub record Replaced : Type 0 where
   pub value : ℕ
 
 -- a mark: by which seat, of which image word, and how many values had been replaced by then, of all words together
-pub record Noted : Type 0 where
+pub record PendingMark : Type 0 where
   pub seat : ℕ
   pub word : ℕ
   pub time : ℕ
@@ -26,7 +26,7 @@ pub record Memory : Type 0 where
   pub now : SharedWords
   pub past : List Replaced
   pub floors : List ℕ
-  pub notes : List Noted
+  pub pending : List PendingMark
 
 -- the values that a word held, the oldest first
 abbrev pub values_of : List Replaced → ℕ → List ℕ
@@ -72,29 +72,29 @@ abbrev pub past_after : List Replaced → Ask → ℕ → List Replaced
 past_after past ask found = replaced_at (stores ask found) (place 0 ask) found past
 
 -- the floors after a fence of this seat over these marks: each rises to the time of the seat's marks of its word
-abbrev pub raised : ℕ → List Noted → List ℕ → List ℕ
-raised seat [] floors = floors
-raised seat (note ∷ notes) floors =
-    raised seat notes (if note.seat == seat then slice_set floors note.word (max (slice_index floors note.word) note.time) else floors)
+abbrev pub floors_raised_by : ℕ → List PendingMark → List ℕ → List ℕ
+floors_raised_by seat [] floors = floors
+floors_raised_by seat (note ∷ pending) floors =
+    floors_raised_by seat pending (if note.seat == seat then slice_set floors note.word (max (slice_index floors note.word) note.time) else floors)
 
-abbrev pub floors_after : List ℕ → ℕ → Ask → List Noted → List ℕ
-floors_after floors seat Fence notes = raised seat notes floors
-floors_after floors seat (Load p) notes = floors
-floors_after floors seat (Store p value) notes = floors
-floors_after floors seat (Exchange p before after) notes = floors
-floors_after floors seat (SetBits p bits) notes = floors
-floors_after floors seat (ClearBits p bits) notes = floors
-floors_after floors seat (Mark word) notes = floors
+abbrev pub floors_after : List ℕ → ℕ → Ask → List PendingMark → List ℕ
+floors_after floors seat Fence pending = floors_raised_by seat pending floors
+floors_after floors seat (Load p) pending = floors
+floors_after floors seat (Store p value) pending = floors
+floors_after floors seat (Exchange p before after) pending = floors
+floors_after floors seat (SetBits p bits) pending = floors
+floors_after floors seat (ClearBits p bits) pending = floors
+floors_after floors seat (Mark word) pending = floors
 
 -- the marks after an ask of this seat: a mark is added, and a fence forgets those of its seat
-abbrev pub notes_after : List Noted → ℕ → Ask → ℕ → List Noted
-notes_after notes seat (Mark word) time = notes ++ record { seat = seat; word = word; time = time } ∷ []
-notes_after notes seat Fence time = filter (λ (note : Noted). not (note.seat == seat)) notes
-notes_after notes seat (Load p) time = notes
-notes_after notes seat (Store p value) time = notes
-notes_after notes seat (Exchange p before after) time = notes
-notes_after notes seat (SetBits p bits) time = notes
-notes_after notes seat (ClearBits p bits) time = notes
+abbrev pub pending_after : List PendingMark → ℕ → Ask → ℕ → List PendingMark
+pending_after pending seat (Mark word) time = pending ++ record { seat = seat; word = word; time = time } ∷ []
+pending_after pending seat Fence time = filter (λ (note : PendingMark). not (note.seat == seat)) pending
+pending_after pending seat (Load p) time = pending
+pending_after pending seat (Store p value) time = pending
+pending_after pending seat (Exchange p before after) time = pending
+pending_after pending seat (SetBits p bits) time = pending
+pending_after pending seat (ClearBits p bits) time = pending
 
 -- the number that an ask finds, and its answer
 abbrev pub found : Memory → Ask → ℕ
@@ -108,10 +108,10 @@ abbrev pub memory_after : Memory → ℕ → Ask → Memory
 memory_after memory seat ask = record {
   now = words_after memory.now ask;
   past = past_after memory.past ask (found memory ask);
-  floors = floors_after memory.floors seat ask memory.notes;
-  notes = notes_after memory.notes seat ask (length memory.past);
+  floors = floors_after memory.floors seat ask memory.pending;
+  pending = pending_after memory.pending seat ask (length memory.past);
 }
 
 -- the marks of one seat, the oldest first
-abbrev pub notes_of : ℕ → List Noted → List Noted
-notes_of seat notes = filter (λ (note : Noted). note.seat == seat) notes
+abbrev pub pending_of : ℕ → List PendingMark → List PendingMark
+pending_of seat pending = filter (λ (note : PendingMark). note.seat == seat) pending

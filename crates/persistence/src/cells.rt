@@ -1,7 +1,7 @@
 //! The words of an image with what they held before, and the pin and bitmap words beside them.
 
 ghost use Rattle.std.specs.Prelude.{◌≡◌, ◌<◌, ◌∷◌, ◌++◌, [], ◌-◌, max, length, true, All, IfOk, IsErr, ◌≤◌, ◌==◌, not, filter, vec_len, vec_capacity};
-ghost use Rattle.persistence.specs.Memory.{raised};
+ghost use Rattle.persistence.specs.Memory.{floors_raised_by};
 
 use asks::{Ask, Place};
 use std::alloc::{AllocError, Global};
@@ -26,16 +26,16 @@ impl Model for Replaced {
 
 /// A mark of an image word by a seat, and how many values had been replaced by then.
 #[derive(Clone, Copy)]
-struct Noted {
+struct PendingMark {
     seat: u8,
     word: u32,
     time: u64,
 }
 
-impl Model for Noted {
-    ghost use Rattle.persistence.specs.Memory.{Noted};
+impl Model for PendingMark {
+    ghost use Rattle.persistence.specs.Memory.{PendingMark};
 
-    ghost Value = { Noted };
+    ghost Value = { PendingMark };
 
     ghost view = { λ n. record { seat = n.seat; word = n.word; time = n.time } };
 
@@ -51,7 +51,7 @@ pub struct Cells {
     taken: Vec<u64>,
     pub(crate) past: Vec<Replaced>,
     pub(crate) floors: Vec<u64>,
-    notes: Vec<Noted>,
+    pending: Vec<PendingMark>,
     room: u64,
 }
 
@@ -66,25 +66,25 @@ impl Model for Cells {
         now = record { words = c.words.items; taken = c.taken.items; pins = c.pins.items };
         past = c.past.items;
         floors = c.floors.items;
-        notes = c.notes.items;
+        pending = c.pending.items;
       };
       room = c.room;
     } };
 
     ghost invariant = { λ c.
         (vec_len c.past + c.room ≤ vec_capacity c.past)
-        × (vec_len c.notes + c.room ≤ vec_capacity c.notes)
+        × (vec_len c.pending + c.room ≤ vec_capacity c.pending)
         × (vec_len c.floors ≡ vec_len c.words)
         × All (λ r. r.word < vec_len c.words) c.past.items
-        × All (λ n. n.word < vec_len c.words) c.notes.items };
+        × All (λ n. n.word < vec_len c.words) c.pending.items };
 }
 
 impl Cells {
     ghost use Rattle.asks.specs.SharedWords.{word_at, with_word, HasWord, CanLoad};
     ghost use Rattle.asks.specs.declared.ask.Place.TheVariants.{Image};
     ghost use Rattle.asks.specs.declared.ask.Ask.TheVariants.{Fence};
-    ghost use Rattle.persistence.specs.Memory.{Noted, found_answer, memory_after, replaced_at, notes_after};
-    ghost use Rattle.persistence.specs.Cells.{CellsNow, TakesAsk, fresh_memory, cells_after};
+    ghost use Rattle.persistence.specs.Memory.{PendingMark, found_answer, memory_after, replaced_at, pending_after};
+    ghost use Rattle.persistence.specs.Cells.{CellsNow, MemoryTakes, fresh_memory, cells_after};
 
     /// The memory of these image words and these words of the bitmap, for `seats` seats: each word has its one value, the pin words
     /// are 0, nothing is marked, and there is no room for a step. Only want of memory refuses it.
@@ -104,7 +104,7 @@ impl Cells {
             taken,
             past: Vec::new(alloc),
             floors,
-            notes: Vec::new(alloc),
+            pending: Vec::new(alloc),
             room: 0,
         })
     }
@@ -115,7 +115,7 @@ impl Cells {
         ensures err { IsErr result → self.new ≡ self.old }
     {
         self.past.reserve(steps as usize)?;
-        self.notes.reserve(steps as usize)?;
+        self.pending.reserve(steps as usize)?;
         self.room = self.room.max(steps);
         Ok(())
     }
@@ -170,14 +170,14 @@ impl Cells {
         requires word { HasWord (length self.old.memory.now.pins) self.old.memory.now (Image word) }
         ensures { self.new ≡ record {
           memory = record self.old.memory {
-            notes = self.old.memory.notes ++ record { seat = seat; word = word; time = length self.old.memory.past } ∷ [];
+            pending = self.old.memory.pending ++ record { seat = seat; word = word; time = length self.old.memory.past } ∷ [];
           };
           room = self.old.room - 1;
         } }
     {
         self.room -= 1;
         let time = self.past.len() as u64;
-        self.notes.push_reserved(Noted { seat, word, time });
+        self.pending.push_reserved(PendingMark { seat, word, time });
     }
 
     /// Raises the floors to what the seat has noted, and forgets that.
@@ -185,22 +185,22 @@ impl Cells {
         requires { 0 < self.old.room }
         ensures { self.new ≡ record {
           memory = record self.old.memory {
-            floors = raised seat self.old.memory.notes self.old.memory.floors;
-            notes = notes_after self.old.memory.notes seat Fence (length self.old.memory.past);
+            floors = floors_raised_by seat self.old.memory.pending self.old.memory.floors;
+            pending = pending_after self.old.memory.pending seat Fence (length self.old.memory.past);
           };
           room = self.old.room - 1;
         } }
     {
         self.room -= 1;
-        raise(&mut self.floors, &self.notes, seat);
-        forget(&mut self.notes, seat);
+        raise(&mut self.floors, &self.pending, seat);
+        forget(&mut self.pending, seat);
     }
 
     /// Performs one ask of a seat, and gives its answer. It needs room for a step, and a place that the memory has. It takes no memory.
     #[inline(always)]
     pub fn perform(&mut self, seat: u8, ask: Ask) -> u64
         requires room { 0 < self.old.room }
-        requires place { TakesAsk self.old.memory ask }
+        requires place { MemoryTakes self.old.memory ask }
         ensures answer { result ≡ found_answer self.old.memory ask }
         ensures cells { self.new ≡ cells_after self.old seat ask }
     {
@@ -245,12 +245,12 @@ impl Cells {
 }
 
 /// Raises each floor to the time of the seat's marks of its word.
-fn raise(floors: &mut [u64], notes: &[Noted], seat: u8)
-    requires { All (λ note. note.word < length floors.old) notes.now }
-    ensures floors { floors.new ≡ raised seat notes.now floors.old }
+fn raise(floors: &mut [u64], pending: &[PendingMark], seat: u8)
+    requires { All (λ note. note.word < length floors.old) pending.now }
+    ensures floors { floors.new ≡ floors_raised_by seat pending.now floors.old }
     ensures len { length floors.new ≡ length floors.old }
 {
-    for note in notes {
+    for note in pending {
         if note.seat == seat {
             let floor = &mut floors[note.word as usize];
             *floor = (*floor).max(note.time);
@@ -259,10 +259,10 @@ fn raise(floors: &mut [u64], notes: &[Noted], seat: u8)
 }
 
 /// Forgets the marks of the seat.
-fn forget(notes: &mut Vec<Noted>, seat: u8)
-    ensures items { notes.new.items ≡ filter (λ note. not (note.seat == seat)) notes.old.items }
-    ensures len { vec_len notes.new ≤ vec_len notes.old }
-    ensures room { vec_capacity notes.new ≡ vec_capacity notes.old }
+fn forget(pending: &mut Vec<PendingMark>, seat: u8)
+    ensures items { pending.new.items ≡ filter (λ note. not (note.seat == seat)) pending.old.items }
+    ensures len { vec_len pending.new ≤ vec_len pending.old }
+    ensures room { vec_capacity pending.new ≡ vec_capacity pending.old }
 {
-    notes.retain(|note| note.seat != seat);
+    pending.retain(|note| note.seat != seat);
 }

@@ -1,5 +1,5 @@
 ghost use Rattle.std.specs.Prelude.{◌≡◌, ◌<◌, ◌-◌, length};
-ghost use Rattle.persistence.specs.Cells.{TakesAsk};
+ghost use Rattle.persistence.specs.Cells.{MemoryTakes};
 
 use super::*;
 use asks::{Ask, Place};
@@ -12,7 +12,7 @@ const OTHER: Place = Place::Image(1);
 /// One step, of which the proof of a test keeps only that the words are as many and that there is room for one step less.
 fn step(cells: &mut Cells, seat: u8, ask: Ask) -> u64
     requires room { 0 < cells.old.room }
-    requires place { TakesAsk cells.old.memory ask }
+    requires place { MemoryTakes cells.old.memory ask }
     ensures words { length cells.new.memory.now.words ≡ length cells.old.memory.now.words }
     ensures room { cells.new.room ≡ cells.old.room - 1 }
 {

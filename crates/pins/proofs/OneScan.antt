@@ -4,14 +4,14 @@ use Rattle.std.proofs.lemmas.Bool.{cases_order}
 use Rattle.log_entry.specs.declared.calls.Held.{Held}
 use Rattle.pins.specs.declared.scan.Scanned.{Scanned}
 use Rattle.pins.specs.declared.scan.Scanned.TheVariants.{Clear, Held as HeldBy}
-use Rattle.pins.specs.Endings.{IsFree, IsHeld, IsScan}
+use Rattle.pins.specs.Endings.{NeedsNone, IsHeld, IsScan}
 
-not_free : (generation word value : ℕ) → word ≡ value → 0 < value → value ≤ generation → IsFree generation word → ⊥
+not_free : (generation word value : ℕ) → word ≡ value → 0 < value → value ≤ generation → NeedsNone generation word → ⊥
 not_free generation word value same some most (inl zero_is) = omega arith
 not_free generation word value same some most (inr greater) = omega arith
 
 module _ (generation seats : ℕ) (words : List ℕ) where
-  held_not_free : (held : Held) → IsHeld generation seats words held → IsFree generation (slice_index words held.seat) → ⊥
+  held_not_free : (held : Held) → IsHeld generation seats words held → NeedsNone generation (slice_index words held.seat) → ⊥
   held_not_free held is free = not_free generation (slice_index words held.seat) held.generation is.word is.some is.most free
 
   one_held : (a b : Held) → IsHeld generation seats words a → IsHeld generation seats words b → (a.seat ≡ b.seat) ⊎ ((a.seat < b.seat) ⊎ (b.seat < a.seat)) → a ≡ b

@@ -11,21 +11,21 @@ use Rattle.pmem_words.specs.declared.machine.Turn.TheVariants.{Go, Done}
 use Rattle.persistence.specs.Memory.{cell}
 use Rattle.log_core.specs.Entries.{head_place}
 use Rattle.log_core.specs.Views.{Ghost}
-use Rattle.log_core.specs.Origin.{Origin, q_of}
+use Rattle.log_core.specs.Origin.{Origin, q_of_origin}
 use Rattle.log_core.specs.Cores.{Core}
-use Rattle.log_core.specs.Steps.{Kind, LoadsHead, StoresOwnPin, NoKind, effect, ghost_after, kind_of}
+use Rattle.log_core.specs.Steps.{Kind, LoadsHead, StoresOwnPin, NoKind, effect, ghost_after, kind_of_ask}
 use Rattle.log_core.specs.May.{May, MayStoreOwnPin, IsOfferedKind}
 use Rattle.log_core.specs.Invariant.{Invariant}
 use Rattle.log_core.specs.Knows.{Knows}
 use Rattle.log_core.specs.Within.{no_record, adds_at, EntersOffered, Lawful, Serves}
 use Rattle.log_core.proofs.Heads.{head_generation, was_low}
-use Rattle.log_core.proofs.Serving.{leads_within}
-use Rattle.log_core.proofs.StartMeets.{start_meets}
+use Rattle.log_core.proofs.machines.Serving.{leads_within}
+use Rattle.log_core.proofs.starts.StartMeets.{start_meets}
 use Rattle.pins.specs.declared.pin.Pin.TheVariants.{Begin, Publish, Confirm}
 use Rattle.pins.specs.Steps.{generation_in, head_of, head_found, head_found_if, pin_stored}
 use Rattle.pins.specs.Pinning.{pin_script, pin_lowers, confirm_after, confirm_turn}
 use Rattle.pins.specs.Unpinning.{unpin_of, unpin_script, unpin_lowers}
-use Rattle.pins.specs.Within.{MayPin, PinStands, IsPinned, IsUnpinned, PinsWithin, UnpinsWithin}
+use Rattle.pins.specs.Within.{MayPin, PinStands, HasPinned, HasUnpinned, PinsWithin, UnpinsWithin}
 
 -- a part of a call adds no record
 pub none_at : {Out : Type 0} → (s : Seat) (turn : Turn Out) → adds_at no_record s turn ≡ []
@@ -69,11 +69,11 @@ entered g e t same = record {
 
 module _ (o : Origin) (seat : ℕ) where
   -- at each stage the head is loaded, or the own pin word stored
-  publish_kind : (s : Seat) → s.number ≡ seat → kind_of (q_of o) seat (pin_script.asks Publish s) ≡ StoresOwnPin (generation_in s.hold.head)
+  publish_kind : (s : Seat) → s.number ≡ seat → kind_of_ask (q_of_origin o) seat (pin_script.asks Publish s) ≡ StoresOwnPin (generation_in s.hold.head)
   publish_kind s number = ap (λ (b : Bool). if b then StoresOwnPin (generation_in s.hold.head) else NoKind) (eq-eqb s.number seat number)
 
   -- which generation a pin ends with
-  ends_by : (b : Bool) (s : Seat) (g : Ghost) (a : ℕ) (out : Head) → (s.hold.pin == generation_in a) ≡ b → MayPin seat s g → (confirm_turn b a) ≡ Done out → IsPinned seat out (head_found_if b s a) g
+  ends_by : (b : Bool) (s : Seat) (g : Ghost) (a : ℕ) (out : Head) → (s.hold.pin == generation_in a) ≡ b → MayPin seat s g → (confirm_turn b a) ≡ Done out → HasPinned seat out (head_found_if b s a) g
   ends_by true s g a out e may done =
       (let same : head_of a ≡ out = cc in
       let pin : s.hold.pin ≡ generation_in a = eqb-true s.hold.pin (generation_in a) e in
@@ -90,7 +90,7 @@ module _ (o : Origin) (seat : ℕ) where
   goes_by true s g a may go = cc
   goes_by false s g a may go = record { number = may.number; no_marks = may.no_marks }
 
-  begin_lawful : (s : Seat) (g : Ghost) → MayPin seat s g → Lawful o seat pin_script no_record (PinStands seat) (IsPinned seat) Begin s g
+  begin_lawful : (s : Seat) (g : Ghost) → MayPin seat s g → Lawful o seat pin_script no_record (PinStands seat) (HasPinned seat) Begin s g
   begin_lawful s g may = record {
     may = λ c pin began inv unspent knows. tt;
     offered = tt;
@@ -117,19 +117,19 @@ module _ (o : Origin) (seat : ℕ) where
   ghost_stored : (s : Seat) (g : Ghost) (value : ℕ) (kind : Kind) → kind ≡ StoresOwnPin value → (f : ℕ) → ghost_after g s (effect g.marks s kind f) kind f ≡ g
   ghost_stored s g value kind e f = ap (λ (k : Kind). ghost_after g s (effect g.marks s k f) k f) e
 
-  publish_lawful : (s : Seat) (g : Ghost) → MayPin seat s g → Lawful o seat pin_script no_record (PinStands seat) (IsPinned seat) Publish s g
+  publish_lawful : (s : Seat) (g : Ghost) → MayPin seat s g → Lawful o seat pin_script no_record (PinStands seat) (HasPinned seat) Publish s g
   publish_lawful s g may = record {
     may = λ c pin began inv unspent knows. subst (λ (k : Kind). May o c g s k) (sym is) (store_may s g may);
     offered = subst (λ (k : Kind). IsOfferedKind s k) (sym is) tt;
     admitted = λ c pin began inv unspent knows. tt;
-    enters = λ f found admits. stored_lawful s g (generation_in s.hold.head) (kind_of (q_of o) seat (pin_script.asks Publish s)) is f;
+    enters = λ f found admits. stored_lawful s g (generation_in s.hold.head) (kind_of_ask (q_of_origin o) seat (pin_script.asks Publish s)) is f;
     none_added = λ f found admits. refl;
-    goes = λ f found admits go. subst (λ (h : Ghost). PinStands seat Confirm (pin_stored s (generation_in s.hold.head)) h) (sym (ghost_stored s g (generation_in s.hold.head) (kind_of (q_of o) seat (pin_script.asks Publish s)) is f))
+    goes = λ f found admits go. subst (λ (h : Ghost). PinStands seat Confirm (pin_stored s (generation_in s.hold.head)) h) (sym (ghost_stored s g (generation_in s.hold.head) (kind_of_ask (q_of_origin o) seat (pin_script.asks Publish s)) is f))
         (record { number = may.number; no_marks = may.no_marks }, refl);
     ends = λ f out found admits done. cc;
   }
     where
-      is : kind_of (q_of o) seat (pin_script.asks Publish s) ≡ StoresOwnPin (generation_in s.hold.head)
+      is : kind_of_ask (q_of_origin o) seat (pin_script.asks Publish s) ≡ StoresOwnPin (generation_in s.hold.head)
       is = publish_kind s may.number
 
   -- the generation stored is of a head that was, so the head found again is of none before it
@@ -142,7 +142,7 @@ module _ (o : Origin) (seat : ℕ) where
   confirm_none : (b : Bool) (s : Seat) (a : ℕ) → adds_at no_record (head_found s a) (confirm_turn b a) ≡ []
   confirm_none b s a = none_at (head_found s a) (confirm_turn b a)
 
-  confirm_lawful : (s : Seat) (g : Ghost) → MayPin seat s g → s.hold.pin ≡ generation_in s.hold.head → Lawful o seat pin_script no_record (PinStands seat) (IsPinned seat) Confirm s g
+  confirm_lawful : (s : Seat) (g : Ghost) → MayPin seat s g → s.hold.pin ≡ generation_in s.hold.head → Lawful o seat pin_script no_record (PinStands seat) (HasPinned seat) Confirm s g
   confirm_lawful s g may is = record {
     may = λ c pin began inv unspent knows. tt;
     offered = tt;
@@ -154,32 +154,32 @@ module _ (o : Origin) (seat : ℕ) where
     ends = λ f out found admits done. ends_by (s.hold.pin == generation_in f) s g f out refl may done;
   }
 
-  pub pin_serves : Serves o seat pin_script no_record (PinStands seat) (IsPinned seat)
+  pub pin_serves : Serves o seat pin_script no_record (PinStands seat) (HasPinned seat)
   pin_serves Begin s g stands = begin_lawful s g stands
   pin_serves Publish s g stands = publish_lawful s g stands
   pin_serves Confirm s g stands = confirm_lawful s g stands.0 stands.1
 
-  unpin_kind : (s : Seat) → s.number ≡ seat → kind_of (q_of o) seat (unpin_script.asks unpin_of s) ≡ StoresOwnPin 0
+  unpin_kind : (s : Seat) → s.number ≡ seat → kind_of_ask (q_of_origin o) seat (unpin_script.asks unpin_of s) ≡ StoresOwnPin 0
   unpin_kind s number = ap (λ (b : Bool). if b then StoresOwnPin 0 else NoKind) (eq-eqb s.number seat number)
 
-  pub unpin_serves : Serves o seat unpin_script no_record (λ m s g. MayPin seat s g) (IsUnpinned seat)
+  pub unpin_serves : Serves o seat unpin_script no_record (λ m s g. MayPin seat s g) (HasUnpinned seat)
   unpin_serves m s g may = record {
     may = λ c pin began inv unspent knows. subst (λ (k : Kind). May o c g s k) (sym is) (record { value_is = inl refl; no_marks = may.no_marks });
     offered = subst (λ (k : Kind). IsOfferedKind s k) (sym is) tt;
     admitted = λ c pin began inv unspent knows. tt;
-    enters = λ f found admits. stored_lawful s g 0 (kind_of (q_of o) seat (unpin_script.asks m s)) is f;
+    enters = λ f found admits. stored_lawful s g 0 (kind_of_ask (q_of_origin o) seat (unpin_script.asks m s)) is f;
     none_added = λ f found admits. refl;
     goes = λ f found admits go. cc;
     ends = λ f out found admits done. record { number = may.number; pin = refl; valid = refl; none_kept = refl };
   }
     where
-      is : kind_of (q_of o) seat (unpin_script.asks m s) ≡ StoresOwnPin 0
+      is : kind_of_ask (q_of_origin o) seat (unpin_script.asks m s) ≡ StoresOwnPin 0
       is = unpin_kind s may.number
 
 pub pins_within : PinsWithin
-pins_within o start seat number rest s v linked = leads_within o (start_meets o start) seat number pin_script no_record (PinStands seat) (IsPinned seat) (pin_serves o seat) pin_lowers rest Begin s v
+pins_within o start seat number rest s v linked = leads_within o (start_meets o start) seat number pin_script no_record (PinStands seat) (HasPinned seat) (pin_serves o seat) pin_lowers rest Begin s v
     (record { unspent = linked.unspent; begins = linked.begins; offered = linked.offered; number_is = linked.number_is; done = linked.done; fits = linked.fits })
 
 pub unpins_within : UnpinsWithin
-unpins_within o start seat number rest s v linked = leads_within o (start_meets o start) seat number unpin_script no_record (λ m t g. MayPin seat t g) (IsUnpinned seat) (unpin_serves o seat) unpin_lowers rest unpin_of s v
+unpins_within o start seat number rest s v linked = leads_within o (start_meets o start) seat number unpin_script no_record (λ m t g. MayPin seat t g) (HasUnpinned seat) (unpin_serves o seat) unpin_lowers rest unpin_of s v
     (record { unspent = linked.unspent; begins = linked.begins; offered = linked.offered; number_is = linked.number_is; done = linked.done; fits = linked.fits })

@@ -11,7 +11,7 @@ use Rattle.pins.specs.declared.scan.Scan.{Scan}
 use Rattle.pins.specs.declared.scan.Scanned.{Scanned}
 use Rattle.pins.specs.Steps.{with_seen, seen_after}
 use Rattle.pins.specs.Scanning.{needs, scan_at, scan_of, scan_after, scan_script}
-use Rattle.pins.specs.Endings.{IsFree, IsScan, IsFirst, IsHeard, loads}
+use Rattle.pins.specs.Endings.{NeedsNone, IsScan, IsFirst, IsHeard, loads}
 use Rattle.pins.proofs.ScanLemmas.{SoFar, none_yet, one_more, more_seen, goes_free, ends_found}
 
 -- it ended after so many answers in all, the first ones of these words
@@ -51,7 +51,7 @@ module _ {W : Type 0} (course : Course Scan W) (generation : ℕ) (s : Seat) (wo
       (subst (λ (x : Seat). (scan_after m x last).seat ≡ t) (sym goes.1) leaves))
   found_from (a ∷ answers) n total seen w m u v all left far at goes stop leaves =
       let here : slice_index words n ≡ a = subst (λ (k : ℕ). slice_index words k ≡ a) (omega arith) (at 0) in
-      let on : IsFree generation a × (n + 1 < s.seats) = goes_free (needs generation a) (scan_at generation n) (with_seen s seen) a refl goes.2 in
+      let on : NeedsNone generation a × (n + 1 < s.seats) = goes_free (needs generation a) (scan_at generation n) (with_seen s seen) a refl goes.2 in
       found_from answers (n + 1) total (seen_after n seen a) goes.0 m u v (omega arith) on.1 (one_more generation n words seen a far here on.0)
       (λ k. subst (λ (x : ℕ). slice_index words x ≡ slice_index (answers ++ last ∷ []) k) (omega arith) (at (suc k)))
       goes.3 stop leaves
@@ -91,7 +91,7 @@ lifted generation n seen a far =
     record {
       in_order = far.in_order;
       first = record { count = long; each = λ k below. sym (get_or_append_left (take n seen) (a ∷ []) 0 k (omega arith)) };
-      free = λ k below. subst (λ (x : ℕ). IsFree generation x) (sym (get_or_append_left (take n seen) (a ∷ []) 0 k (omega arith))) (far.free k below);
+      free = λ k below. subst (λ (x : ℕ). NeedsNone generation x) (sym (get_or_append_left (take n seen) (a ∷ []) 0 k (omega arith))) (far.free k below);
     }
 
 module _ (generation : ℕ) (s : Seat) where
@@ -99,7 +99,7 @@ module _ (generation : ℕ) (s : Seat) where
       → (scan_after (scan_at generation n) (with_seen s seen) a).turn ≡ Go
       → IsAlong generation s (scan_after (scan_at generation n) (with_seen s seen) a).machine (scan_after (scan_at generation n) (with_seen s seen) a).seat
   goes_along n seen a left far go =
-      let on : IsFree generation a × (n + 1 < s.seats) = goes_free (needs generation a) (scan_at generation n) (with_seen s seen) a refl go in
+      let on : NeedsNone generation a × (n + 1 < s.seats) = goes_free (needs generation a) (scan_at generation n) (with_seen s seen) a refl go in
       let more : SoFar generation (n + 1) (seen_after n seen a) (seen_after n seen a) =
       one_more generation n (seen_after n seen a) seen a (lifted generation n seen a far) (get_or_push (take n seen) a 0 n far.first.count) on.0 in
       let long : length (seen_after n seen a) ≡ n + 1 = length_push (take n seen) a ∙ ap (λ (x : ℕ). x + 1) far.first.count in

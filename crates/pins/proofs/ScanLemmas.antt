@@ -10,13 +10,13 @@ use Rattle.pins.specs.declared.scan.Scanned.{Scanned}
 use Rattle.pins.specs.declared.scan.Scanned.TheVariants.{Clear, Held}
 use Rattle.pins.specs.Steps.{seen_after}
 use Rattle.pins.specs.Scanning.{needs, if_left, scan_turn}
-use Rattle.pins.specs.Endings.{IsFree, AreFree, IsScan, IsFirst, loads}
+use Rattle.pins.specs.Endings.{NeedsNone, AreFree, IsScan, IsFirst, loads}
 
-free_at : (generation word : ℕ) → (nat_lt 0 word ≡ false) ⊎ (nat_le word generation ≡ false) → IsFree generation word
+free_at : (generation word : ℕ) → (nat_lt 0 word ≡ false) ⊎ (nat_le word generation ≡ false) → NeedsNone generation word
 free_at generation word (inl none) = inl (let h : word ≤ 0 = ltb-false 0 word none in omega arith)
 free_at generation word (inr greater) = inr (leb-false word generation greater)
 
-pub is_free : (generation word : ℕ) → needs generation word ≡ false → IsFree generation word
+pub is_free : (generation word : ℕ) → needs generation word ≡ false → NeedsNone generation word
 is_free generation word e = free_at generation word (and_cases (nat_lt 0 word) (nat_le word generation) e)
 
 goes_left : (b : Bool) (next seats : ℕ) → nat_lt next seats ≡ b → if_left b ≡ Go → next < seats
@@ -24,19 +24,19 @@ goes_left true next seats e go = ltb-true next seats e
 goes_left false next seats e go = cc
 
 -- it goes on after a pin word that is free, where a seat is left
-pub goes_free : (b : Bool) (m : Scan) (s : Seat) (a : ℕ) → needs m.generation a ≡ b → scan_turn b m s a ≡ Go → IsFree m.generation a × (m.next + 1 < s.seats)
+pub goes_free : (b : Bool) (m : Scan) (s : Seat) (a : ℕ) → needs m.generation a ≡ b → scan_turn b m s a ≡ Go → NeedsNone m.generation a × (m.next + 1 < s.seats)
 goes_free true m s a e go = cc
 goes_free false m s a e go = (is_free m.generation a e, goes_left (nat_lt (m.next + 1) s.seats) (m.next + 1) s.seats refl go)
 
 module _ (m : Scan) (s : Seat) (a : ℕ) (words : List ℕ) (out : Scanned) (left : m.next < s.seats) (here : slice_index words m.next ≡ a) (free : AreFree m.generation m.next words) where
-  ends_left : (b : Bool) → nat_lt (m.next + 1) s.seats ≡ b → IsFree m.generation a → if_left b ≡ Done out → IsScan m.generation s.seats words out × (loads s.seats out ≡ m.next + 1)
+  ends_left : (b : Bool) → nat_lt (m.next + 1) s.seats ≡ b → NeedsNone m.generation a → if_left b ≡ Done out → IsScan m.generation s.seats words out × (loads s.seats out ≡ m.next + 1)
   ends_left true e is_free stop = cc
   ends_left false e is_free stop =
       let last : s.seats ≡ m.next + 1 = (let most : s.seats ≤ m.next + 1 = ltb-false (m.next + 1) s.seats e in omega arith) in
       let same : Clear ≡ out = cc in
       subst (λ (o : Scanned). IsScan m.generation s.seats words o × (loads s.seats o ≡ m.next + 1)) same (
         subst (λ (n : ℕ). AreFree m.generation n words) (sym last)
-            (below_more (λ k. IsFree m.generation (slice_index words k)) m.next free (subst (λ (x : ℕ). IsFree m.generation x) (sym here) is_free)),
+            (below_more (λ k. NeedsNone m.generation (slice_index words k)) m.next free (subst (λ (x : ℕ). NeedsNone m.generation x) (sym here) is_free)),
         last,
       )
 
@@ -71,11 +71,11 @@ none_yet generation words seen = record {
   free = λ k below. absurd (omega arith);
 }
 
-pub one_more : (generation n : ℕ) (words seen : List ℕ) (a : ℕ) → SoFar generation n words seen → slice_index words n ≡ a → IsFree generation a → SoFar generation (n + 1) words (seen_after n seen a)
+pub one_more : (generation n : ℕ) (words seen : List ℕ) (a : ℕ) → SoFar generation n words seen → slice_index words n ≡ a → NeedsNone generation a → SoFar generation (n + 1) words (seen_after n seen a)
 one_more generation n words seen a h here is_free =
     let more : IsFirst (n + 1) words (seen_after n seen a) = more_seen n words seen a h.first here in
     record {
       in_order = λ some. more.count;
       first = subst (λ (x : List ℕ). IsFirst (n + 1) words x) (sym (take_all (n + 1) (seen_after n seen a) (let long : length (seen_after n seen a) ≡ n + 1 = more.count in omega arith))) more;
-      free = below_more (λ k. IsFree generation (slice_index words k)) n h.free (subst (λ (x : ℕ). IsFree generation x) (sym here) is_free);
+      free = below_more (λ k. NeedsNone generation (slice_index words k)) n h.free (subst (λ (x : ℕ). NeedsNone generation x) (sym here) is_free);
     }

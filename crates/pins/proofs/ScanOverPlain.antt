@@ -12,7 +12,7 @@ use Rattle.pmem_words.specs.declared.machine.Turn.TheVariants.{Go, Done}
 use Rattle.pins.specs.declared.scan.Scanned.{Scanned}
 use Rattle.pins.specs.Steps.{with_seen, seen_after}
 use Rattle.pins.specs.Scanning.{needs, scan_at, scan_of, scan_turn, scan_script}
-use Rattle.pins.specs.Endings.{IsFree, IsScan, IsFirst, loads}
+use Rattle.pins.specs.Endings.{NeedsNone, IsScan, IsFirst, loads}
 use Rattle.pins.proofs.ScanLemmas.{SoFar, none_yet, one_more, more_seen, goes_free, ends_found}
 
 module _ (Q : Scanned → Seat → SharedWords → Type 0) (generation : ℕ) (s : Seat) (w : SharedWords) (few : s.seats ≤ SEATS)
@@ -32,7 +32,7 @@ module _ (Q : Scanned → Seat → SharedWords → Type 0) (generation : ℕ) (s
       (λ small. record { left = here; few = few; seen = far.in_order })
       (by_turn (scan_turn (needs generation (slice_index w.pins n)) (scan_at generation n) (with_seen s seen) (slice_index w.pins n)) (n + 1) (seen_after n seen (slice_index w.pins n))
       (λ go.
-      let on : IsFree generation (slice_index w.pins n) × (n + 1 < s.seats) = goes_free (needs generation (slice_index w.pins n)) (scan_at generation n) (with_seen s seen) (slice_index w.pins n) refl go in
+      let on : NeedsNone generation (slice_index w.pins n) × (n + 1 < s.seats) = goes_free (needs generation (slice_index w.pins n)) (scan_at generation n) (with_seen s seen) (slice_index w.pins n) refl go in
       scan_rest left (n + 1) (seen_after n seen (slice_index w.pins n)) (omega arith) on.1 (one_more generation n w.pins seen (slice_index w.pins n) far refl on.0))
       (λ out stop.
       let found : IsScan generation s.seats w.pins out × (loads s.seats out ≡ n + 1) = ends_found (scan_at generation n) (with_seen s seen) (slice_index w.pins n) w.pins out here refl far.free (needs generation (slice_index w.pins n)) refl stop in

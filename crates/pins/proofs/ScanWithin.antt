@@ -9,9 +9,9 @@ use Rattle.pmem_words.specs.declared.machine.Turn.TheVariants.{Go, Done}
 use Rattle.log_core.specs.Views.{Ghost}
 use Rattle.log_core.specs.Origin.{Origin}
 use Rattle.log_core.specs.Within.{no_record, adds_at, EntersOffered, Serves}
-use Rattle.log_core.proofs.OneView.{same_or_other}
-use Rattle.log_core.proofs.Serving.{leads_within}
-use Rattle.log_core.proofs.StartMeets.{start_meets}
+use Rattle.log_core.proofs.clauses.OneView.{same_or_other}
+use Rattle.log_core.proofs.machines.Serving.{leads_within}
+use Rattle.log_core.proofs.starts.StartMeets.{start_meets}
 use Rattle.pins.specs.declared.scan.Scan.{Scan}
 use Rattle.pins.specs.declared.scan.Scanned.{Scanned}
 use Rattle.pins.specs.declared.scan.Scanned.TheVariants.{Clear, Held}

@@ -23,12 +23,12 @@ pub record HasPin (word : ℕ) (head : Head) (t : Seat) : Type 0 where
   pub valid : t.hold.valid ≡ true
 
 -- a pin word that needs no block of a generation: it is 0, or greater
-abbrev pub IsFree : ℕ → ℕ → Type 0
-IsFree generation word = (word ≡ 0) ⊎ (generation < word)
+abbrev pub NeedsNone : ℕ → ℕ → Type 0
+NeedsNone generation word = (word ≡ 0) ⊎ (generation < word)
 
 -- the first n of these pin words
 abbrev pub AreFree : ℕ → ℕ → List ℕ → Type 0
-AreFree generation n words = (k : ℕ) → k < n → IsFree generation (slice_index words k)
+AreFree generation n words = (k : ℕ) → k < n → NeedsNone generation (slice_index words k)
 
 -- the first of these pin words that is not free, of the seats below `seats`
 pub record IsHeld (generation seats : ℕ) (words : List ℕ) (held : Held) : Type 0 where

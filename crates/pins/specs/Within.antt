@@ -9,7 +9,7 @@ use Rattle.pmem_words.specs.Leads.{Leads}
 use Rattle.log_core.specs.Views.{View, Ghost}
 use Rattle.log_core.specs.Origin.{Origin}
 use Rattle.log_core.specs.Starts.{IsStart}
-use Rattle.log_core.specs.Within.{no_record, within, IsLinked, IsLeft}
+use Rattle.log_core.specs.Within.{no_record, within, IsLinkedToView, IsLeft}
 use Rattle.pins.specs.declared.pin.Pin.{Pin}
 use Rattle.pins.specs.declared.pin.Pin.TheVariants.{Begin, Publish, Confirm}
 use Rattle.pins.specs.declared.scan.Scan.{Scan}
@@ -32,7 +32,7 @@ PinStands seat Publish s g = MayPin seat s g
 PinStands seat Confirm s g = MayPin seat s g × (s.hold.pin ≡ generation_in s.hold.head)
 
 -- the pin is valid, and names the generation of the head found last, which is the outcome
-pub record IsPinned (seat : ℕ) (out : Head) (s : Seat) (g : Ghost) : Type 0 where
+pub record HasPinned (seat : ℕ) (out : Head) (s : Seat) (g : Ghost) : Type 0 where
   pub may : MayPin seat s g
   pub head : out ≡ head_of s.hold.head
   pub valid : s.hold.valid ≡ true
@@ -40,7 +40,7 @@ pub record IsPinned (seat : ℕ) (out : Head) (s : Seat) (g : Ghost) : Type 0 wh
   pub generation : s.hold.generation ≡ out.generation
 
 -- the pin is given up
-pub record IsUnpinned (seat : ℕ) (out : Unit {0}) (s : Seat) (g : Ghost) : Type 0 where
+pub record HasUnpinned (seat : ℕ) (out : Unit {0}) (s : Seat) (g : Ghost) : Type 0 where
   pub number : s.number ≡ seat
   pub pin : s.hold.pin ≡ 0
   pub valid : s.hold.valid ≡ false
@@ -67,13 +67,13 @@ pub record HasScanned (o : Origin) (generation : ℕ) (out : Scanned) (s : Seat)
 -- from each start, at each seat, and whatever other seats do between its steps: each of the machine's asks is a step that the core
 -- allows, each answer that comes there is admitted, and it ends so
 abbrev pub PinsWithin : Type 0
-PinsWithin = (o : Origin) → IsStart o → (seat number : ℕ) (rest : List Call) (s : Seat) (v : View) → IsLinked number rest (MayPin seat) s v →
-    Leads pin_script (within o seat number pin_script no_record) (IsLeft rest no_record (IsPinned seat)) Begin s v
+PinsWithin = (o : Origin) → IsStart o → (seat number : ℕ) (rest : List Call) (s : Seat) (v : View) → IsLinkedToView number rest (MayPin seat) s v →
+    Leads pin_script (within o seat number pin_script no_record) (IsLeft rest no_record (HasPinned seat)) Begin s v
 
 abbrev pub UnpinsWithin : Type 0
-UnpinsWithin = (o : Origin) → IsStart o → (seat number : ℕ) (rest : List Call) (s : Seat) (v : View) → IsLinked number rest (MayPin seat) s v →
-    Leads unpin_script (within o seat number unpin_script no_record) (IsLeft rest no_record (IsUnpinned seat)) unpin_of s v
+UnpinsWithin = (o : Origin) → IsStart o → (seat number : ℕ) (rest : List Call) (s : Seat) (v : View) → IsLinkedToView number rest (MayPin seat) s v →
+    Leads unpin_script (within o seat number unpin_script no_record) (IsLeft rest no_record (HasUnpinned seat)) unpin_of s v
 
 abbrev pub ScansWithin : Type 0
-ScansWithin = (o : Origin) → IsStart o → (seat number generation : ℕ) (rest : List Call) (s : Seat) (v : View) → IsLinked number rest (ScanStands o seat (scan_of generation)) s v →
+ScansWithin = (o : Origin) → IsStart o → (seat number generation : ℕ) (rest : List Call) (s : Seat) (v : View) → IsLinkedToView number rest (ScanStands o seat (scan_of generation)) s v →
     Leads scan_script (within o seat number scan_script no_record) (IsLeft rest no_record (HasScanned o generation)) (scan_of generation) s v

@@ -1,11 +1,11 @@
 -- What the numbers that an engine keeps are bounded by.
-use Rattle.std.proofs.Common.{◌≡◌, ◌<◌, ◌≤◌, ◌+◌, ◌*◌, ◌/◌, ◌==◌, ◌^◌, ◌⊎◌, ℕ, zero, suc, Bool, true, false, List, [], ◌∷◌, ◌++◌, length, Some, if◌then◌else◌, refl, sym, ap, ◌∙◌, subst, arith, nat_le, length-drop}
-use Rattle.log_image.proofs.HoldingLemmas.{both_right}
+use Rattle.std.proofs.Common.{◌≡◌, ◌<◌, ◌≤◌, ◌+◌, ◌*◌, ◌/◌, ◌==◌, ◌^◌, ◌⊎◌, ℕ, nat_lt, zero, suc, Bool, true, false, List, [], ◌∷◌, ◌++◌, length, Some, if◌then◌else◌, refl, sym, ap, ◌∙◌, subst, arith, nat_le, length-drop}
+use Rattle.log_image.proofs.HoldingLemmas.{both_left, both_right}
 use Rattle.std.proofs.Math.Logic.{∥∥₁_elim}
-use Rattle.std.proofs.Math.Nat.{ℕ_set}
+use Rattle.std.proofs.Math.Nat.{ℕ_set, mul-le-mul_right}
 use Rattle.std.proofs.Math.Bridge.{le_prop}
 use Rattle.std.proofs.Math.Bool.{Bool-set}
-use Rattle.std.proofs.lemmas.Bool.{eqb-true, leb-true}
+use Rattle.std.proofs.lemmas.Bool.{eqb-true, leb-true, ltb-true}
 use Rattle.block_table.specs.FileMap.{FileMap, block_at}
 use Rattle.log_image.specs.Image.{Shape, words_in, total, is_in_data, is_in_log, block_words}
 use Rattle.log_image.specs.Header.{shape_of}
@@ -108,3 +108,10 @@ set_bits shape words taken table position tail_block tail_slot first_clear kept 
 
 pub header_bit : (shape : Shape) (words taken : List ℕ) (table : FileMap) (position tail_block tail_slot first_clear : ℕ) → ∥ RunsOnSome shape words taken table position tail_block tail_slot first_clear ∥₁ → bit_of taken 0 ≡ 1
 header_bit shape words taken table position tail_block tail_slot first_clear kept = ∥∥₁_elim kept (ℕ_set _ _) (λ some. some.runs.fits.bitmap.bits 0 (omega arith))
+
+-- a block of the log area is past block 0
+pub past_first : (shape : Shape) (block : ℕ) → is_in_log shape block ≡ true → words_in shape ≤ block * words_in shape
+past_first shape block log =
+    let past : shape.data_blocks < block = ltb-true shape.data_blocks block (both_left (nat_lt shape.data_blocks block) (nat_lt block (total shape)) log) in
+    let times : 1 * words_in shape ≤ block * words_in shape = mul-le-mul_right (words_in shape) (omega (arith, past)) in
+    omega (arith, times)

@@ -1,5 +1,5 @@
 -- The entry of a run of blocks.
-use Rattle.std.proofs.Common.{◌≡◌, ◌≢◌, ◌<◌, ◌≤◌, ◌+◌, ◌*◌, ◌==◌, ◌&&◌, ◌||◌, ◌^◌, ◌⊎◌, inl, inr, max, ℕ, zero, suc, Bool, true, false, List, [], ◌∷◌, ◌++◌, length, get_or, set, nat_le, nat_lt, if◌then◌else◌, refl, sym, ap, ◌∙◌, subst, arith}
+use Rattle.std.proofs.Common.{◌≡◌, ◌≢◌, ◌<◌, ◌≤◌, ◌+◌, ◌*◌, ◌==◌, ◌&&◌, ◌||◌, ◌^◌, ◌⊎◌, inl, inr, max, ℕ, zero, suc, Bool, true, false, List, [], ◌∷◌, ◌++◌, length, set, nat_le, nat_lt, if◌then◌else◌, refl, sym, ap, ◌∙◌, subst, arith}
 use Rattle.std.specs.List.{range_with_len, list_all}
 use Rattle.std.proofs.lemmas.Bool.{cases_lt, le-leb, lt-ltb}
 use Rattle.std.proofs.lemmas.Bool.Decides.{nat_tests}
@@ -16,11 +16,12 @@ use Rattle.log_image.specs.Format.{is_log_entry}
 use Rattle.log_image.specs.Taken.{bit_of, is_taken}
 use Rattle.image_steps.specs.Steps.{IsEntryOf, fits_log}
 use Rattle.log_image.specs.Chains.{is_listed}
-use Rattle.log_image.proofs.SetWordLemmas.{past_header}
 use Rattle.std.proofs.lemmas.List.{get_or-set_other}
 use Rattle.log_image.proofs.EntrySteps.{direct_entries}
 use Rattle.chain_reader.specs.Tables.{HasMap, HasSize}
 use Rattle.plain_engine.specs.Running.{Runs, AllTakenBefore}
+use Rattle.plain_engine.specs.Engine.{KeepsFirstBlock}
+use Rattle.plain_engine.proofs.BoundsLemmas.{past_first}
 use Rattle.plain_engine.proofs.RunningSteps.{entry_put}
 
 -- the fields of the word of a direct entry
@@ -113,8 +114,8 @@ commit_by shape words seen taken seen_taken marked table new_table position tail
 pub slot_place : (tail_block tail_slot size small whole : ℕ) → size ≡ small → tail_slot ≤ small → tail_slot ≢ small → tail_block * small + small ≤ whole → tail_block * size + tail_slot < whole
 slot_place tail_block tail_slot size small whole same inside other room = omega (arith, ap (λ (n : ℕ). tail_block * n) same, inside, other, room)
 
--- the head's word is not one of the tail's
-pub commit_head : (shape : Shape) (words : List ℕ) (tail_block tail_slot size word : ℕ) → 4 ≤ words_in shape → size ≡ words_in shape → is_in_log shape tail_block ≡ true → get_or (set words (tail_block * size + tail_slot) word) 3 0 ≡ get_or words 3 0
-commit_head shape words tail_block tail_slot size word long is_size area =
-    let far : 4 ≤ tail_block * words_in shape = past_header shape tail_block long area in
-    get_or-set_other words (tail_block * size + tail_slot) 3 word 0 (λ e. omega (arith, e, far, ap (λ (n : ℕ). tail_block * n) is_size))
+-- block 0 has none of the tail's words
+pub commit_first : (shape : Shape) (words : List ℕ) (tail_block tail_slot size word : ℕ) → size ≡ words_in shape → is_in_log shape tail_block ≡ true → KeepsFirstBlock shape words (set words (tail_block * size + tail_slot) word)
+commit_first shape words tail_block tail_slot size word is_size area = λ place inside.
+    let far : words_in shape ≤ tail_block * words_in shape = past_first shape tail_block area in
+    get_or-set_other words (tail_block * size + tail_slot) place word 0 (λ e. omega (arith, e, inside, far, ap (λ (n : ℕ). tail_block * n) is_size))

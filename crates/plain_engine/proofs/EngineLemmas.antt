@@ -1,14 +1,16 @@
 -- What the parts of a write do to an engine.
-use Rattle.std.proofs.Common.{◌≡◌, ◌≢◌, ◌<◌, ◌≤◌, ◌+◌, ◌⊎◌, inl, inr, ℕ, Bool, true, false, List, ◌++◌, length, get_or, take, drop, Some, if◌then◌else◌, refl, sym, ap, ◌∙◌, arith}
+use Rattle.std.proofs.Common.{◌≡◌, ◌≢◌, ◌<◌, ◌≤◌, ◌+◌, ◌*◌, ◌⊎◌, inl, inr, ℕ, Bool, true, false, List, ◌++◌, length, get_or, take, drop, Some, if◌then◌else◌, refl, sym, ap, subst, ◌∙◌, arith}
 use Rattle.std.proofs.lemmas.Grind.{common_steps}
 use Rattle.std.proofs.lemmas.Bool.{cases_lt}
 use Rattle.block_table.specs.FileMap.{FileMap, block_at}
-use Rattle.log_image.specs.Image.{Shape, words_in, total, block_words}
+use Rattle.log_image.specs.Image.{Shape, words_in, total, block_words, shape_by}
 use Rattle.log_image.specs.Taken.{bit_of, is_taken, HasTaken}
+use Rattle.log_image.proofs.ImageLemmas.{in_block}
 use Rattle.image_steps.specs.Steps.{KeepsTaken}
-use Rattle.image_steps.proofs.StoreStep.{first_words}
+use Rattle.log_entry.specs.declared.shapes.Geometry.{Geometry}
 use Rattle.plain_engine.specs.Clear.{AllClear}
 use Rattle.plain_engine.specs.Running.{RunsOnSome}
+use Rattle.plain_engine.specs.Engine.{KeepsFirstBlock}
 use Rattle.plain_engine.proofs.BoundsLemmas.{Bounds, data_inside}
 use Rattle.plain_engine.proofs.RunningSteps.{store_at}
 
@@ -68,8 +70,17 @@ stored_kept shape words seen new taken table position tail_block tail_slot first
       (keeps_by shape words seen new taken some.chain block count same some.runs.fits.bitmap inside clear long others);
 }
 
--- the head's word is that of block 0
-pub stored_head : (shape : Shape) (words seen new : List ℕ) (block count : ℕ) → 4 ≤ words_in shape → seen ≡ words → 1 ≤ block → length new ≡ length seen →
-    ((other : ℕ) → (other < block) ⊎ (block + count ≤ other) → block_words new shape other ≡ block_words seen shape other) → get_or new 3 0 ≡ get_or words 3 0
-stored_head shape words seen new block count long same low same_long others =
-    (first_words shape seen new long same_long (others 0 (inl (omega (arith, low))))).each 3 (omega arith) ∙ ap (λ (l : List ℕ). get_or l 3 0) same
+-- block 0 is not stored
+pub stored_first : (shape : Shape) (words seen new : List ℕ) (block count : ℕ) → seen ≡ words → 1 ≤ block →
+    ((other : ℕ) → (other < block) ⊎ (block + count ≤ other) → block_words new shape other ≡ block_words seen shape other) → KeepsFirstBlock shape words new
+stored_first shape words seen new block count same low others = λ place inside.
+    let at : 0 * words_in shape + place ≡ place = omega arith in
+    ap (λ (n : ℕ). get_or new n 0) (sym at) ∙ sym (in_block new shape 0 place inside)
+    ∙ ap (λ (l : List ℕ). get_or l place 0) (others 0 (inl (omega (arith, low))))
+    ∙ in_block seen shape 0 place inside ∙ ap (λ (n : ℕ). get_or seen n 0) at
+    ∙ ap (λ (l : List ℕ). get_or l place 0) same
+
+-- block 0 is the same after one step and another
+pub first_then : (one two : Geometry) (old between new : List ℕ) → two ≡ one → KeepsFirstBlock (shape_by one) old between → KeepsFirstBlock (shape_by two) between new → KeepsFirstBlock (shape_by one) old new
+first_then one two old between new same before after = λ place inside.
+    after place (subst (λ (g : Geometry). place < words_in (shape_by g)) (sym same) inside) ∙ before place inside

@@ -4,7 +4,6 @@ use Rattle.std.specs.Prelude.{filter}
 use Rattle.std.specs.List.{range_with_len}
 use Rattle.std.proofs.lemmas.Bool.{cases_lt, eq-eqb, ne_eqb, lt-ltb}
 use Rattle.std.proofs.lemmas.List.{get_or_past, get_or-set_other}
-use Rattle.log_image.proofs.SetWordLemmas.{past_header}
 use Rattle.block_table.specs.FileMap.{FileMap}
 use Rattle.log_entry.specs.Fields.{field}
 use Rattle.log_entry.specs.Words.{block_word}
@@ -17,11 +16,12 @@ use Rattle.log_image.proofs.ImageLemmas.{in_block, length_range}
 use Rattle.image_steps.specs.Steps.{KeepsTaken, IsFreshLog}
 use Rattle.log_image.proofs.BlockLemmas.{block_inside, same_block, set_elsewhere}
 use Rattle.log_image.proofs.NameLemmas.{not_data}
+use Rattle.plain_engine.specs.Engine.{KeepsFirstBlock}
 use Rattle.plain_engine.specs.Clear.{AllTaken, IsFirstClear}
 use Rattle.plain_engine.specs.Fresh.{IsFreshWord}
 use Rattle.plain_engine.specs.Running.{Runs}
 use Rattle.plain_engine.specs.Space.{clear_blocks, is_link, lacks_log}
-use Rattle.plain_engine.proofs.BoundsLemmas.{Bounds}
+use Rattle.plain_engine.proofs.BoundsLemmas.{Bounds, past_first}
 use Rattle.plain_engine.proofs.EngineLemmas.{keeps_by, clear_untaken, set_taken}
 use Rattle.plain_engine.proofs.RunningSteps.{store_at, link_put}
 
@@ -193,10 +193,10 @@ tail_place tail_block size small whole same long room = omega (arith, ap (λ (n 
 pub block_place : (next size small total whole : ℕ) → size ≡ small → next < total → whole ≡ total * small → next * size + size ≤ whole
 block_place next size small total whole same inside is = omega (arith, ap (λ (n : ℕ). next * n) same, same, is, block_inside small next total inside)
 
--- the head's word is the same
-pub grow_head : (shape : Shape) (words new written taken : List ℕ) (position tail_block next size : ℕ) → Stored shape words new taken position next → written ≡ new → size ≡ words_in shape → is_in_log shape tail_block ≡ true → get_or (set written (tail_block * size) next) 3 0 ≡ get_or words 3 0
-grow_head shape words new written taken position tail_block next size is back is_size area =
-    let far : 4 ≤ tail_block * words_in shape = past_header shape tail_block (omega (arith, is.long)) area in
-    let also : 4 ≤ next * words_in shape = past_header shape next (omega (arith, is.long)) (in_log_area shape words new taken position next is) in
-    get_or-set_other written (tail_block * size) 3 next 0 (λ e. omega (arith, e, far, ap (λ (n : ℕ). tail_block * n) is_size))
-    ∙ ap (λ (l : List ℕ). get_or l 3 0) back ∙ is.others 3 (inl (omega (arith, also)))
+-- block 0 is the same
+pub grow_first : (shape : Shape) (words new written taken : List ℕ) (position tail_block next size : ℕ) → Stored shape words new taken position next → written ≡ new → size ≡ words_in shape → is_in_log shape tail_block ≡ true → KeepsFirstBlock shape words (set written (tail_block * size) next)
+grow_first shape words new written taken position tail_block next size is back is_size area = λ place inside.
+    let far : words_in shape ≤ tail_block * words_in shape = past_first shape tail_block area in
+    let also : words_in shape ≤ next * words_in shape = past_first shape next (in_log_area shape words new taken position next is) in
+    get_or-set_other written (tail_block * size) place next 0 (λ e. omega (arith, e, inside, far, ap (λ (n : ℕ). tail_block * n) is_size))
+    ∙ ap (λ (l : List ℕ). get_or l place 0) back ∙ is.others place (inl (omega (arith, inside, also)))

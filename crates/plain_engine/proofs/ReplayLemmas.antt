@@ -9,12 +9,13 @@ use Rattle.log_entry.specs.declared.calls.Job.{Job}
 use Rattle.log_entry.specs.declared.calls.Reply.{Reply}
 use Rattle.log_entry.proofs.HistoryLemmas.{Mirrors, Legal-push, last_file-push, last_position_of-push, AreOfOneSeat, OfTrace-Mirrors, IsInOrder-one_seat}
 use Rattle.log_image.specs.Header.{generation_of}
-use Rattle.plain_engine.specs.Engine.{shape_in, Running}
+use Rattle.plain_engine.specs.Engine.{shape_in, Running, KeepsFirstBlock}
 use Rattle.plain_engine.specs.Serving.{Serves, wanted_blocks, lacking_for, refused_area, written_blocks}
 use Rattle.plain_engine.specs.Names.{NamesAfter}
 use Rattle.plain_engine.specs.Served.{IsServed, AreServed}
 use Rattle.plain_engine.specs.Replaying.{AreNumbered, AreOneSeat, Replays}
 use Rattle.plain_engine.specs.declared.engine.PlainEngine.{PlainEngine}
+use Rattle.plain_engine.proofs.EngineLemmas.{first_then}
 
 -- these calls are legal from the file and the position of the engine before, and the engine now runs where they end
 pub record SoFar (before engine : PlainEngine) (chain file : List ℕ) (calls : List Call) : Type 0 where
@@ -22,13 +23,14 @@ pub record SoFar (before engine : PlainEngine) (chain file : List ℕ) (calls : 
   pub legal : Legal before.geometry.block_bytes file before.position calls
   pub position : engine.position ≡ last_position_of before.position calls
   pub generation : generation_of engine.words.items ≡ generation_of before.words.items
+  pub first_block : KeepsFirstBlock (shape_in before) before.words.items engine.words.items
   pub longer : List ℕ
   pub runs : Running engine longer (last_file file calls)
   pub served : AreServed (shape_in before) before.words.items chain file before.position calls engine.words.items longer
 
 -- no call yet
 pub SoFar-none : (engine : PlainEngine) (chain file : List ℕ) (calls : List Call) → calls ≡ [] → Running engine chain file → SoFar engine engine chain file calls
-SoFar-none engine chain file calls none runs = subst (λ (l : List Call). SoFar engine engine chain file l) (sym none) (record { geometry = refl; legal = tt; position = refl; generation = refl; longer = chain; runs = runs; served = (refl, refl) })
+SoFar-none engine chain file calls none runs = subst (λ (l : List Call). SoFar engine engine chain file l) (sym none) (record { geometry = refl; legal = tt; position = refl; generation = refl; first_block = λ place inside. refl; longer = chain; runs = runs; served = (refl, refl) })
 
 -- the record of a job
 abbrev pub record_of : Job → ℕ → Reply → Call
@@ -69,6 +71,7 @@ SoFar-push before engine next chain file calls job reply position is far serving
       legal = Legal-push before.geometry.block_bytes file before.position calls (record_of job position reply) far.legal answers (is ∙ after);
       position = after ∙ sym (last_position_of-push before.position calls (record_of job position reply));
       generation = serves.generation ∙ far.generation;
+      first_block = first_then before.geometry engine.geometry before.words.items engine.words.items next.words.items far.geometry far.first_block serves.first_block;
       longer = serves.longer;
       runs = subst (λ (l : List ℕ). Running next serves.longer l) (sym (last_file-push file calls (record_of job position reply))) serves.runs;
       served = AreServed-push (shape_in before) before.words.items chain file before.position calls engine.words.items far.longer (record_of job position reply) next.words.items serves.longer far.served (step_of before engine next file calls job reply position far.geometry far.position far.longer serves);
@@ -90,6 +93,7 @@ Replays-all before engine chain file jobs calls numbered mirrors far = record {
   geometry = far.geometry;
   position = far.position;
   generation = far.generation;
+  first_block = far.first_block;
   longer = far.longer;
   runs = far.runs;
   served = far.served;

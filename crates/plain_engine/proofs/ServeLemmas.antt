@@ -15,12 +15,13 @@ use Rattle.log_entry.specs.declared.calls.WriteRefusal.{WriteRefusal}
 use Rattle.log_entry.specs.declared.calls.WriteRefusal.TheVariants.{TooLong, TooLarge, NoSpace, PositionLimit}
 use Rattle.log_entry.specs.declared.calls.Reply.{Reply}
 use Rattle.log_entry.specs.declared.calls.Reply.TheVariants.{Wrote, Appended, NotWritten}
-use Rattle.log_image.specs.Image.{Shape}
+use Rattle.log_image.specs.Image.{Shape, words_in}
 use Rattle.plain_engine.specs.Space.{lacks_data, lacks_log, lacking}
 use Rattle.plain_engine.specs.Engine.{shape_in, Running, Writes, file_written, position_written, blocks_written}
 use Rattle.plain_engine.specs.Serving.{unless_refused, lacking_for, refused_area, written_blocks, Serves}
 use Rattle.plain_engine.specs.declared.engine.PlainEngine.{PlainEngine}
 use Rattle.image_steps.proofs.StoreStep.{nothing_after}
+use Rattle.plain_engine.proofs.BoundsLemmas.{bounds}
 use Rattle.plain_engine.proofs.FileLemmas.{append_is_write}
 use Rattle.plain_engine.specs.Names.{NamesAfter}
 use Rattle.plain_engine.proofs.SpaceLemmas.{touched_from_place}
@@ -73,6 +74,12 @@ answers_write words shape chain count result refusal accepted none is = subst (�
         third (inl one) = second (ap (λ (a : Area). NotWritten (NoSpace a)) one)
         third (inr two) = last (ap (λ (a : Area). NotWritten (NoSpace a)) two)
 
+-- the head's word is in block 0
+head_inside : (e : PlainEngine) → 3 < words_in (shape_in e)
+head_inside e =
+    let b = bounds (shape_in e) e.words.items e.taken.items e.table e.position e.tail_block e.tail_slot e.first_clear e.kept in
+    omega (arith, b.long)
+
 -- a write at an offset
 pub serve_pwrite : (old new : PlainEngine) (chain file : List ℕ) (offset : ℕ) (bytes : List ℕ) (result : Option Area) → 0 < length bytes → write_refusal old.geometry.block_bytes old.position (touched_blocks old.geometry.block_bytes offset (length bytes)) (offset + length bytes) ≡ None →
     Writes old new chain file offset bytes result → Serves old new chain file (Pwrite offset bytes) (reply_by result (Wrote (length bytes)))
@@ -82,7 +89,8 @@ serve_pwrite old new chain file offset (byte ∷ bytes) result some none is = re
   space = area_same result ∙ is.space ∙ ap (λ (o : Option WriteRefusal). lacking_for old.words.items (shape_in old) chain (unless_refused o (touched_blocks old.geometry.block_bytes offset (length (byte ∷ bytes))))) (sym none);
   geometry = is.geometry;
   position = is.position ∙ place result;
-  generation = ap (λ (w : ℕ). field HEAD_GENERATION w) is.head;
+  generation = ap (λ (w : ℕ). field HEAD_GENERATION w) (is.first_block 3 (head_inside old));
+  first_block = is.first_block;
   longer = is.longer;
   runs = subst (λ (l : List ℕ). Running new is.longer l) (after result) is.runs;
   names = subst (λ (o : Option ℕ). NamesAfter (shape_in old) old.words.items chain o new.words.items is.longer) (blocks result) is.names;
@@ -115,7 +123,8 @@ serve_append old new chain file at (byte ∷ bytes) result is_end some none is =
       ∙ ap (λ (o : Option WriteRefusal). lacking_for old.words.items (shape_in old) chain (unless_refused o (touched_blocks old.geometry.block_bytes (length file) (length (byte ∷ bytes))))) (sym none);
   geometry = is.geometry;
   position = is.position ∙ place result;
-  generation = ap (λ (w : ℕ). field HEAD_GENERATION w) is.head;
+  generation = ap (λ (w : ℕ). field HEAD_GENERATION w) (is.first_block 3 (head_inside old));
+  first_block = is.first_block;
   longer = is.longer;
   runs = subst (λ (l : List ℕ). Running new is.longer l) (after result) is.runs;
   names = subst (λ (o : Option ℕ). NamesAfter (shape_in old) old.words.items chain o new.words.items is.longer) (blocks result) is.names;
@@ -171,6 +180,7 @@ refuse_pwrite e chain file offset (byte ∷ bytes) why some is runs = record {
   geometry = refl;
   position = refl;
   generation = refl;
+  first_block = λ place inside. refl;
   longer = chain;
   runs = runs;
   names = names_stay (shape_in e) e.words.items e.words.items chain (λ block. refl) refl;
@@ -186,6 +196,7 @@ refuse_append e chain file (byte ∷ bytes) why some is runs = record {
   geometry = refl;
   position = refl;
   generation = refl;
+  first_block = λ place inside. refl;
   longer = chain;
   runs = runs;
   names = names_stay (shape_in e) e.words.items e.words.items chain (λ block. refl) refl;
@@ -205,6 +216,7 @@ pwrite_nothing e chain file offset bytes count none zero_count runs =
       geometry = refl;
       position = refl;
       generation = refl;
+      first_block = λ place inside. refl;
       longer = chain;
       runs = runs;
       names = names_stay (shape_in e) e.words.items e.words.items chain (λ block. refl) refl;
@@ -219,6 +231,7 @@ append_nothing e chain file bytes at count none is_end zero_count runs =
       geometry = refl;
       position = refl;
       generation = refl;
+      first_block = λ place inside. refl;
       longer = chain;
       runs = subst (λ (m : List ℕ). Running e chain m) (sym (nothing_after file)) runs;
       names = names_stay (shape_in e) e.words.items e.words.items chain (λ block. refl) refl;

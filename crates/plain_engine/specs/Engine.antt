@@ -1,12 +1,12 @@
 -- What the parts of a write make of an engine.
-use Rattle.std.specs.Prelude.{ℕ, ◌+◌, ◌≡◌, true, false, List, length, slice_index, Option, Some, None}
+use Rattle.std.specs.Prelude.{ℕ, ◌+◌, ◌≡◌, ◌<◌, true, false, List, length, slice_index, Option, Some, None}
 use Rattle.block_table.specs.declared.map_run.MapRun.{MapRun}
 use Rattle.log_entry.specs.Words.{entry_word}
 use Rattle.log_entry.specs.ByteFile.{write}
 use Rattle.log_entry.specs.Legal.{touched_blocks}
 use Rattle.log_entry.specs.declared.shapes.Area.{Area}
 use Rattle.log_entry.specs.declared.entries.Entry.TheVariants.{Direct}
-use Rattle.log_image.specs.Image.{Shape, is_in_data, block_words, shape_by}
+use Rattle.log_image.specs.Image.{Shape, words_in, is_in_data, block_words, shape_by}
 use Rattle.log_image.specs.Tails.{tail_of}
 use Rattle.log_image.specs.Taken.{bit_of, is_taken}
 use Rattle.plain_engine.specs.Running.{Runs}
@@ -23,7 +23,11 @@ abbrev pub Running : PlainEngine → List ℕ → List ℕ → Type 0
 Running engine chain file =
     Runs (shape_in engine) engine.words.items engine.taken.items engine.table engine.position engine.tail_block engine.tail_slot engine.first_clear chain file
 
--- all but the words is the same, and so is the head's word
+-- the words of block 0 are the same
+abbrev pub KeepsFirstBlock : Shape → List ℕ → List ℕ → Type 0
+KeepsFirstBlock shape old new = (place : ℕ) → place < words_in shape → slice_index new place ≡ slice_index old place
+
+-- all but the words is the same, and so is block 0
 pub record SameBesideWords (old new : PlainEngine) : Type 0 where
   pub geometry : new.geometry ≡ old.geometry
   pub taken : new.taken ≡ old.taken
@@ -32,7 +36,7 @@ pub record SameBesideWords (old new : PlainEngine) : Type 0 where
   pub tail_block : new.tail_block ≡ old.tail_block
   pub tail_slot : new.tail_slot ≡ old.tail_slot
   pub first_clear : new.first_clear ≡ old.first_clear
-  pub head : slice_index new.words.items 3 ≡ slice_index old.words.items 3
+  pub first_block : KeepsFirstBlock (shape_in old) old.words.items new.words.items
 
 -- the chain names the same blocks, and has the same tail
 pub record SameNames (old new : PlainEngine) (chain : List ℕ) : Type 0 where
@@ -58,7 +62,7 @@ pub record SameBesideTail (old new : PlainEngine) : Type 0 where
   pub table : new.table ≡ old.table
   pub position : new.position ≡ old.position
   pub first_clear : new.first_clear ≡ old.first_clear
-  pub head : slice_index new.words.items 3 ≡ slice_index old.words.items 3
+  pub first_block : KeepsFirstBlock (shape_in old) old.words.items new.words.items
   pub content : (block : ℕ) → is_in_data (shape_in old) block ≡ true → block_words new.words.items (shape_in old) block ≡ block_words old.words.items (shape_in old) block
   pub bits : (block : ℕ) → is_in_data (shape_in old) block ≡ true → bit_of new.taken.items block ≡ bit_of old.taken.items block
 
@@ -81,13 +85,13 @@ abbrev pub blocks_written : ℕ → Option Area → Option ℕ
 blocks_written count None = Some count
 blocks_written count (Some area) = None
 
--- the engine runs on the file that the write makes, and the least clear blocks are taken, or found no space for it; the head's
--- word is the same
+-- the engine runs on the file that the write makes, and the least clear blocks are taken, or found no space for it; block 0
+-- is the same
 pub record Writes (old new : PlainEngine) (chain file : List ℕ) (offset : ℕ) (bytes : List ℕ) (result : Option Area) : Type 0 where
   pub space : result ≡ lacking old.words.items (shape_in old) chain (touched_blocks old.geometry.block_bytes offset (length bytes))
   pub geometry : new.geometry ≡ old.geometry
   pub position : new.position ≡ position_written old.position result
-  pub head : slice_index new.words.items 3 ≡ slice_index old.words.items 3
+  pub first_block : KeepsFirstBlock (shape_in old) old.words.items new.words.items
   pub longer : List ℕ
   pub runs : Running new longer (file_written file offset bytes result)
   pub names : NamesAfter (shape_in old) old.words.items chain (blocks_written (touched_blocks old.geometry.block_bytes offset (length bytes)) result) new.words.items longer

@@ -12,7 +12,7 @@ use Rattle.log_image.specs.Image.{Shape}
 use Rattle.log_image.specs.Header.{generation_of}
 use Rattle.plain_engine.specs.Space.{lacking}
 use Rattle.plain_engine.specs.Names.{NamesAfter}
-use Rattle.plain_engine.specs.Engine.{shape_in, Running}
+use Rattle.plain_engine.specs.Engine.{shape_in, Running, KeepsFirstBlock}
 use Rattle.plain_engine.specs.declared.engine.PlainEngine.{PlainEngine}
 
 -- so many blocks, unless there is a refusal
@@ -51,13 +51,14 @@ abbrev pub written_blocks : ℕ → List ℕ → Op → Reply → Option ℕ
 written_blocks block_bytes file op reply = if is_write op reply then Some (touched_by block_bytes file op) else None
 
 -- the reply is the one that comes there, the engine runs on the file as the history goes on, the reply says that there is no
--- space exactly where there is none, and the least clear blocks are taken where it was written
+-- space exactly where there is none, the least clear blocks are taken where it was written, and block 0 is the same
 pub record Serves (old new : PlainEngine) (chain file : List ℕ) (op : Op) (reply : Reply) : Type 0 where
   pub answers : Answers old.geometry.block_bytes old.position file op reply
   pub space : refused_area reply ≡ lacking_for old.words.items (shape_in old) chain (wanted_blocks old.geometry.block_bytes old.position file op)
   pub geometry : new.geometry ≡ old.geometry
   pub position : new.position ≡ position_after old.position op reply
   pub generation : generation_of new.words.items ≡ generation_of old.words.items
+  pub first_block : KeepsFirstBlock (shape_in old) old.words.items new.words.items
   pub longer : List ℕ
   pub runs : Running new longer (file_after file op reply)
   pub names : NamesAfter (shape_in old) old.words.items chain (written_blocks old.geometry.block_bytes file op reply) new.words.items longer

@@ -44,7 +44,7 @@ impl PlainEngine {
     ghost use Rattle.image_steps.specs.Steps.{IsEntryOf, fits_log};
     ghost use Rattle.plain_engine.specs.Serving.{Serves};
     ghost use Rattle.plain_engine.specs.Names.{TakesRun};
-    ghost use Rattle.plain_engine.specs.Engine.{shape_in, Running, SameBesideWords, SameNames, HasSlot, LacksSlot, SameBesideTail, run_word, Writes};
+    ghost use Rattle.plain_engine.specs.Engine.{shape_in, Running, KeepsFirstBlock, SameBesideWords, SameNames, HasSlot, LacksSlot, SameBesideTail, run_word, Writes};
 
     /// The words of the image.
     pub fn into_words(self) -> Vec<u64>
@@ -191,7 +191,7 @@ impl PlainEngine {
         ensures names { (chain file : List ℕ) → Running self.old chain file → TakesRun (shape_in self.old) self.old.words.items chain self.new.words.items run.block run.count }
         ensures geometry { self.new.geometry ≡ self.old.geometry }
         ensures position { self.new.position ≡ self.old.position + 1 }
-        ensures head { slice_index self.new.words.items 3 ≡ slice_index self.old.words.items 3 }
+        ensures first_block { KeepsFirstBlock (shape_in self.old) self.old.words.items self.new.words.items }
     {
         let word = encode(&Entry::Direct {
             virt: run.virt,

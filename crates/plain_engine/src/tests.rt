@@ -1,4 +1,4 @@
-//! A few calls on a just-made image of two data blocks and a log block: what they answer, and the words after them.
+//! A write and a read on a just-made image of two data blocks and a log block.
 
 ghost use Rattle.std.specs.Prelude.{◌≡◌, ◌∷◌, [], IfOk};
 ghost use Rattle.log_entry.specs.Geometry.{HasShape};
@@ -32,75 +32,35 @@ fn made(geometry: Geometry, words: Vec<u64>, taken: Vec<u64>) -> Start
     Start::new(geometry, words, taken, 1, 0, 0)
 }
 
-/// A write of one byte at an offset.
-fn byte_at(alloc: Global, offset: u64, byte: u8) -> Result<Op, AllocError> {
-    let bytes = vec![in alloc; byte]?;
-    Ok(Op::Pwrite {
-        offset,
-        bytes: Blob::new(bytes),
-    })
-}
-
 #[test]
 fn calls_on_a_just_made_image(rt: HostRuntime) -> Result<(), Fail> {
+    let alloc = rt.alloc();
     let geometry = Geometry::new(2, 1, 64)?;
-    let start = made(
-        geometry,
-        made_words(rt.alloc())?,
-        vec![in rt.alloc(); 9u64]?,
-    );
-    let mut engine = PlainEngine::new(rt.alloc(), start)?;
-    let first = byte_at(rt.alloc(), 62, 0xaa)?;
-    let reply = engine.answer(rt.alloc(), &first)?;
+    let start = made(geometry, made_words(alloc)?, vec![in alloc; 9u64]?);
+    let mut engine = PlainEngine::new(alloc, start)?;
+    let write = Op::Pwrite {
+        offset: 62,
+        bytes: Blob::new(vec![in alloc; 0xaa]?),
+    };
+    let reply = engine.answer(alloc, &write)?;
     assert_eq!(rt; matches!(&reply, Reply::Wrote { length: 1 }), true);
-    let second = byte_at(rt.alloc(), 0, 0xbb)?;
-    let reply = engine.answer(rt.alloc(), &second)?;
-    assert_eq!(rt; matches!(&reply, Reply::Wrote { length: 1 }), true);
-    let reply = engine.answer(rt.alloc(), &second)?;
-    assert_eq!(rt; matches!(&reply, Reply::NotWritten(_)), true);
-    let reply = engine.answer(
-        rt.alloc(),
-        &Op::Pread {
+    let read = Job {
+        line: 1,
+        seat: 0,
+        number: 1,
+        op: Op::Pread {
             offset: 61,
             length: 9,
         },
-    )?;
-    if let Reply::Bytes(bytes) = &reply {
-        assert_eq!(rt; bytes.bytes().len(), 2);
-        assert_eq!(rt; bytes.bytes()[1], 0xaa);
+    };
+    let calls = replay_all(alloc, &mut engine, vec![in alloc; read]?)?;
+    assert_eq!(rt; calls.len(), 1);
+    if let Reply::Bytes(bytes) = &calls[0].reply {
+        assert_eq!(rt; bytes.bytes(), b"\0\xaa".as_slice());
     } else {
         assert_eq!(rt; true, false);
     }
-    assert_eq!(rt; engine.position(), 2);
-    assert_eq!(rt; engine.size(), 63);
-    let words = engine.into_words();
-    assert_eq!(rt; words.get(15).copied(), Some(0xaa << 48));
-    assert_eq!(rt; words.get(16).copied(), Some(0xbb));
-    assert_eq!(rt; words.get(23).copied(), Some(0xaa << 48));
-    assert_eq!(rt; words.get(27).copied(), Some(4_398_046_773_249));
-    assert_eq!(rt; words.get(28).copied(), Some(277_076_930_723_841));
-    Ok(())
-}
-
-#[test]
-fn a_replay_of_one_call(rt: HostRuntime) -> Result<(), Fail> {
-    let geometry = Geometry::new(2, 1, 64)?;
-    let start = made(
-        geometry,
-        made_words(rt.alloc())?,
-        vec![in rt.alloc(); 9u64]?,
-    );
-    let mut engine = PlainEngine::new(rt.alloc(), start)?;
-    let jobs = vec![in rt.alloc();
-        Job {
-            line: 1,
-            seat: 0,
-            number: 1,
-            op: Op::Size
-        },
-    ]?;
-    let calls = replay_all(rt.alloc(), &mut engine, jobs)?;
-    assert_eq!(rt; calls.len(), 1);
-    assert_eq!(rt; matches!(&calls[0].reply, Reply::Size(0)), true);
+    assert_eq!(rt; (engine.position(), engine.size()), (1, 63));
+    assert_eq!(rt; engine.into_words().get(15).copied(), Some(0xaa << 48));
     Ok(())
 }

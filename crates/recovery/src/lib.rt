@@ -22,6 +22,7 @@ mod tests;
 mod walks;
 
 pub use opened::Opened;
+pub use opening_rules::BadImage;
 pub use openings::{open_bytes, open_words, open_words_with_rest};
 pub use refusals::OpenRefusal;
 pub use tails::Tail;

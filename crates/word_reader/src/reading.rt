@@ -37,7 +37,7 @@ pub fn read_words<S: Source>(
     ensures fits { IfOk result (λ read. 8 * vec_len read.words + vec_len read.rest ≤ limit) }
     ensures all { IfOk result (λ read. TakesAll (S.left source.old) (S.left source.new) (word_bytes read.words.items ++ read.rest.items)) }
     ensures part { IfErr result (λ cause. ReadAllTakes cause (S.left source.old) (S.left source.new) limit) }
-    ensures cause { ReadAllFaults result (S.faults source.old) (S.faults source.new) }
+    ensures cause { ReadAllFaults S.exact result (S.faults source.old) (S.faults source.new) }
     ensures later { S.faults source.old ≤ S.faults source.new }
 {
     let Ok(mut rest) = zeros(alloc, WORD_LENGTH + PIECE) else {
@@ -68,7 +68,7 @@ fn read_through<S: Source>(
     ensures fits { IfOk result (λ left. 8 * vec_len words.new + left ≤ limit) }
     ensures all { IfOk result (λ left. TakesAll (S.left source.old) (S.left source.new) (word_bytes words.new.items ++ take left buffer.new)) }
     ensures part { IfErr result (λ cause. ReadAllTakes cause (S.left source.old) (S.left source.new) limit) }
-    ensures cause { ReadAllFaults result (S.faults source.old) (S.faults source.new) }
+    ensures cause { ReadAllFaults S.exact result (S.faults source.old) (S.faults source.new) }
     ensures later { S.faults source.old ≤ S.faults source.new }
 {
     let mut kept = 0;
@@ -97,7 +97,7 @@ fn read_behind<S: Source>(source: &mut S, buffer: &mut [u8], kept: usize, most: 
     ensures count { IsGivenCount result most }
     ensures bytes { ReadTakes result (S.left source.old) (S.left source.new) (drop kept buffer.new) }
     ensures front { take kept buffer.new ≡ take kept buffer.old }
-    ensures cause { ReadCounts result (S.faults source.old) (S.faults source.new) }
+    ensures cause { ReadCounts S.exact result (S.faults source.old) (S.faults source.new) }
     ensures later { S.faults source.old ≤ S.faults source.new }
 {
     source.read(&mut buffer[kept..kept + most])

@@ -1,5 +1,5 @@
 //! Reading to the end in pieces of any length, an excess, and a fault in mid-stream.
-ghost use Rattle.std.specs.Prelude.{None};
+ghost use Rattle.std.specs.Prelude.{true, None};
 
 use crate::{WordsRead, read_words};
 use io_ends::{Bytes, FailingBytes, Got, ReadAll, Source};
@@ -21,6 +21,8 @@ impl Source for Slow {
     ghost left = { λ _. None };
 
     ghost faults = { λ _. 0 };
+
+    ghost exact = { true };
 
     fn read(&mut self, into: &mut [u8]) -> Got {
         let most = self.most.max(1).min(into.len());

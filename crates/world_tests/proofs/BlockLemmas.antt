@@ -6,10 +6,10 @@ use Rattle.log_entry.specs.declared.shapes.Geometry.{Geometry}
 use Rattle.pmem_words.specs.declared.keeps.Task.{Task}
 use Rattle.pmem_words.specs.declared.keeps.Task.TheVariants.{Idle as IdleTask, Pwrite as PwriteTask, Append as AppendTask, Pread as PreadTask, Size as SizeTask, Sync as SyncTask, Collect as CollectTask, Pin as PinTask, Unpin as UnpinTask, Scan as ScanTask, Take as TakeTask, Give as GiveTask, Fill as FillTask, Walk as WalkTask, Offer as OfferTask, Grow as GrowTask, Seal as SealTask}
 use Rattle.pmem_words.specs.Seats.{Seat, new_seat}
-use Rattle.persistence.specs.Memory.{notes_of}
+use Rattle.persistence.specs.Memory.{pending_of}
 use Rattle.log_core.specs.Views.{op_of, no_geometry}
-use Rattle.log_core.specs.Works.{Begins, SetsWord, laid_bytes, worked}
-use Rattle.log_core.proofs.OneView.{same_or_other}
+use Rattle.log_core.specs.Works.{Begins, SetsWord, laid_bytes, state_after_work}
+use Rattle.log_core.proofs.clauses.OneView.{same_or_other}
 use Rattle.crash_model.specs.Worlds.{WorldNow, seat_of, set_seat, new_world}
 use Rattle.crash_model.specs.Led.{IsResting, IsTurnOf, HasNoMarks}
 use Rattle.crash_model.proofs.Resting.{begun_rests, word_rests}
@@ -65,11 +65,11 @@ all_alone w seat alone none = record {
 }
 
 -- that leaves its marks
-pub turn_alone : (w v : WorldNow) (seat : ℕ) → seat < length w.seats → IsTurnOf RunsAlone w v seat → notes_of seat v.cells.memory.notes ≡ notes_of seat w.cells.memory.notes → AreAlone w → AreAlone v
+pub turn_alone : (w v : WorldNow) (seat : ℕ) → seat < length w.seats → IsTurnOf RunsAlone w v seat → pending_of seat v.cells.memory.pending ≡ pending_of seat w.cells.memory.pending → AreAlone w → AreAlone v
 turn_alone w v seat inside turn marks alone = all_alone v seat (turn_alone_but w v seat turn (alone_but w seat alone)) (marks ∙ alone.no_marks seat inside)
 
 -- a word of the one owned block is set
-pub word_rest : (w : WorldNow) (seat word value : ℕ) → seat < length w.seats → length (seat_of w seat).blocks.owned ≡ 1 → word < 8 → value < 2 ^ 64 → IsResting w → IsResting (set_seat w seat (worked (seat_of w seat) (SetsWord 0 word value)))
+pub word_rest : (w : WorldNow) (seat word value : ℕ) → seat < length w.seats → length (seat_of w seat).blocks.owned ≡ 1 → word < 8 → value < 2 ^ 64 → IsResting w → IsResting (set_seat w seat (state_after_work (seat_of w seat) (SetsWord 0 word value)))
 word_rest w seat word value inside one low small resting = word_rests w seat 0 word value inside
     (record { owned = omega (arith, one); inside = (let wide = (q_range (seat_of w seat).geometry).0 in omega (arith, low, wide)); small = small }) resting
 
@@ -94,15 +94,15 @@ no_bytes (GrowTask block) = refl
 no_bytes SealTask = refl
 
 -- a task begins
-pub begun_alone : (w : WorldNow) (seat : ℕ) (task : Task) → seat < length w.seats → op_of task [] ≡ None → AreAlone w → AreAlone (set_seat w seat (worked (seat_of w seat) (Begins task [])))
-begun_alone w seat task inside none alone = set_alone w seat (worked (seat_of w seat) (Begins task [])) inside (record { number = (alone.run seat inside).number; none_runs = none }) alone
+pub begun_alone : (w : WorldNow) (seat : ℕ) (task : Task) → seat < length w.seats → op_of task [] ≡ None → AreAlone w → AreAlone (set_seat w seat (state_after_work (seat_of w seat) (Begins task [])))
+begun_alone w seat task inside none alone = set_alone w seat (state_after_work (seat_of w seat) (Begins task [])) inside (record { number = (alone.run seat inside).number; none_runs = none }) alone
 
-pub begun_rest : (w : WorldNow) (seat : ℕ) (task : Task) → seat < length w.seats → op_of task [] ≡ None → AreAlone w → IsResting w → IsResting (set_seat w seat (worked (seat_of w seat) (Begins task [])))
+pub begun_rest : (w : WorldNow) (seat : ℕ) (task : Task) → seat < length w.seats → op_of task [] ≡ None → AreAlone w → IsResting w → IsResting (set_seat w seat (state_after_work (seat_of w seat) (Begins task [])))
 begun_rest w seat task inside none alone resting = begun_rests w seat task [] inside
     (record { none_runs = (alone.run seat inside).none_runs; no_marks = alone.no_marks seat inside; none_laid = no_bytes task; steps = λ op some. cc }) resting
 
-pub begun_seat : (w v : WorldNow) (seat : ℕ) (task : Task) → seat < length w.seats → v ≡ set_seat w seat (worked (seat_of w seat) (Begins task [])) → seat_of v seat ≡ worked (seat_of w seat) (Begins task [])
-begun_seat w v seat task inside same = ap (λ (x : WorldNow). seat_of x seat) same ∙ get_or-set_same w.seats seat (worked (seat_of w seat) (Begins task [])) (new_seat no_geometry 0 0 0) inside
+pub begun_seat : (w v : WorldNow) (seat : ℕ) (task : Task) → seat < length w.seats → v ≡ set_seat w seat (state_after_work (seat_of w seat) (Begins task [])) → seat_of v seat ≡ state_after_work (seat_of w seat) (Begins task [])
+begun_seat w v seat task inside same = ap (λ (x : WorldNow). seat_of x seat) same ∙ get_or-set_same w.seats seat (state_after_work (seat_of w seat) (Begins task [])) (new_seat no_geometry 0 0 0) inside
 
-pub begun_inside : (w v : WorldNow) (seat : ℕ) (task : Task) → seat < length w.seats → v ≡ set_seat w seat (worked (seat_of w seat) (Begins task [])) → seat < length v.seats
-begun_inside w v seat task inside same = subst (λ (n : ℕ). seat < n) (sym (ap (λ (x : WorldNow). length x.seats) same ∙ length-set w.seats seat (worked (seat_of w seat) (Begins task [])))) inside
+pub begun_inside : (w v : WorldNow) (seat : ℕ) (task : Task) → seat < length w.seats → v ≡ set_seat w seat (state_after_work (seat_of w seat) (Begins task [])) → seat < length v.seats
+begun_inside w v seat task inside same = subst (λ (n : ℕ). seat < n) (sym (ap (λ (x : WorldNow). length x.seats) same ∙ length-set w.seats seat (state_after_work (seat_of w seat) (Begins task [])))) inside

@@ -6,7 +6,7 @@ use Rattle.pmem_words.specs.declared.keeps.Task.TheVariants.{Sync}
 use Rattle.pmem_words.specs.Seats.{Seat, q_of}
 use Rattle.pmem_words.specs.declared.machine.Turn.TheVariants.{Done}
 use Rattle.persistence.proofs.FenceLaws.{fences_forget_own_marks}
-use Rattle.log_core.specs.Views.{Ghost, Marked, op_of}
+use Rattle.log_core.specs.Views.{Ghost, MarkedWord, op_of}
 use Rattle.log_core.specs.Origin.{Origin}
 use Rattle.log_core.specs.Cores.{Core}
 use Rattle.log_core.specs.Steps.{is_head_marked}
@@ -26,7 +26,7 @@ use Rattle.block_bitmap.proofs.FillWithinCore.{fills_within}
 no_sync_in : (task : Task) (bytes : List ℕ) → op_of task bytes ≡ None → task ≢ Sync
 no_sync_in task bytes none same = (let never = subst (λ (t : Task). op_of t bytes ≡ None) same none in cc)
 
-no_head : (generation : ℕ) (marks : List Marked) → marks ≡ [] → is_head_marked generation marks ≡ true → ⊥
+no_head : (generation : ℕ) (marks : List MarkedWord) → marks ≡ [] → is_head_marked generation marks ≡ true → ⊥
 no_head generation [] none marked = cc
 no_head generation (mark ∷ marks) none marked = cc
 

@@ -13,7 +13,7 @@ use Rattle.pins.specs.declared.scan.Scan.{Scan}
 use Rattle.pins.specs.Pinning.{pin_script, pin_admits}
 use Rattle.pins.specs.Scanning.{scan_script, scan_of, HasSeat}
 use Rattle.pins.specs.Unpinning.{unpin_script, unpin_of}
-use Rattle.pins.specs.Within.{MayPin, IsPinned, IsUnpinned, ScanStands, HasScanned}
+use Rattle.pins.specs.Within.{MayPin, HasPinned, HasUnpinned, ScanStands, HasScanned}
 use Rattle.world_tests.specs.PinSeats.{MayTurn, MayLook}
 use Rattle.pins.proofs.PinWithin.{pins_within, unpins_within}
 use Rattle.pins.proofs.ScanWithin.{scans_within}
@@ -29,13 +29,13 @@ scan_one m s = λ x y. λ i. record { left = le_prop x.left y.left i; few = le_p
 
 -- where the machines begin
 pub pin_led : (w : WorldNow) (seat : ℕ) → seat < length w.seats → IsResting w → MayTurn seat (seat_of w seat) → IsLed seat pin_script no_record (λ out t v. HasLeft out t v) Begin w
-pin_led w seat inside resting may = begins_led seat pin_script Begin (λ o. MayPin seat) (λ o. IsPinned seat) (λ out t v. HasLeft out t v) w
+pin_led w seat inside resting may = begins_led seat pin_script Begin (λ o. MayPin seat) (λ o. HasPinned seat) (λ out t v. HasLeft out t v) w
     (λ o start number rest v linked. pins_within o start seat number rest (seat_of w seat) v linked)
     (λ o c g known. record { number = may.number; no_marks = λ sync. absurd (may.no_sync sync) })
     (λ o c st rest out t v left. record { unspent = left.unspent; same = sym left.seat }) inside resting
 
 pub unpin_led : (w : WorldNow) (seat : ℕ) → seat < length w.seats → IsResting w → MayTurn seat (seat_of w seat) → IsLed seat unpin_script no_record (λ out t v. HasLeft out t v) unpin_of w
-unpin_led w seat inside resting may = begins_led seat unpin_script unpin_of (λ o. MayPin seat) (λ o. IsUnpinned seat) (λ out t v. HasLeft out t v) w
+unpin_led w seat inside resting may = begins_led seat unpin_script unpin_of (λ o. MayPin seat) (λ o. HasUnpinned seat) (λ out t v. HasLeft out t v) w
     (λ o start number rest v linked. unpins_within o start seat number rest (seat_of w seat) v linked)
     (λ o c g known. record { number = may.number; no_marks = λ sync. absurd (may.no_sync sync) })
     (λ o c st rest out t v left. record { unspent = left.unspent; same = sym left.seat }) inside resting

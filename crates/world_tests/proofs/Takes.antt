@@ -5,7 +5,7 @@ use Rattle.log_entry.specs.declared.shapes.Area.{Area}
 use Rattle.log_entry.specs.declared.shapes.Area.TheVariants.{Data, Log, Spare}
 use Rattle.pmem_words.specs.declared.keeps.Task.TheVariants.{Take as TakeTask}
 use Rattle.pmem_words.specs.Seats.{Seat, owned_room}
-use Rattle.persistence.specs.Memory.{Memory, notes_of, memory_after}
+use Rattle.persistence.specs.Memory.{Memory, pending_of, memory_after}
 use Rattle.log_core.specs.Needs.{is_area, lacking}
 use Rattle.log_core.specs.Within.{no_record}
 use Rattle.crash_model.specs.Worlds.{WorldNow, seat_of}
@@ -52,9 +52,9 @@ take_calls (Some known) m s a seat runs =
 pub take_keeps : (m : Take) (s : Seat) (a seat : ℕ) → RunsAlone seat s → RunsAlone seat (take_script.after m s a).seat
 take_keeps m s a seat runs = take_calls m.known m s a seat runs
 
-pub take_marks : (m : Take) (s : Seat) (memory : Memory) (seat : ℕ) → notes_of seat (memory_after memory seat (take_script.asks m s)).notes ≡ notes_of seat memory.notes
+pub take_marks : (m : Take) (s : Seat) (memory : Memory) (seat : ℕ) → pending_of seat (memory_after memory seat (take_script.asks m s)).pending ≡ pending_of seat memory.pending
 take_marks m s memory seat = by m.known
   where
-    by : (known : Option ℕ) → notes_of seat (memory_after memory seat (asks_at known m s)).notes ≡ notes_of seat memory.notes
+    by : (known : Option ℕ) → pending_of seat (memory_after memory seat (asks_at known m s)).pending ≡ pending_of seat memory.pending
     by None = refl
     by (Some known) = refl

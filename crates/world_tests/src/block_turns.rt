@@ -3,7 +3,7 @@
 ghost use Rattle.std.specs.Prelude.{◌≡◌, ◌≢◌, ◌<◌, ◌≤◌, ◌+◌, ◌^◌, ℕ, length, slice_index, [], IfOk, None, true};
 ghost use Rattle.log_core.specs.Views.{op_of};
 ghost use Rattle.log_core.specs.Within.{no_record};
-ghost use Rattle.log_core.specs.Works.{Begins, worked};
+ghost use Rattle.log_core.specs.Works.{Begins, state_after_work};
 ghost use Rattle.crash_model.specs.Worlds.{seat_of, set_seat};
 ghost use Rattle.crash_model.specs.Led.{IsResting, IsLed, HasLeft, IsTurnOf};
 ghost use Rattle.pmem_words.specs.declared.machine.Turn.TheVariants.{Go, Done};
@@ -26,7 +26,7 @@ pub fn begin_in(world: &mut World, seat: u8, task: Task)
     requires task { op_of task [] ≡ None }
     ensures resting { IsResting world.new }
     ensures alone { AreAlone world.new }
-    ensures same { world.new ≡ set_seat world.old seat (worked (seat_of world.old seat) (Begins task [])) }
+    ensures same { world.new ≡ set_seat world.old seat (state_after_work (seat_of world.old seat) (Begins task [])) }
 {
     begin_alone(world.seat(seat), task);
 }

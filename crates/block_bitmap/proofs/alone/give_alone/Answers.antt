@@ -4,7 +4,7 @@ use Rattle.pmem_words.specs.Courses.{over}
 use Rattle.asks.specs.SharedWords.{SharedWords}
 use Rattle.pmem_words.specs.PlainWords.{plain}
 use Rattle.pmem_words.proofs.LeadsLemmas.{safe_by, ends_by}
-use Rattle.block_bitmap.specs.Given.{IsCleared}
+use Rattle.block_bitmap.specs.Given.{HasClearedBits}
 use Rattle.block_bitmap.proofs.GivenBitsClear.{is_cleared}
 use Rattle.block_bitmap.specs.Giving.{give_script}
 use Rattle.block_bitmap.proofs.GiveOverPlain.{GivenAlone, given_alone}
@@ -22,6 +22,6 @@ returns c =
       count = alone.count;
       seat = alone.seat;
       memory = alone.memory;
-      bits = subst (λ (p : SharedWords). IsCleared c.args.seat.now.blocks.owned c.args.memory.now.taken p.taken) (sym alone.memory) (is_cleared c.args.seat.now.blocks.owned c.args.memory.now.taken);
-      found = subst (λ (s : Seat). IsCleared c.args.seat.now.blocks.owned c.args.seat.now.blocks.found s.blocks.found) (sym alone.seat) (is_cleared c.args.seat.now.blocks.owned c.args.seat.now.blocks.found);
+      bits = subst (λ (p : SharedWords). HasClearedBits c.args.seat.now.blocks.owned c.args.memory.now.taken p.taken) (sym alone.memory) (is_cleared c.args.seat.now.blocks.owned c.args.memory.now.taken);
+      found = subst (λ (s : Seat). HasClearedBits c.args.seat.now.blocks.owned c.args.seat.now.blocks.found s.blocks.found) (sym alone.seat) (is_cleared c.args.seat.now.blocks.owned c.args.seat.now.blocks.found);
     }

@@ -5,7 +5,7 @@ use Rattle.std.proofs.lemmas.List.{length_push}
 use Rattle.log_entry.specs.declared.shapes.Area.{Area}
 use Rattle.pmem_words.specs.Seats.{Seat, owned_room}
 use Rattle.block_bitmap.specs.TakeBits.{blocks_in}
-use Rattle.block_bitmap.specs.TakeScript.{fresh, with_taken}
+use Rattle.block_bitmap.specs.TakeScript.{fresh, with_taken_blocks}
 use Rattle.block_bitmap.proofs.TakeLowest.{none_in, without_lowest, lowest_in}
 use Rattle.block_bitmap.proofs.TakeSteps.{with_one, taken_first, none_taken}
 use Rattle.block_bitmap.proofs.take_bits.own_blocks.Goals as goal
@@ -32,14 +32,14 @@ loop-rest-preserved c =
     let before = c.loop-rest.invariant.count in
     let room = c.loop-rest.invariant.room in
     record {
-      seat = rw c.own.ensures (sym (taken_first c.args.area (c.args.word * 64 + trailing_zeros w64 c.loop-rest.rest) (blocks_in c.args.word (without_lowest c.loop-rest.rest)) c.loop-rest.seat) ∙ ap (λ (blocks : List ℕ). with_taken c.args.area blocks c.loop-rest.seat) (sym (lowest_in c.args.word c.loop-rest.rest some small)) ∙ c.loop-rest.invariant.seat);
+      seat = rw c.own.ensures (sym (taken_first c.args.area (c.args.word * 64 + trailing_zeros w64 c.loop-rest.rest) (blocks_in c.args.word (without_lowest c.loop-rest.rest)) c.loop-rest.seat) ∙ ap (λ (blocks : List ℕ). with_taken_blocks c.args.area blocks c.loop-rest.seat) (sym (lowest_in c.args.word c.loop-rest.rest some small)) ∙ c.loop-rest.invariant.seat);
       count = omega (arith, count, before);
       room = rw c.own.ensures (room_after c.args.area (c.args.word * 64 + trailing_zeros w64 c.loop-rest.rest) c.loop-rest.seat (length (blocks_in c.args.word (without_lowest c.loop-rest.rest))) (omega (arith, count, room)));
     })
 
 pub returns-clause-seat : goal.returns-clause-seat
 returns-clause-seat c = (let none : c.loop-rest.rest ≡ 0 = omega arith in
-    sym (none_taken c.args.area c.loop-rest.seat) ∙ ap (λ (blocks : List ℕ). with_taken c.args.area blocks c.loop-rest.seat) (sym (none_in c.args.word)) ∙ ap (λ (rest : ℕ). with_taken c.args.area (blocks_in c.args.word rest) c.loop-rest.seat) (sym none) ∙ c.loop-rest.invariant.seat)
+    sym (none_taken c.args.area c.loop-rest.seat) ∙ ap (λ (blocks : List ℕ). with_taken_blocks c.args.area blocks c.loop-rest.seat) (sym (none_in c.args.word)) ∙ ap (λ (rest : ℕ). with_taken_blocks c.args.area (blocks_in c.args.word rest) c.loop-rest.seat) (sym none) ∙ c.loop-rest.invariant.seat)
 
 pub returns-clause-count : goal.returns-clause-count
 returns-clause-count c = (let none : c.loop-rest.rest ≡ 0 = omega arith in

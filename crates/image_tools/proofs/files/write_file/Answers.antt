@@ -71,7 +71,8 @@ loop-virt-preserved g c =
         subst (λ (l : List ℕ). AreLaid c.words-words.result.now (shape_by c.geometry.result.now) c.in-Ok.read.table c.size-size.result (c.loop-virt.virt + 1) l) same more,
         gives-twice (g.K.Sink.written c.args.sink.now) (g.K.Sink.written c.loop-virt.sink) (g.K.Sink.written c.add_block.new.sink) given handed.front c.loop-virt.invariant.0.2 handed.gives,
       ),
-      c.in-Ok-add_block.ensures.cause ∙ c.loop-virt.invariant.1,
+      omega (arith, c.loop-virt.invariant.1, c.in-Ok-add_block.ensures.later),
+      λ exact. c.in-Ok-add_block.ensures.cause exact ∙ c.loop-virt.invariant.2 exact,
     )
 
 pub returns-in_default-clause-part : goal.returns-in_default-clause-part

@@ -1,4 +1,4 @@
-use Rattle.log_core.proofs.StartMeets.{start_meets}
+use Rattle.log_core.proofs.starts.StartMeets.{start_meets}
 use Rattle.log_core.proofs.laws.law_start.Goals as goal
 
 pub returns : goal.returns

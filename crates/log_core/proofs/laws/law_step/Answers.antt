@@ -1,5 +1,5 @@
-use Rattle.log_core.proofs.StartMeets.{start_meets}
-use Rattle.log_core.proofs.RunHolds.{step_keeps, run_from}
+use Rattle.log_core.proofs.starts.StartMeets.{start_meets}
+use Rattle.log_core.proofs.kinds.RunHolds.{step_keeps, run_from}
 use Rattle.log_core.proofs.laws.law_step.Goals as goal
 
 pub returns : goal.returns

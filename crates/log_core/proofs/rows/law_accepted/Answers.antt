@@ -1,14 +1,14 @@
-use Rattle.log_core.proofs.RowsMay.{pin_may_be_stored, word_may_be_loaded, word_may_be_marked, entry_may_be_put}
-use Rattle.log_core.proofs.RowsOrder.{order_stands, pins_stand}
-use Rattle.log_core.proofs.RowsViews.{views_stand, owned_stands, givings_stand}
-use Rattle.log_core.proofs.RowsRecords.{records_stand, syncs_stand}
-use Rattle.log_core.proofs.RowsContents.{contents_stand}
-use Rattle.log_core.proofs.RowsOwners.{owners_stand}
-use Rattle.log_core.proofs.RowsRun.{pin_runs, write_fits, views_join, views_split}
-use Rattle.log_core.proofs.RowsLate.{late_write, late_sync, late_walk}
-use Rattle.log_core.proofs.RowsTurns.{runs_may_be_put, collections_in_turn}
-use Rattle.log_core.proofs.RowsOffered.{bitmap_may_be_read, offered_kinds, not_offered}
-use Rattle.log_core.proofs.RowsReached.{block_runs}
+use Rattle.log_core.proofs.row_checks.RowsMay.{pin_may_be_stored, word_may_be_loaded, word_may_be_marked, entry_may_be_put}
+use Rattle.log_core.proofs.row_checks.RowsOrder.{order_stands, pins_stand}
+use Rattle.log_core.proofs.row_checks.RowsViews.{views_stand, owned_stands, givings_stand}
+use Rattle.log_core.proofs.row_checks.RowsRecords.{records_stand, syncs_stand}
+use Rattle.log_core.proofs.row_checks.RowsContents.{contents_stand}
+use Rattle.log_core.proofs.row_checks.RowsOwners.{owners_stand}
+use Rattle.log_core.proofs.row_checks.RowsRun.{pin_runs, write_fits, views_join, views_split}
+use Rattle.log_core.proofs.row_checks.RowsLate.{late_write, late_sync, late_walk}
+use Rattle.log_core.proofs.row_checks.RowsTurns.{runs_may_be_put, collections_in_turn}
+use Rattle.log_core.proofs.row_checks.RowsOffered.{bitmap_may_be_read, offered_kinds, not_offered}
+use Rattle.log_core.proofs.row_checks.RowsReached.{block_runs}
 use Rattle.log_core.proofs.rows.law_accepted.Goals as goal
 
 pub returns : goal.returns

@@ -1,10 +1,10 @@
-use Rattle.log_core.proofs.RowsBegun.{just_made, pins_in_three_steps, scan_sees_pins, comes_to_tail}
-use Rattle.log_core.proofs.RowsTaken.{bits_taken, fence_follows}
-use Rattle.log_core.proofs.RowsOffered.{filled_no_more}
-use Rattle.log_core.proofs.RowsExchanged.{slot_won, slot_lost, write_ends, link_won, link_lost, head_won, head_lost}
-use Rattle.log_core.proofs.RowsGiven.{kept_until_unpinned, bits_cleared, bits_not_cleared, collect_ends, sync_ends}
-use Rattle.log_core.proofs.RowsFiles.{files_by_position, early_files, trail_walked, lacks_blocks, quiet_calls, replies_fit, limits_fit}
-use Rattle.log_core.proofs.RowsWorks.{entry_taken_in, read_lays, base_words, snapshot_read}
+use Rattle.log_core.proofs.row_checks.RowsBegun.{just_made, pins_in_three_steps, scan_sees_pins, comes_to_tail}
+use Rattle.log_core.proofs.row_checks.RowsTaken.{bits_taken, fence_follows}
+use Rattle.log_core.proofs.row_checks.RowsOffered.{filled_no_more}
+use Rattle.log_core.proofs.row_checks.RowsExchanged.{slot_won, slot_lost, write_ends, link_won, link_lost, head_won, head_lost}
+use Rattle.log_core.proofs.row_checks.RowsGiven.{kept_until_unpinned, bits_cleared, bits_not_cleared, collect_ends, sync_ends}
+use Rattle.log_core.proofs.row_checks.RowsFiles.{files_by_position, early_files, trail_walked, lacks_blocks, quiet_calls, replies_fit, limits_fit}
+use Rattle.log_core.proofs.row_checks.RowsWorks.{entry_taken_in, read_lays, base_words, snapshot_read}
 use Rattle.log_core.proofs.rows.law_rows.Goals as goal
 
 pub returns : goal.returns

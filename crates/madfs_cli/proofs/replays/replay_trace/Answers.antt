@@ -15,4 +15,4 @@ returns-clause-trace_read g c = λ bytes known. (c.in-Ok.jobs.items, c.in-Ok.ens
 pub returns-clause-replay : goal.returns-clause-replay
 returns-clause-replay g c = λ bytes text opened known.
     replayed bytes c.in_ok-start.start.words.items text c.in-Ok-run_jobs.run'.text.items c.in-Ok-run_jobs.run'.words.items c.in-Ok-to_bytes.image.items c.in-Ok.jobs.items
-    (c.in_ok-start.ensures.opened bytes opened) (c.in-Ok.ensures.read text known) c.in-Ok-run_jobs.ensures (rw c.deref.ensures.value at c.in-Ok-to_bytes.ensures.value)
+    (c.in_ok-start.ensures.opened bytes opened) (c.in-Ok.ensures.read text known) c.in-Ok-run_jobs.ensures (rw c.deref.ensures.value at c.note_range.ensures) (rw c.deref-2.ensures.value at c.in-Ok-to_bytes.ensures.value)

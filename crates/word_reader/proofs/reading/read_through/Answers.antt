@@ -36,7 +36,8 @@ loop-count-preserved g c =
       fits = omega (arith, moved.count, loop.invariant.fits, c.if-count-room.false, c.len.ensures);
       taken = subst (λ (bytes : List ℕ). Takes (g.S.Source.left c.args.source.now) (g.S.Source.left c.read_behind.new.source) bytes) (sym moved.same)
           (taken_behind (g.S.Source.left c.args.source.now) (g.S.Source.left loop.source) (g.S.Source.left c.read_behind.new.source) (word_bytes loop.words.items) loop.buffer buffer loop.kept c.in-Bytes.count loop.invariant.taken c.in-Bytes.ensures.bytes c.in-Bytes.ensures.front);
-      counts = c.in-Bytes.ensures.cause ∙ loop.invariant.counts;
+      later = omega (arith, loop.invariant.later, c.in-Bytes.ensures.later);
+      counts = λ exact. c.in-Bytes.ensures.cause exact ∙ loop.invariant.counts exact;
     }
 
 pub returns-in-Failed-clause-part : goal.returns-in-Failed-clause-part

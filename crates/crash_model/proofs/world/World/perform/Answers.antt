@@ -3,7 +3,7 @@ use Rattle.pmem_words.specs.Seats.{new_seat}
 use Rattle.log_core.specs.Views.{no_geometry}
 use Rattle.crash_model.specs.Worlds.{WorldNow, StandsForSome, StandsAfter, world_after}
 use Rattle.crash_model.proofs.Standing.{takes, seat_made, low, rises_small, stands_some, stands_each, world_is}
-use Rattle.log_core.specs.Steps.{kind_of}
+use Rattle.log_core.specs.Steps.{kind_of_ask}
 use Rattle.std.proofs.lemmas.List.{get_or_read}
 use Rattle.crash_model.proofs.world.World.perform.Goals as goal
 
@@ -50,6 +50,6 @@ pub overflow_add-self : goal.overflow_add-self
 overflow_add-self c = let f = rw (← c.self.view_is) at c.requires.fits in
     let w : WorldNow = record { geometry = c.self.inside.geometry; cells = c.self.inside.cells; seats = c.self.inside.seats.items; position = c.self.inside.position; synced = c.self.inside.synced } in
     let under = low w c.args.seat c.args.ask f in
-    let small = rises_small (kind_of c.q.result c.args.seat c.args.ask) c.perform-answer.result in
+    let small = rises_small (kind_of_ask c.q.result c.args.seat c.args.ask) c.perform-answer.result in
     let is = c.rise.ensures in
     omega (arith, under, small, is)

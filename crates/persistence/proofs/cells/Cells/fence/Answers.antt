@@ -1,6 +1,6 @@
 use Rattle.std.proofs.Common.{◌<◌, ◌==◌, not, arith, vec_len}
 use Rattle.std.proofs.lemmas.List.Elements.{All-filter}
-use Rattle.persistence.specs.Memory.{Noted}
+use Rattle.persistence.specs.Memory.{PendingMark}
 use Rattle.persistence.proofs.cells.Cells.fence.Goals as goal
 
 pub invariant_of-self : goal.invariant_of-self
@@ -10,5 +10,5 @@ invariant_of-self c = (
   c.self.invariant.2,
   c.self.invariant.3,
   rw c.forget.ensures.items
-      (All-filter (λ (note : Noted). not (note.seat == c.args.seat)) (λ (note : Noted). note.word < vec_len c.self.inside.words) c.self.inside.notes.items c.self.invariant.4),
+      (All-filter (λ (note : PendingMark). not (note.seat == c.args.seat)) (λ (note : PendingMark). note.word < vec_len c.self.inside.words) c.self.inside.pending.items c.self.invariant.4),
 )

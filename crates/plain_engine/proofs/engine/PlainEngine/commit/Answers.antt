@@ -6,7 +6,7 @@ use Rattle.plain_engine.specs.Running.{Runs, RunsOnSome}
 use Rattle.plain_engine.specs.declared.engine.PlainEngine.{PlainEngine}
 use Rattle.plain_engine.proofs.BoundsLemmas.{Bounds, bounds}
 use Rattle.plain_engine.proofs.EngineLemmas.{lent_back}
-use Rattle.plain_engine.proofs.CommitLemmas.{commit_by, commit_head, slot_place}
+use Rattle.plain_engine.proofs.CommitLemmas.{commit_by, commit_first, slot_place}
 use Rattle.plain_engine.proofs.NamesLemmas.{run_taken}
 use Rattle.plain_engine.proofs.engine.PlainEngine.commit.Goals as goal
 
@@ -64,8 +64,8 @@ returns-clause-names c = λ chain file runs.
     chain file (c.requires.entry chain file runs).0 runs c.requires.slot new_runs
     (subst (λ (l : List ℕ). (other : ℕ) → bit_of c.mark_run.new.taken other ≡ (if nat_le c.args.run.block other && nat_lt other (c.args.run.block + c.args.run.count) then 1 else bit_of l other)) c.deref_mut.ensures.value c.mark_run.ensures)
 
-pub returns-clause-head : goal.returns-clause-head
-returns-clause-head c =
+pub returns-clause-first_block : goal.returns-clause-first_block
+returns-clause-first_block c =
     let e = c.args.self.now in
     let b = in_bounds c.args.self.now in
-    commit_head (shape_by e.geometry) e.words.items e.tail_block e.tail_slot c.q-count.result c.encode-word.result (omega (arith, b.long)) c.q-count.ensures b.tail_area
+    commit_first (shape_by e.geometry) e.words.items e.tail_block e.tail_slot c.q-count.result c.encode-word.result c.q-count.ensures b.tail_area

@@ -7,7 +7,7 @@ use Rattle.plain_engine.specs.Running.{Runs, RunsOnSome}
 use Rattle.plain_engine.specs.declared.engine.PlainEngine.{PlainEngine}
 use Rattle.plain_engine.proofs.BoundsLemmas.{Bounds, bounds}
 use Rattle.plain_engine.proofs.EngineLemmas.{lent_back}
-use Rattle.plain_engine.proofs.GrowLemmas.{Stored, stored_by, grow_by, grow_content, grow_bits, grow_head, tail_place, block_place, none_lacks, one_enough}
+use Rattle.plain_engine.proofs.GrowLemmas.{Stored, stored_by, grow_by, grow_content, grow_bits, grow_first, tail_place, block_place, none_lacks, one_enough}
 use Rattle.plain_engine.proofs.NamesLemmas.{slot_linked}
 use Rattle.plain_engine.proofs.engine.PlainEngine.make_slot.Goals as goal
 
@@ -113,7 +113,7 @@ returns-clause-same c =
       table = refl;
       position = refl;
       first_clear = refl;
-      head = grow_head (shape_by e.geometry) e.words.items c.store_fresh.new.words (take e.words.len (c.store_fresh.new.words ++ drop (length c.store_fresh.new.words) e.words.items)) e.taken.items e.position e.tail_block c.in-Some.next c.q-count.result stored back c.q-count.ensures (in_bounds e).tail_area;
+      first_block = grow_first (shape_by e.geometry) e.words.items c.store_fresh.new.words (take e.words.len (c.store_fresh.new.words ++ drop (length c.store_fresh.new.words) e.words.items)) e.taken.items e.position e.tail_block c.in-Some.next c.q-count.result stored back c.q-count.ensures (in_bounds e).tail_area;
       content = grow_content (shape_by e.geometry) e.words.items c.store_fresh.new.words (take e.words.len (c.store_fresh.new.words ++ drop (length c.store_fresh.new.words) e.words.items)) e.taken.items e.position e.tail_block c.in-Some.next c.q-count.result stored back c.q-count.ensures (in_bounds e).tail_area;
       bits = grow_bits (shape_by e.geometry) e.words.items c.store_fresh.new.words e.taken.items c.mark.new.taken (take e.taken.len (c.mark.new.taken ++ drop (length c.mark.new.taken) e.taken.items)) e.position c.in-Some.next stored back_taken marks;
     }

@@ -1,4 +1,4 @@
-use Rattle.std.proofs.Common.{◌≡◌, ◌∙◌, ◌≤◌, ◌+◌, ℕ, List, take, drop, ◌++◌, length, ap, sym, subst, refl, get_or, arith}
+use Rattle.std.proofs.Common.{◌≡◌, ◌∙◌, ◌≤◌, ◌+◌, ℕ, List, take, drop, ◌++◌, length, ap, sym, subst, refl, arith}
 use Rattle.std.proofs.Math.Logic.{∥∥₁_map}
 use Rattle.log_image.specs.Image.{total, shape_by}
 use Rattle.log_image.specs.Tails.{tail_of}
@@ -6,7 +6,8 @@ use Rattle.log_image.specs.Taken.{is_taken}
 use Rattle.plain_engine.specs.Running.{Runs, RunsOnSome}
 use Rattle.plain_engine.proofs.BoundsLemmas.{bounds}
 use Rattle.plain_engine.proofs.RunningSteps.{store_at, store_names}
-use Rattle.plain_engine.proofs.EngineLemmas.{lent_back, keeps_by, apart_by, stored_kept, stored_head}
+use Rattle.plain_engine.specs.Engine.{KeepsFirstBlock}
+use Rattle.plain_engine.proofs.EngineLemmas.{lent_back, keeps_by, apart_by, stored_kept, stored_first}
 use Rattle.plain_engine.proofs.engine.PlainEngine.store.Goals as goal
 
 pub store_run-requires-clause-apart : goal.store_run-requires-clause-apart
@@ -55,7 +56,6 @@ returns-clause-same c =
     let e = c.args.self.now in
     let back : take e.words.len (c.store_run.new.words ++ drop (length c.store_run.new.words) e.words.items) ≡ c.store_run.new.words =
     lent_back c.store_run.new.words e.words.items e.words.len (c.store_run.auto.words ∙ ap length c.deref_mut.ensures.value) e.words.ok.0 in
-    let b = bounds (shape_by e.geometry) e.words.items e.taken.items e.table e.position e.tail_block e.tail_slot e.first_clear e.kept in
     record {
       geometry = refl;
       taken = refl;
@@ -64,6 +64,6 @@ returns-clause-same c =
       tail_block = refl;
       tail_slot = refl;
       first_clear = refl;
-      head = ap (λ (l : List ℕ). get_or l 3 0) back
-          ∙ stored_head (shape_by e.geometry) e.words.items c.deref_mut.result.now c.store_run.new.words c.args.run.block c.args.run.count (omega (arith, b.long)) c.deref_mut.ensures.value c.requires.first c.store_run.auto.words c.store_run.ensures.others;
+      first_block = subst (λ (l : List ℕ). KeepsFirstBlock (shape_by e.geometry) e.words.items l) (sym back)
+          (stored_first (shape_by e.geometry) e.words.items c.deref_mut.result.now c.store_run.new.words c.args.run.block c.args.run.count c.deref_mut.ensures.value c.requires.first c.store_run.ensures.others);
     }

@@ -10,6 +10,7 @@ use Rattle.plain_engine.specs.Names.{NamesAfter}
 use Rattle.plain_engine.specs.Engine.{Running, HasSlot, LacksSlot, run_word}
 use Rattle.plain_engine.specs.declared.engine.PlainEngine.{PlainEngine}
 use Rattle.plain_engine.proofs.BoundsLemmas.{header_bit}
+use Rattle.plain_engine.proofs.EngineLemmas.{first_then}
 use Rattle.plain_engine.proofs.WriteLemmas.{IsRunFor, run_for, run_fits}
 use Rattle.plain_engine.proofs.SpaceLemmas.{Cursor, run_enough, no_run_lacks, lacking_data, lacking_log, lacking_none}
 use Rattle.plain_engine.proofs.WriteSteps.{IsWay, way_entry, way_least, way_names, shape_slotted, log_lack}
@@ -37,7 +38,7 @@ returns-in_default c = λ chain file runs.
           (subst (λ (n : ℕ). (block : ℕ) → IsLeastRun c.deref.result.now e.first_clear n c.touched-count.result block → ⊥) c.first-end.ensures c.in_default.ensures))));
       geometry = refl;
       position = refl;
-      head = refl;
+      first_block = λ place inside. refl;
       longer = chain;
       runs = runs;
       names = names_stay (shape_by e.geometry) e.words.items e.words.items chain (λ block. refl) refl;
@@ -63,7 +64,7 @@ returns-then-not-make_slot c = λ chain file runs.
       space = lacking_log e.words.items (shape_by e.geometry) chain (touched_blocks e.geometry.block_bytes c.args.offset (length c.args.bytes.now)) enough (log_lack e c.store.new.self chain c.store.ensures.same (c.store.ensures.names chain file runs) true none.lacking);
       geometry = c.make_slot.ensures.same.geometry ∙ c.store.ensures.same.geometry;
       position = c.make_slot.ensures.same.position ∙ c.store.ensures.same.position;
-      head = c.make_slot.ensures.same.head ∙ c.store.ensures.same.head;
+      first_block = first_then e.geometry c.store.new.self.geometry e.words.items c.store.new.self.words.items c.make_slot.new.self.words.items c.store.ensures.same.geometry c.store.ensures.same.first_block c.make_slot.ensures.same.first_block;
       longer = chain;
       runs = none.runs;
       names = subst (λ (l : List ℕ). NamesAfter (shape_by e.geometry) e.words.items chain None l chain) (sym none.same)
@@ -169,7 +170,9 @@ returns c = λ chain file runs.
       space = lacking_none e.words.items (shape_by e.geometry) chain (touched_blocks e.geometry.block_bytes c.args.offset (length c.args.bytes.now)) enough (log_lack e c.store.new.self chain c.store.ensures.same (c.store.ensures.names chain file runs) false slot.enough);
       geometry = c.commit.ensures.geometry ∙ c.make_slot.ensures.same.geometry ∙ c.store.ensures.same.geometry;
       position = c.commit.ensures.position ∙ ap (λ (n : ℕ). n + 1) (c.make_slot.ensures.same.position ∙ c.store.ensures.same.position);
-      head = c.commit.ensures.head ∙ c.make_slot.ensures.same.head ∙ c.store.ensures.same.head;
+      first_block = first_then e.geometry c.make_slot.new.self.geometry e.words.items c.make_slot.new.self.words.items c.commit.new.self.words.items (c.make_slot.ensures.same.geometry ∙ c.store.ensures.same.geometry)
+          (first_then e.geometry c.store.new.self.geometry e.words.items c.store.new.self.words.items c.make_slot.new.self.words.items c.store.ensures.same.geometry c.store.ensures.same.first_block c.make_slot.ensures.same.first_block)
+          c.commit.ensures.first_block;
       longer = slot.longer;
       runs = c.commit.ensures.runs slot.longer file (write file c.args.offset c.args.bytes.now) slot.runs (way_entry e c.store.new.self c.make_slot.new.self (c.args.offset / c.from.result) c.in-Some.block c.touched-count.result ((c.args.offset / c.from.result + c.touched-count.result) * c.from-2.result - (c.args.offset + length c.args.bytes.now)) c.args.offset c.args.bytes.now way slot.longer file slot.runs);
       names = subst (λ (n : ℕ). NamesAfter (shape_by e.geometry) e.words.items chain (Some n) c.commit.new.self.words.items slot.longer) touch

@@ -1,0 +1,23 @@
+-- What a step leaves of each clause of the invariant.
+pub mod OneView
+pub mod Narrows
+pub mod Leaves
+pub mod Apart
+pub mod Others
+pub mod SetCore
+pub mod SetBlocks
+pub mod MemoryMoves
+pub mod OwnedLists
+pub mod MarkedNow
+pub mod OwnedStored
+pub mod OwnedMarked
+pub mod OwnedFenced
+pub mod OwnWords
+pub mod OwnBlocks
+pub mod BitWords
+pub mod SetOwners
+pub mod ClearedOwners
+pub mod OwnedPlaces
+pub mod SetOwned
+pub mod OwnedBut
+pub mod BitmapLeaves

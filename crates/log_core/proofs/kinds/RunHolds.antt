@@ -1,0 +1,84 @@
+-- So does every run: each ask of an offered kind is one of the nine.
+use Rattle.std.proofs.Common.{◌≡◌, ◌≢◌, ◌<◌, ◌==◌, ◌%◌, not, ℕ, Bool, true, false, if◌then◌else◌, List, [], ◌∷◌, length, refl, sym, subst, slice_index}
+use Rattle.std.specs.List.{list_all}
+use Rattle.std.proofs.lemmas.Bool.{eqb-true}
+use Rattle.pmem_words.specs.Seats.{Seat}
+use Rattle.asks.specs.declared.ask.Place.TheVariants.{Image, Pin, Map, FenceOf}
+use Rattle.asks.specs.declared.ask.Ask.{Ask}
+use Rattle.asks.specs.declared.ask.Ask.TheVariants.{Load, Store, Exchange, SetBits, ClearBits, Mark, Fence}
+use Rattle.persistence.specs.Memory.{found, found_answer}
+use Rattle.log_core.specs.Entries.{head_place}
+use Rattle.log_core.specs.Views.{View, view_of}
+use Rattle.log_core.specs.Origin.{Origin, q_of_origin}
+use Rattle.log_core.specs.Cores.{Core, first_core}
+use Rattle.log_core.specs.Steps.{Note, Step, Does, Splits, Joins, Kind, LoadsHead, StoresOwnPin, LoadsImageWord, NoKind, ExchangesHead, ExchangesLink, ExchangesSlot, kind_of_ask, exchange_kind}
+use Rattle.log_core.specs.After.{stepped}
+use Rattle.log_core.specs.May.{IsOfferedKind}
+use Rattle.log_core.specs.Runs.{MayStep, IsRun, end, is_offered_work}
+use Rattle.log_core.specs.Invariant.{Invariant}
+use Rattle.log_core.specs.Laws.{StepKeeps}
+use Rattle.log_core.proofs.kinds.StepHolds.{head_holds, pin_holds, seen_holds, bitmap_word_holds, set_bits_holds, clear_bits_holds, stored_holds, mark_holds, fence_holds}
+
+-- an exchange is of no offered kind
+pub no_exchange : (s : Seat) (q word before next : ℕ) → IsOfferedKind s (exchange_kind q word before next) → ⊥
+no_exchange s q word before next = by (word == head_place) (not (before == 0)) (word % q == 0)
+  where
+    by : (head some link : Bool) → IsOfferedKind s (if head then ExchangesHead before next else if some then NoKind else if link then ExchangesLink word next else ExchangesSlot word next) → ⊥
+    by true some link offered = offered
+    by false true link offered = offered
+    by false false true offered = offered
+    by false false false offered = offered
+
+module _ (o : Origin) (c : Core) (n : ℕ) (inv : Invariant o c) (here : n < length c.views) (unspent : (view_of c.views n).parts ≢ []) (note : Note) where
+  abbrev mine : View
+  mine = view_of c.views n
+
+  -- what a step of this kind, with this ask and what it finds, has to keep
+  abbrev KeepsAsk : Ask → Kind → ℕ → ℕ → Type 0
+  KeepsAsk ask kind f answered = IsOfferedKind note.before kind → (step : MayStep o c mine kind note answered) → list_all is_offered_work step.begins.works ≡ true →
+      list_all is_offered_work step.enters.computed.works ≡ true → note.adds ≡ [] → Invariant o (stepped o c n ask note kind f)
+
+  by_head : (word : ℕ) (b : Bool) → (word == head_place) ≡ b → KeepsAsk (Load (Image word)) (if b then LoadsHead else LoadsImageWord word) (slice_index c.memory.now.words word) (slice_index c.memory.now.words word)
+  by_head word true e = subst (λ (w : ℕ). KeepsAsk (Load (Image w)) LoadsHead (slice_index c.memory.now.words w) (slice_index c.memory.now.words w)) (sym (eqb-true word head_place e))
+      (λ offered. head_holds o c n inv here unspent note)
+  by_head word false e = λ offered. absurd offered
+
+  by_own : (other value f : ℕ) (b : Bool) → (other == n) ≡ b → KeepsAsk (Store (Pin other) value) (if b then StoresOwnPin value else NoKind) f 0
+  by_own other value f true e = subst (λ (k : ℕ). KeepsAsk (Store (Pin k) value) (StoresOwnPin value) f 0) (sym (eqb-true other n e))
+      (λ offered. pin_holds o c n inv here unspent note value f)
+  by_own other value f false e = λ offered. absurd offered
+
+  each_ask : (ask : Ask) → KeepsAsk ask (kind_of_ask (q_of_origin o) n ask) (found c.memory ask) (found_answer c.memory ask)
+  each_ask (Load (Image word)) = by_head word (word == head_place) refl
+  each_ask (Load (Pin other)) = λ offered. seen_holds o c n inv here unspent note other
+  each_ask (Load (Map word)) = λ offered. bitmap_word_holds o c n inv here unspent note word
+  each_ask (Load (FenceOf other)) = λ offered. absurd offered
+  each_ask (Store (Image word) value) = λ offered. stored_holds o c n inv here unspent note word value
+  each_ask (Store (Pin other) value) = by_own other value (found c.memory (Store (Pin other) value)) (other == n) refl
+  each_ask (Store (Map word) value) = λ offered. absurd offered
+  each_ask (Store (FenceOf other) value) = λ offered. absurd offered
+  each_ask (Exchange (Image word) before next) = λ offered. absurd (no_exchange note.before (q_of_origin o) word before next offered)
+  each_ask (Exchange (Pin other) before next) = λ offered. absurd offered
+  each_ask (Exchange (Map word) before next) = λ offered. absurd offered
+  each_ask (Exchange (FenceOf other) before next) = λ offered. absurd offered
+  each_ask (SetBits (Image word) bits) = λ offered. absurd offered
+  each_ask (SetBits (Pin other) bits) = λ offered. absurd offered
+  each_ask (SetBits (Map word) bits) = λ offered. set_bits_holds o c n inv here unspent note word bits
+  each_ask (SetBits (FenceOf other) bits) = λ offered. absurd offered
+  each_ask (ClearBits (Image word) bits) = λ offered. absurd offered
+  each_ask (ClearBits (Pin other) bits) = λ offered. absurd offered
+  each_ask (ClearBits (Map word) bits) = λ offered. clear_bits_holds o c n inv here unspent note word bits offered
+  each_ask (ClearBits (FenceOf other) bits) = λ offered. absurd offered
+  each_ask (Mark word) = λ offered. mark_holds o c n inv here unspent note word offered
+  each_ask Fence = λ offered. fence_holds o c n inv here unspent note offered
+
+pub step_keeps : StepKeeps
+step_keeps o c (Does seat ask note) inv allowed =
+    each_ask o c seat inv allowed.fits.made allowed.fits.unspent note ask allowed.offered.kind allowed.fits.step allowed.offered.before allowed.offered.later allowed.offered.no_record
+step_keeps o c (Splits seat) inv allowed = absurd allowed.offered
+step_keeps o c (Joins seat other) inv allowed = absurd allowed.offered
+
+-- and every run, from a core that meets the invariant
+pub run_from : (o : Origin) (steps : List Step) → Invariant o (first_core o) → IsRun o steps → Invariant o (end o steps)
+run_from o [] start run = start
+run_from o (step ∷ steps) start run = step_keeps o (end o steps) step (run_from o steps start run.0) run.1

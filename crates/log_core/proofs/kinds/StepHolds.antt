@@ -1,0 +1,209 @@
+-- Each step that is offered keeps the invariant.
+use Rattle.std.proofs.Common.{◌≡◌, ◌≢◌, ◌<◌, ℕ, Bool, true, false, List, [], ◌∷◌, ◌++◌, length, refl, sym, ◌∙◌, ap, subst, arith, ⊎_elim, slice_index, slice_set, Option, Some, None, append-nil}
+use Rattle.std.specs.List.{list_all}
+use Rattle.std.proofs.lemmas.List.{get_or-set_same, get_or-set_other, length-set, set-get_or}
+use Rattle.log_entry.specs.declared.calls.Op.{Op}
+use Rattle.log_entry.specs.declared.calls.Call.{Call}
+use Rattle.pmem_words.specs.declared.keeps.Task.TheVariants.{Sync}
+use Rattle.pmem_words.specs.Seats.{Seat}
+use Rattle.asks.specs.declared.ask.Place.TheVariants.{Image, Pin, Map}
+use Rattle.asks.specs.declared.ask.Ask.TheVariants.{Load, Store, SetBits, ClearBits, Mark, Fence}
+use Rattle.persistence.specs.Memory.{Memory, memory_after}
+use Rattle.log_core.specs.Entries.{head_place}
+use Rattle.log_core.specs.Views.{View, view_of, op_in}
+use Rattle.log_core.specs.Origin.{Origin, shape, Owner}
+use Rattle.log_core.specs.Files.{end_of}
+use Rattle.log_core.specs.Cores.{Core}
+use Rattle.log_core.specs.Owners.{BitsFit}
+use Rattle.log_core.specs.Works.{ended}
+use Rattle.log_core.specs.Steps.{Note, Kind, LoadsHead, StoresOwnPin, LoadsPinWord, LoadsBitmapWord, SetsBits, ClearsBits, StoresWord, MarksWord, Fences, is_begun, is_of_owned, ghost_begun, ghost_ended, view_after}
+use Rattle.log_core.specs.After.{stepped, began_if, owner_after, synced_to, synced_after}
+use Rattle.log_core.specs.May.{IsOwnMark}
+use Rattle.log_core.specs.Runs.{MayNumber, MayStep, ghost_at, effect_at, ghost_left, is_offered_work}
+use Rattle.log_core.specs.Invariant.{Invariant}
+use Rattle.log_core.specs.Knows.{with_seat, Knows}
+use Rattle.log_core.proofs.clauses.Leaves.{Leaves, Changes, moved, no_changes, pins_leave}
+use Rattle.log_core.proofs.clauses.SetCore.{set_core}
+use Rattle.log_core.proofs.Facts.{facts_of, pins_known}
+use Rattle.log_core.proofs.kinds.Worked.{FactsAt, works_hold, later_hold}
+use Rattle.log_core.proofs.kinds.LoadsHead.{load_facts}
+use Rattle.log_core.proofs.kinds.StoresOwnPin.{store_facts}
+use Rattle.log_core.proofs.kinds.LoadsPinWord.{seen_facts}
+use Rattle.log_core.proofs.kinds.LoadsBitmapWord.{map_leaves, map_bits, map_facts}
+use Rattle.log_core.proofs.kinds.SetsBits.{sets_leaves, sets_changes, sets_bits, sets_facts}
+use Rattle.log_core.proofs.kinds.ClearsBits.{clears_leaves, clears_changes, clears_bits, clears_facts}
+use Rattle.log_core.proofs.kinds.StoresWord.{store_leaves, store_word_facts}
+use Rattle.log_core.proofs.kinds.MarksWord.{mark_leaves, mark_word_facts}
+use Rattle.log_core.proofs.kinds.Fences.{no_sync_fenced, fence_leaves, fence_facts}
+
+began_length : (b : Bool) (began : List ℕ) (n end : ℕ) → length (began_if b began n end) ≡ length began
+began_length true began n end = length-set began n end
+began_length false began n end = refl
+
+began_other : (b : Bool) (began : List ℕ) (n end k : ℕ) → k ≢ n → slice_index (began_if b began n end) k ≡ slice_index began k
+began_other true began n end k other = get_or-set_other began n k end 0 other
+began_other false began n end k other = refl
+
+-- a step of a kind, whose parts are given
+module _ (o : Origin) (c : Core) (n : ℕ) (inv : Invariant o c) (here : n < length c.views) (unspent : (view_of c.views n).parts ≢ []) (note : Note) where
+  abbrev mine : View
+  mine = view_of c.views n
+
+  abbrev began : List ℕ
+  began = began_if (is_begun (op_in mine.seat) (op_in note.before)) c.began n (end_of o c.history)
+
+  began_fits : length began ≡ length c.began
+  began_fits = began_length (is_begun (op_in mine.seat) (op_in note.before)) c.began n (end_of o c.history)
+
+  began_others : (k : ℕ) → k ≢ n → slice_index began k ≡ slice_index c.began k
+  began_others = began_other (is_begun (op_in mine.seat) (op_in note.before)) c.began n (end_of o c.history)
+
+  ended_none : (adds : List Call) (last : Seat) → adds ≡ [] → ended adds last ≡ last
+  ended_none [] last e = refl
+  ended_none (call ∷ calls) last e = cc
+
+  module _ (kind : Kind) (f : ℕ) (step : MayStep o c mine kind note f) (before : list_all is_offered_work step.begins.works ≡ true) (later : list_all is_offered_work step.enters.computed.works ≡ true) (no_record : note.adds ≡ []) where
+    -- what holds at the ask
+    pub at_ask : Knows o c n note.before (ghost_at mine note) (slice_index c.memory.now.pins n) (slice_index began n)
+    at_ask = subst (λ (s : Seat). Knows o c n s (ghost_begun mine.ghost mine.seat s note.number) (slice_index c.memory.now.pins n) (slice_index (began_if (is_begun (op_in mine.seat) (op_in s)) c.began n (end_of o c.history)) n))
+        (sym step.begins.gives)
+        (works_hold o c n (slice_index c.memory.now.pins n) note.number mine.seat step.begins.works before step.begins.may start (λ e. e)
+        (subst (λ (s : Seat). MayNumber (is_begun (op_in mine.seat) (op_in s)) mine.ghost.call.number note.number) step.begins.gives step.number))
+      where
+        begun_same : (op : Option Op) → is_begun op op ≡ false
+        begun_same None = refl
+        begun_same (Some op) = refl
+
+        start : FactsAt o c n (slice_index c.memory.now.pins n) note.number mine.seat
+        start = rw (begun_same (op_in mine.seat)) (facts_of o c n inv here)
+
+    -- what the call computes after it, and that it goes on
+    at_end : (core : Core) (pin : ℕ) → Knows o core n (effect_at mine note kind f) (ghost_left mine note kind f) pin (slice_index began n) → Knows o core n note.seat (ghost_left mine note kind f) pin (slice_index began n)
+    at_end core pin facts = subst (λ (s : Seat). Knows o core n s (ghost_left mine note kind f) pin (slice_index began n))
+        (sym (step.enters.seat_is ∙ (ended_none note.adds step.enters.last no_record ∙ step.enters.computed.gives)))
+        (later_hold o core n pin (slice_index began n) (ghost_left mine note kind f) (effect_at mine note kind f) step.enters.computed.works later step.enters.going_on step.enters.computed.may facts)
+
+    -- the view that the step leaves
+    view_is : view_after mine kind note f ≡ with_seat mine note.seat (ghost_left mine note kind f)
+    view_is = ap (λ (adds : List Call). record mine { seat = note.seat; ghost = ghost_ended adds (ghost_left mine note kind f); done = mine.done ++ adds }) no_record
+        ∙ ap (λ (calls : List Call). record mine { seat = note.seat; ghost = ghost_left mine note kind f; done = calls }) (append-nil mine.done)
+
+    -- so the step keeps the invariant, where it leaves to the others what they know, and its effect is known
+    pub kind_holds : (m : Memory) (owner : ℕ → Owner) → Leaves o c n m → Changes c n owner → BitsFit (shape o) m.now.taken owner →
+        Knows o (moved c m owner) n (effect_at mine note kind f) (ghost_left mine note kind f) (slice_index m.now.pins n) (slice_index began n) →
+        Invariant o (record c { memory = m; views = slice_set c.views n (view_after mine kind note f); owner = owner; began = began })
+    kind_holds m owner leaves changes bits facts = subst (λ (w : View). Invariant o (record c { memory = m; views = slice_set c.views n w; owner = owner; began = began })) (sym view_is)
+        (set_core o c n note.seat (ghost_left mine note kind f) m owner began inv here unspent leaves changes bits (at_end (moved c m owner) (slice_index m.now.pins n) facts) began_fits began_others)
+
+  -- the premises of a step of a kind
+  abbrev Keeps : Kind → ℕ → Type 0 → Type 0
+  Keeps kind f Holds = (step : MayStep o c mine kind note f) → list_all is_offered_work step.begins.works ≡ true → list_all is_offered_work step.enters.computed.works ≡ true → note.adds ≡ [] → Holds
+
+  -- the memory with other pin words
+  abbrev with_pins : List ℕ → Memory
+  with_pins pins = record (c.memory) { now = record (c.memory.now) { pins = pins } }
+
+  -- a step that changes at most the own pin word
+  pins_hold : (kind : Kind) (f : ℕ) (pins : List ℕ) → length pins ≡ length c.memory.now.pins → ((k : ℕ) → k ≢ n → slice_index pins k ≡ slice_index c.memory.now.pins k) →
+      (step : MayStep o c mine kind note f) (before : list_all is_offered_work step.begins.works ≡ true) (later : list_all is_offered_work step.enters.computed.works ≡ true) (no_record : note.adds ≡ []) →
+      Knows o c n (effect_at mine note kind f) (ghost_left mine note kind f) (slice_index pins n) (slice_index began n) →
+      Invariant o (record c { memory = with_pins pins; views = slice_set c.views n (view_after mine kind note f); began = began })
+  pins_hold kind f pins same others step before later no_record facts =
+      kind_holds kind f step before later no_record (with_pins pins) c.owner (pins_leave o c n inv pins same others) (no_changes c n) inv.owners.bits (pins_known o c n _ _ _ _ pins facts)
+
+  -- a load of the head
+  pub head_holds : Keeps LoadsHead (slice_index c.memory.now.words head_place) (Invariant o (stepped o c n (Load (Image head_place)) note LoadsHead (slice_index c.memory.now.words head_place)))
+  head_holds step before later no_record =
+      (let f = slice_index c.memory.now.words head_place in
+      let facts = load_facts o c n note.before (ghost_at mine note) (slice_index c.memory.now.pins n) (slice_index began n) f inv (at_ask LoadsHead f step before later no_record) refl in
+      subst (λ (words : List ℕ). Invariant o (record c { memory = record (c.memory) { now = record (c.memory.now) { words = words } }; views = slice_set c.views n (view_after mine LoadsHead note f); began = began }))
+      (sym (set-get_or c.memory.now.words head_place 0))
+      (pins_hold LoadsHead f c.memory.now.pins refl (λ k other. refl) step before later no_record facts))
+
+  -- a store of the own pin word
+  pub pin_holds : (value found : ℕ) → Keeps (StoresOwnPin value) 0 (Invariant o (stepped o c n (Store (Pin n) value) note (StoresOwnPin value) found))
+  pin_holds value found step before later no_record =
+      (let inside : n < length c.memory.now.pins = (let few = inv.sizes.few in let many = inv.sizes.words.pins in omega (arith, here, few, many)) in
+      let facts = store_facts o c n note.before (ghost_at mine note) (slice_index c.memory.now.pins n) (slice_index began n) value (at_ask (StoresOwnPin value) 0 step before later no_record) step.may in
+      pins_hold (StoresOwnPin value) 0 (slice_set c.memory.now.pins n value) (length-set c.memory.now.pins n value) (λ k other. get_or-set_other c.memory.now.pins n k value 0 other) step before later no_record
+      (subst (λ (pin : ℕ). Knows o c n (effect_at mine note (StoresOwnPin value) 0) (ghost_left mine note (StoresOwnPin value) 0) pin (slice_index began n)) (sym (get_or-set_same c.memory.now.pins n value 0 inside)) facts))
+
+  -- a load of a pin word
+  pub seen_holds : (other : ℕ) → Keeps (LoadsPinWord other) (slice_index c.memory.now.pins other) (Invariant o (stepped o c n (Load (Pin other)) note (LoadsPinWord other) (slice_index c.memory.now.pins other)))
+  seen_holds other step before later no_record =
+      (let f = slice_index c.memory.now.pins other in
+      let same : slice_set c.memory.now.pins other f ≡ c.memory.now.pins = set-get_or c.memory.now.pins other 0 in
+      let asked = at_ask (LoadsPinWord other) f step before later no_record in
+      let inside : other < length c.memory.now.pins = (let low = step.may.inside in let many = inv.sizes.words.pins in omega (arith, low, many)) in
+      let facts = seen_facts o c n note.before (ghost_at mine note) (slice_index c.memory.now.pins n) (slice_index began n) other f inv asked
+      (⊎_elim (λ (none : other ≡ 0). (let m = length note.before.giving.pins_seen in omega (arith, none))) (λ (last : other ≡ length note.before.giving.pins_seen). omega (arith, last)) step.may.in_order)
+      (λ apart. inv.pins.words other inside)
+      (λ own. ap (λ (k : ℕ). slice_index c.memory.now.pins k) own ∙ asked.pin_is) in
+      subst (λ (pins : List ℕ). Invariant o (record c { memory = with_pins pins; views = slice_set c.views n (view_after mine (LoadsPinWord other) note f); began = began })) (sym same)
+      (pins_hold (LoadsPinWord other) f c.memory.now.pins refl (λ k apart. refl) step before later no_record facts))
+
+  -- a load of a bitmap word
+  pub bitmap_word_holds : (word : ℕ) → Keeps (LoadsBitmapWord word) (slice_index c.memory.now.taken word) (Invariant o (stepped o c n (Load (Map word)) note (LoadsBitmapWord word) (slice_index c.memory.now.taken word)))
+  bitmap_word_holds word step before later no_record =
+      (let f = slice_index c.memory.now.taken word in
+      let asked = at_ask (LoadsBitmapWord word) f step before later no_record in
+      kind_holds (LoadsBitmapWord word) f step before later no_record (memory_after c.memory n (Load (Map word))) c.owner
+      (map_leaves o c n note.before (ghost_at mine note) (slice_index c.memory.now.pins n) (slice_index began n) word inv asked) (no_changes c n)
+      (map_bits o c n note.before (ghost_at mine note) (slice_index c.memory.now.pins n) (slice_index began n) word inv asked)
+      (map_facts o c n note.before (ghost_at mine note) (slice_index c.memory.now.pins n) (slice_index began n) word inv asked))
+
+  -- a setting of bits
+  pub set_bits_holds : (word bits : ℕ) → Keeps (SetsBits word bits) (slice_index c.memory.now.taken word) (Invariant o (stepped o c n (SetBits (Map word) bits) note (SetsBits word bits) (slice_index c.memory.now.taken word)))
+  set_bits_holds word bits step before later no_record =
+      (let f = slice_index c.memory.now.taken word in
+      let asked = at_ask (SetsBits word bits) f step before later no_record in
+      kind_holds (SetsBits word bits) f step before later no_record (memory_after c.memory n (SetBits (Map word) bits)) (λ block. owner_after c.owner n note (SetsBits word bits) f block)
+      (sets_leaves o c n note.before (ghost_at mine note) (slice_index c.memory.now.pins n) (slice_index began n) word bits inv asked unspent step.may)
+      (sets_changes o c n note.before (ghost_at mine note) (slice_index c.memory.now.pins n) (slice_index began n) word bits inv asked unspent step.may)
+      (sets_bits o c n note.before (ghost_at mine note) (slice_index c.memory.now.pins n) (slice_index began n) word bits inv asked unspent step.may)
+      (sets_facts o c n note.before (ghost_at mine note) (slice_index c.memory.now.pins n) (slice_index began n) word bits inv asked unspent step.may))
+
+  -- a clearing of bits of owned blocks
+  pub clear_bits_holds : (word bits : ℕ) → is_of_owned note.before word bits ≡ true →
+      Keeps (ClearsBits word bits) (slice_index c.memory.now.taken word) (Invariant o (stepped o c n (ClearBits (Map word) bits) note (ClearsBits word bits) (slice_index c.memory.now.taken word)))
+  clear_bits_holds word bits own step before later no_record =
+      (let f = slice_index c.memory.now.taken word in
+      let asked = at_ask (ClearsBits word bits) f step before later no_record in
+      kind_holds (ClearsBits word bits) f step before later no_record (memory_after c.memory n (ClearBits (Map word) bits)) (λ block. owner_after c.owner n note (ClearsBits word bits) f block)
+      (clears_leaves o c n note.before (ghost_at mine note) (slice_index c.memory.now.pins n) (slice_index began n) word bits inv asked unspent step.may own)
+      (clears_changes o c n note.before (ghost_at mine note) (slice_index c.memory.now.pins n) (slice_index began n) word bits inv asked unspent step.may own)
+      (clears_bits o c n note.before (ghost_at mine note) (slice_index c.memory.now.pins n) (slice_index began n) word bits inv asked unspent step.may own)
+      (clears_facts o c n note.before (ghost_at mine note) (slice_index c.memory.now.pins n) (slice_index began n) word bits inv asked unspent step.may own))
+
+  -- a store into a word of an owned block
+  pub stored_holds : (word value : ℕ) → Keeps (StoresWord word value) 0 (Invariant o (stepped o c n (Store (Image word) value) note (StoresWord word value) (slice_index c.memory.now.words word)))
+  stored_holds word value step before later no_record =
+      (let asked = at_ask (StoresWord word value) 0 step before later no_record in
+      kind_holds (StoresWord word value) 0 step before later no_record (memory_after c.memory n (Store (Image word) value)) c.owner
+      (store_leaves o c n note.before (ghost_at mine note) (slice_index c.memory.now.pins n) (slice_index began n) word value inv asked unspent step.may) (no_changes c n) inv.owners.bits
+      (store_word_facts o c n note.before (ghost_at mine note) (slice_index c.memory.now.pins n) (slice_index began n) word value inv asked unspent step.may 0))
+
+  -- a mark of a word of an owned block
+  pub mark_holds : (word : ℕ) → IsOwnMark note.before word → Keeps (MarksWord word) (slice_index c.memory.now.words word) (Invariant o (stepped o c n (Mark word) note (MarksWord word) (slice_index c.memory.now.words word)))
+  mark_holds word own step before later no_record =
+      (let f = slice_index c.memory.now.words word in
+      let asked = at_ask (MarksWord word) f step before later no_record in
+      kind_holds (MarksWord word) f step before later no_record (memory_after c.memory n (Mark word)) c.owner
+      (mark_leaves o c n note.before (ghost_at mine note) (slice_index c.memory.now.pins n) (slice_index began n) word f inv asked unspent own refl) (no_changes c n) inv.owners.bits
+      (mark_word_facts o c n note.before (ghost_at mine note) (slice_index c.memory.now.pins n) (slice_index began n) word f inv asked unspent own refl))
+
+  -- a fence in a call that is no sync
+  pub fence_holds : note.before.calling.job ≢ Sync → Keeps Fences 0 (Invariant o (stepped o c n Fence note Fences 0))
+  fence_holds no_sync step before later no_record =
+      (let asked = at_ask Fences 0 step before later no_record in
+      subst (λ (synced : ℕ). Invariant o (record c { memory = memory_after c.memory n Fence; views = slice_set c.views n (view_after mine Fences note 0); synced = synced; began = began })) (sym (synced_same no_sync))
+      (kind_holds Fences 0 step before later no_record (memory_after c.memory n Fence) c.owner
+      (fence_leaves o c n note.before (ghost_at mine note) (slice_index c.memory.now.pins n) (slice_index began n) inv asked no_sync) (no_changes c n) inv.owners.bits
+      (fence_facts o c n note.before (ghost_at mine note) (slice_index c.memory.now.pins n) (slice_index began n) inv asked no_sync 0)))
+    where
+      same_to : (to : Option ℕ) → synced_to c.synced to to ≡ c.synced
+      same_to None = refl
+      same_to (Some position) = refl
+
+      synced_same : note.before.calling.job ≢ Sync → synced_after c.synced note Fences ≡ c.synced
+      synced_same other = ap (synced_to c.synced note.before.calling.sync_to) (no_sync_fenced note.before.calling.job note.before.walk.at_tail note.before.walk.position note.before.calling.sync_to other) ∙ same_to note.before.calling.sync_to

@@ -1,0 +1,70 @@
+-- A store of the own pin word keeps what holds of the seat's state.
+use Rattle.std.proofs.Common.{◌≡◌, ℕ, false, [], refl, sym, ◌∙◌}
+use Rattle.pmem_words.specs.declared.keeps.Task.TheVariants.{Sync}
+use Rattle.pmem_words.specs.Seats.{Seat, Giving}
+use Rattle.persistence.specs.Memory.{cell, pending_of}
+use Rattle.log_core.specs.Views.{Ghost, view_of}
+use Rattle.log_core.specs.Origin.{Origin}
+use Rattle.log_core.specs.Cores.{Core}
+use Rattle.log_core.specs.May.{MayStoreOwnPin}
+use Rattle.log_core.specs.Walks.{WalkHolds}
+use Rattle.log_core.specs.Giving.{ScanHolds}
+use Rattle.log_core.specs.Records.{mark_of}
+use Rattle.log_core.specs.Invariant.{around}
+use Rattle.log_core.specs.Knows.{Knows}
+use Rattle.log_core.proofs.kinds.Begun.{no_notes}
+
+abbrev pub pinned_at : Seat → ℕ → Seat
+pinned_at s value = record s { hold = record (s.hold) { pin = value; valid = false }; walk = record (s.walk) { kept = [] } }
+
+module _ (o : Origin) (c : Core) (n : ℕ) (s : Seat) (g : Ghost) (pin began value : ℕ) (f : Knows o c n s g pin began) (may : MayStoreOwnPin s g.marks value) where
+  walk_pinned : WalkHolds (around o c) s.hold s.walk → WalkHolds (around o c) (pinned_at s value).hold (pinned_at s value).walk
+  walk_pinned w = record {
+    unwalked = w.unwalked;
+    to_end = w.to_end;
+    from_first = w.from_first;
+    to_current = w.to_current;
+    read = λ reading kept. (let r = w.read reading kept in record { block = r.block; from = r.from; upto = r.upto; table = r.table; size_is = r.size_is; position_is = r.position_is });
+    kept_words = λ valid. tt;
+    unpinned = λ invalid. refl;
+    walked = λ some stopped. (let r = w.walked some stopped in record { table = r.table; size_is = r.size_is; base = r.base; block = r.block; from = r.from; upto = r.upto; inside = r.inside; at_end = r.at_end });
+    ready_walked = w.ready_walked;
+    ready_base = w.ready_base;
+    ready_tail = w.ready_tail;
+  }
+
+  -- with no valid pin there is none that a scan has missed
+  unseen : (giving : Giving) → ScanHolds giving n (pinned_at s value).hold
+  unseen giving = record { replaced = λ inside free valid. cc; limbo = λ inside free valid. cc }
+
+  notes_none : s.calling.job ≡ Sync → pending_of n c.memory.pending ≡ []
+  notes_none sync = no_notes (mark_of (λ word. cell c.memory word) c.memory.past) (pending_of n c.memory.pending) (sym (may.no_marks sync) ∙ f.marks)
+
+  pub store_facts : Knows o c n (pinned_at s value) g value began
+  store_facts = record {
+    fits = λ some. (let r = f.fits some in record { number = r.number; seats = r.seats; geometry = r.geometry; first = r.first; found = r.found; named = r.named; map = r.map });
+    kept = λ place valid same. cc;
+    owns = (let r = f.owns in record { owned = r.owned; left = r.left });
+    pin_is = refl;
+    pin_holds = (let r = f.pin_holds in record { was = r.was; valid_is = λ valid. cc; valid_some = λ valid. cc; from_first = r.from_first; to_current = r.to_current });
+    walk = λ some. walk_pinned (f.walk some);
+    owned = (let r = f.owned in record {
+      contents = r.contents;
+      areas = r.areas;
+      stored = r.stored;
+      filled = λ place inside filled. (let q = r.filled place inside filled in record { owned = q.owned; each = q.each });
+      fenced = r.fenced;
+    });
+    giving = f.giving;
+    scan_others = f.scan_others;
+    scan_self = unseen s.giving;
+    scanned = λ k other. unseen (view_of c.views k).seat.giving;
+    writes = (let r = f.writes in record { recorded = r.recorded; running = r.running });
+    writes_once = f.writes_once;
+    put = f.put;
+    same_put = f.same_put;
+    calls = (let r = f.calls in record { laid = r.laid; base_words = r.base_words; bases = r.bases; reading = r.reading; numbers = r.numbers; runs = r.runs; won_runs = r.won_runs; put_runs = r.put_runs });
+    tail = (let r = f.tail in record { begun = r.begun; records = r.records });
+    marks = f.marks;
+    syncs = (let r = f.syncs in record { to = r.to; marks = r.marks; valid = λ sync some. absurd (some (notes_none sync)); answered = r.answered });
+  }

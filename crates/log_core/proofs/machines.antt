@@ -1,0 +1,5 @@
+-- Machines within a core.
+pub mod Serving
+pub mod Takes
+pub mod Parts
+pub mod OverPlain

@@ -1,0 +1,98 @@
+-- An ask that is allowed is on a word that the memory has.
+use Rattle.std.proofs.Common.{◌≡◌, ◌≢◌, ◌<◌, ◌≤◌, ◌*◌, ◌/◌, ◌==◌, ℕ, Bool, true, false, if◌then◌else◌, [], length, refl, sym, subst, arith, slice_index}
+use Rattle.std.proofs.Math.Nat.{mul-le-mul_right}
+use Rattle.std.proofs.lemmas.Bool.{eqb-true}
+use Rattle.log_image.specs.Image.{words_in, total}
+use Rattle.asks.specs.declared.ask.Place.TheVariants.{Image, Pin, Map, FenceOf}
+use Rattle.asks.specs.declared.ask.Ask.{Ask}
+use Rattle.asks.specs.declared.ask.Ask.TheVariants.{Load, Store, Exchange, SetBits, ClearBits, Mark, Fence}
+use Rattle.persistence.specs.Memory.{found_answer}
+use Rattle.persistence.specs.Cells.{MemoryTakes}
+use Rattle.log_core.specs.Entries.{has, head_place}
+use Rattle.log_core.specs.Views.{view_of, op_in}
+use Rattle.log_core.specs.Origin.{Origin, shape, q_of_origin}
+use Rattle.log_core.specs.Cores.{Core}
+use Rattle.log_core.specs.Steps.{Note, Does, is_begun, LoadsHead, StoresOwnPin, LoadsImageWord, NoKind, kind_of_ask}
+use Rattle.log_core.specs.Files.{end_of}
+use Rattle.log_core.specs.Works.{words_of}
+use Rattle.log_core.specs.Needs.{owned_numbers}
+use Rattle.log_core.specs.After.{began_if}
+use Rattle.log_core.specs.May.{IsOfferedKind}
+use Rattle.log_core.specs.Runs.{MayStep, ghost_at, Allowed}
+use Rattle.log_core.specs.Invariant.{Invariant}
+use Rattle.log_core.specs.Knows.{Knows}
+use Rattle.log_core.proofs.BitmapFacts.{word_inside as found_inside}
+use Rattle.log_core.proofs.clauses.OwnWords.{word_inside as own_inside}
+use Rattle.log_core.proofs.kinds.StepHolds.{at_ask}
+use Rattle.log_core.proofs.kinds.RunHolds.{no_exchange}
+
+module _ (o : Origin) (c : Core) (seat : ℕ) (note : Note) (inv : Invariant o c) (made : seat < length c.views) (unspent : (view_of c.views seat).parts ≢ []) where
+  wide_enough : (q blocks : ℕ) → 8 ≤ q → 1 ≤ blocks → 8 ≤ blocks * q
+  wide_enough q blocks wide some = (let times : 1 * q ≤ blocks * q = mul-le-mul_right q some in omega (arith, times, wide))
+
+  head_inside : head_place < length c.memory.now.words
+  head_inside =
+      (let image = inv.sizes.image in
+      let many = inv.sizes.words.words in
+      let long : 8 ≤ total (shape o) * words_in (shape o) = wide_enough (words_in (shape o)) (total (shape o)) image.wide (omega arith) in
+      let whole = image.whole in
+      omega (arith, long, whole, many))
+
+  pins_inside : (other : ℕ) → other < o.seats → other < length c.memory.now.pins
+  pins_inside other inside = (let many = inv.sizes.words.pins in omega (arith, inside, many))
+
+  -- what is known at the ask
+  abbrev KnownAt : Ask → Type 0
+  KnownAt ask = (step : MayStep o c (view_of c.views seat) (kind_of_ask (q_of_origin o) seat ask) note (found_answer c.memory ask)) →
+      Knows o c seat note.before (ghost_at (view_of c.views seat) note) (slice_index c.memory.now.pins seat)
+      (slice_index (began_if (is_begun (op_in (view_of c.views seat).seat) (op_in note.before)) c.began seat (end_of o c.history)) seat)
+
+  -- each ask of an offered kind is on a word that the memory has
+  by_head : (word : ℕ) (b : Bool) → (word == head_place) ≡ b → IsOfferedKind note.before (if b then LoadsHead else LoadsImageWord word) → word < length c.memory.now.words
+  by_head word true e offered = subst (λ (k : ℕ). k < length c.memory.now.words) (sym (eqb-true word head_place e)) head_inside
+  by_head word false e offered = absurd offered
+
+  by_own : (other value : ℕ) (b : Bool) → (other == seat) ≡ b → IsOfferedKind note.before (if b then StoresOwnPin value else NoKind) → other < length c.memory.now.pins
+  by_own other value true e offered = (let same = eqb-true other seat e in let made = made in let few = inv.sizes.few in pins_inside other (omega (arith, same, made, few)))
+  by_own other value false e offered = absurd offered
+
+  -- a bitmap word that the seat has, and a word of a block that it owns
+  bitmap_inside : (word : ℕ) → word < length note.before.blocks.found → (pin began : ℕ) → Knows o c seat note.before (ghost_at (view_of c.views seat) note) pin began → word < length c.memory.now.taken
+  bitmap_inside word inside pin began known = found_inside o c seat note.before (ghost_at (view_of c.views seat) note) pin began inv known unspent word inside
+
+  image_inside : (word : ℕ) → has (owned_numbers note.before.blocks.owned) (word / words_of note.before) ≡ true → (pin began : ℕ) →
+      Knows o c seat note.before (ghost_at (view_of c.views seat) note) pin began → word < length c.memory.now.words
+  image_inside word owned pin began known =
+      (let low = own_inside o c seat note.before (ghost_at (view_of c.views seat) note) pin began inv known unspent word owned in let many = inv.sizes.words.words in omega (arith, low, many))
+
+  takes_by : (ask : Ask) → KnownAt ask → IsOfferedKind note.before (kind_of_ask (q_of_origin o) seat ask) →
+      (step : MayStep o c (view_of c.views seat) (kind_of_ask (q_of_origin o) seat ask) note (found_answer c.memory ask)) → MemoryTakes c.memory ask
+  takes_by (Load (Image word)) known offered step = by_head word (word == head_place) refl offered
+  takes_by (Load (Pin other)) known offered step = pins_inside other step.may.inside
+  takes_by (Load (Map word)) known offered step = bitmap_inside word step.may.inside _ _ (known step)
+  takes_by (Load (FenceOf other)) known offered step = absurd offered
+  takes_by (Store (Image word) value) known offered step = image_inside word step.may.owned _ _ (known step)
+  takes_by (Store (Pin other) value) known offered step = by_own other value (other == seat) refl offered
+  takes_by (Store (Map word) value) known offered step = absurd offered
+  takes_by (Store (FenceOf other) value) known offered step = absurd offered
+  takes_by (Exchange (Image word) before next) known offered step = absurd (no_exchange note.before (q_of_origin o) word before next offered)
+  takes_by (Exchange (Pin other) before next) known offered step = absurd offered
+  takes_by (Exchange (Map word) before next) known offered step = absurd offered
+  takes_by (Exchange (FenceOf other) before next) known offered step = absurd offered
+  takes_by (SetBits (Image word) bits) known offered step = absurd offered
+  takes_by (SetBits (Pin other) bits) known offered step = absurd offered
+  takes_by (SetBits (Map word) bits) known offered step = bitmap_inside word step.may.inside _ _ (known step)
+  takes_by (SetBits (FenceOf other) bits) known offered step = absurd offered
+  takes_by (ClearBits (Image word) bits) known offered step = absurd offered
+  takes_by (ClearBits (Pin other) bits) known offered step = absurd offered
+  takes_by (ClearBits (Map word) bits) known offered step = bitmap_inside word step.may.inside _ _ (known step)
+  takes_by (ClearBits (FenceOf other) bits) known offered step = absurd offered
+  takes_by (Mark word) known offered step = image_inside word offered.owned _ _ (known step)
+  takes_by Fence known offered step = tt
+
+-- so each step that is allowed is one that the memory takes
+pub takes_asked : (o : Origin) (c : Core) (seat : ℕ) (ask : Ask) (note : Note) → Invariant o c → Allowed o c (Does seat ask note) → MemoryTakes c.memory ask
+takes_asked o c seat ask note inv allowed =
+    takes_by o c seat note inv allowed.fits.made allowed.fits.unspent ask
+    (λ step. at_ask o c seat inv allowed.fits.made allowed.fits.unspent note (kind_of_ask (q_of_origin o) seat ask) (found_answer c.memory ask) allowed.fits.step allowed.offered.before allowed.offered.later allowed.offered.no_record)
+    allowed.offered.kind allowed.fits.step

@@ -1,0 +1,25 @@
+-- The worked rows compute.
+pub mod RowChecks
+pub mod RowTells
+pub mod RowsBegun
+pub mod RowsTaken
+pub mod RowsExchanged
+pub mod RowsGiven
+pub mod RowsFiles
+pub mod RowsWorks
+pub mod RowsRefused
+pub mod RowsWrong
+pub mod RowsGaps
+pub mod RowsClauses
+pub mod RowsMay
+pub mod RowsOrder
+pub mod RowsViews
+pub mod RowsRecords
+pub mod RowsContents
+pub mod RowsOwners
+pub mod RowsRun
+pub mod RowsLate
+pub mod RowsTurns
+pub mod RowsOffered
+pub mod RowsStart
+pub mod RowsReached

@@ -1,0 +1,78 @@
+-- Rows of steps on own blocks: what they come to, which are offered, and which are not yet.
+use Rattle.std.proofs.Common.{◌≡◌, ◌≢◌, ◌<◌, ℕ, true, List, [], ◌∷◌, length, refl, arith, ap}
+use Rattle.std.specs.List.{list_all}
+use Rattle.std.proofs.lemmas.Bool.{false≢true, true≢false}
+use Rattle.log_entry.specs.declared.shapes.Area.TheVariants.{Data}
+use Rattle.asks.specs.declared.ask.Ask.{Ask}
+use Rattle.log_core.specs.Views.{view_of, op_in}
+use Rattle.log_core.specs.Origin.{Origin, q_of_origin}
+use Rattle.log_core.specs.Cores.{Core}
+use Rattle.log_core.specs.Works.{Work, SetsWord, CountsFilled, state_after_all_work, MayWorkAll}
+use Rattle.log_core.specs.Steps.{is_begun, ghost_begun, kind_of_ask}
+use Rattle.log_core.specs.May.{May, IsOfferedKind, OfHead, OfTrail, OfNewHead}
+use Rattle.log_core.specs.Runs.{MayMakeStep, Allowed, MayNumber, is_offered_work}
+use Rattle.log_core.specs.worked_rows.Samples.{step_of}
+use Rattle.log_core.specs.worked_rows.Offered.{FilledNoMore, BitmapMayBeRead, OfferedKinds, NotOffered}
+use Rattle.log_core.proofs.row_checks.RowsTaken.{bits_taken, fence_follows}
+use Rattle.log_core.proofs.row_checks.RowsMay.{word_may_be_marked}
+use Rattle.log_core.proofs.row_checks.RowsGiven.{bits_cleared, sync_ends}
+use Rattle.log_core.proofs.row_checks.RowsWrong.{one_part}
+use Rattle.log_core.proofs.row_checks.RowTells.{is_sync, is_put}
+
+pub filled_no_more : FilledNoMore
+filled_no_more = (refl, refl, refl, refl, refl, refl, refl)
+
+pub bitmap_may_be_read : BitmapMayBeRead
+bitmap_may_be_read = (
+  record { inside = omega arith; area = Data; lacks = omega arith },
+  λ may. (let inside = may.inside in omega (arith, inside)),
+  λ may. (let lacks = may.lacks in omega (arith, lacks)),
+  λ may. (let few = may.few in omega (arith, few)),
+)
+
+-- a step with what its call computes before it, and nothing after it
+module _ (o : Origin) (c : Core) (seat number : ℕ) (ask : Ask) (works : List Work) where
+  abbrev pub step_fits : seat < length c.views → (view_of c.views seat).parts ≢ [] →
+      MayWorkAll (view_of c.views seat).ghost (view_of c.views seat).seat works →
+      MayNumber (is_begun (op_in (view_of c.views seat).seat) (op_in (state_after_all_work (view_of c.views seat).seat works))) (view_of c.views seat).ghost.call.number number →
+      May o c (ghost_begun (view_of c.views seat).ghost (view_of c.views seat).seat (state_after_all_work (view_of c.views seat).seat works) number) (state_after_all_work (view_of c.views seat).seat works) (kind_of_ask (q_of_origin o) seat ask) →
+      MayMakeStep o c (step_of o c seat ask number works [] [])
+  step_fits made unspent computes numbered may = record {
+    made = made;
+    unspent = unspent;
+    step = record {
+      begins = record { works = works; may = computes; gives = refl };
+      number = numbered;
+      may = may;
+      enters = record { last = _; computed = record { works = []; may = tt; gives = refl }; going_on = refl; adds_are = tt; seat_is = refl };
+    };
+  }
+
+  pub step_allowed : (made : seat < length c.views) (unspent : (view_of c.views seat).parts ≢ []) (computes : MayWorkAll (view_of c.views seat).ghost (view_of c.views seat).seat works)
+      (numbered : MayNumber (is_begun (op_in (view_of c.views seat).seat) (op_in (state_after_all_work (view_of c.views seat).seat works))) (view_of c.views seat).ghost.call.number number)
+      (may : May o c (ghost_begun (view_of c.views seat).ghost (view_of c.views seat).seat (state_after_all_work (view_of c.views seat).seat works) number) (state_after_all_work (view_of c.views seat).seat works) (kind_of_ask (q_of_origin o) seat ask)) →
+      IsOfferedKind (state_after_all_work (view_of c.views seat).seat works) (kind_of_ask (q_of_origin o) seat ask) → list_all is_offered_work works ≡ true → Allowed o c (step_of o c seat ask number works [] [])
+  step_allowed made unspent computes numbered may kind offered = record {
+    fits = step_fits made unspent computes numbered may;
+    offered = record { kind = kind; before = offered; later = refl; no_record = refl };
+  }
+
+pub offered_kinds : OfferedKinds
+offered_kinds = (
+  step_allowed _ _ 0 _ _ [] (omega arith) (one_part 0) tt refl bitmap_may_be_read.0 tt refl,
+  step_allowed _ _ 0 _ _ [] (omega arith) (one_part 0) tt refl bits_taken.7 tt refl,
+  step_allowed _ _ 0 _ _ (SetsWord 0 0 170 ∷ []) (omega arith) (one_part 0) (record { owned = omega arith; inside = omega arith; small = omega arith }, tt) refl (record { owned = refl; small = omega arith }) tt refl,
+  step_allowed _ _ 0 _ _ [] (omega arith) (one_part 0) tt refl word_may_be_marked.2 (record { owned = refl; no_sync = λ sync. false≢true (ap is_sync sync) }) refl,
+  step_allowed _ _ 0 _ _ (CountsFilled 0 ∷ []) (omega arith) (one_part 0) (fence_follows.7, tt) refl (record { in_sync = λ sync tail none. absurd (false≢true (ap is_sync sync)) }) (λ sync. false≢true (ap is_sync sync)) refl,
+  step_allowed _ _ 1 _ _ [] (omega arith) (one_part 1) tt refl bits_cleared.5 refl refl,
+)
+
+pub not_offered : NotOffered
+not_offered = (
+  (step_fits _ _ 0 _ _ [] (omega arith) (one_part 0) tt refl (record { valid = refl; named = refl }), λ allowed. allowed.offered.kind),
+  (step_fits _ _ 0 _ _ [] (omega arith) (one_part 0) tt refl (OfHead refl refl refl), λ allowed. false≢true allowed.offered.kind.owned),
+  (step_fits _ _ 0 _ _ [] (omega arith) (one_part 0) tt refl (OfTrail refl refl refl), λ allowed. false≢true allowed.offered.kind.owned),
+  (step_fits _ _ 0 _ _ [] (omega arith) (one_part 0) tt refl sync_ends.3, λ allowed. allowed.offered.kind refl),
+  (step_fits _ _ 0 _ _ [] (omega arith) (one_part 0) tt refl (OfNewHead refl (λ none. true≢false (ap is_put none))), λ allowed. false≢true allowed.offered.kind.owned),
+  (step_fits _ _ 0 _ _ [] (omega arith) (one_part 0) tt refl bits_cleared.1, λ allowed. false≢true allowed.offered.kind),
+)

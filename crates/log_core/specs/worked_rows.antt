@@ -1,0 +1,7 @@
+-- Rows that compute: states and steps, what they come to, and what is refused.
+pub mod Samples
+pub mod Rows
+pub mod Refused
+pub mod Gaps
+pub mod Offered
+pub mod Accepted
