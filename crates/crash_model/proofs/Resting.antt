@@ -5,7 +5,7 @@ use Rattle.std.specs.List.{range_with_len}
 use Rattle.std.proofs.lemmas.List.{get_or-set_same, get_or-set_other, length-set}
 use Rattle.std.proofs.lemmas.List.FromFn.{get_or-map-range_with_len, length-map-range_with_len}
 use Rattle.log_entry.specs.declared.shapes.Geometry.{Geometry}
-use Rattle.log_image.specs.MayStart.{MayStart}
+use Rattle.log_image.specs.KeepsStart.{KeepsStart}
 use Rattle.pmem_words.specs.declared.keeps.Task.{Task}
 use Rattle.pmem_words.specs.Seats.{Seat, new_seat}
 use Rattle.pmem_words.specs.declared.TheConstants.{SEATS}
@@ -163,13 +163,13 @@ rests_room w room resting = ∥∥₁_map resting (λ r. (
 
 -- a world in which nothing was done is at rest
 pub new_rests : (geometry : Geometry) (words taken : List ℕ) (generation position size seats : ℕ) → ((place : ℕ) → get_or words place 0 < 2 ^ 64) → 0 < seats → seats ≤ SEATS →
-    ∥ MayStart geometry words taken generation position size ∥₁ → IsResting (new_world geometry words taken position seats)
+    ∥ KeepsStart geometry words taken generation position size ∥₁ → IsResting (new_world geometry words taken position seats)
 new_rests geometry words taken generation position size seats small some few kept = ∥∥₁_map kept (λ k. (origin k, first_core (origin k), rests k))
   where
-    origin : MayStart geometry words taken generation position size → Origin
+    origin : KeepsStart geometry words taken generation position size → Origin
     origin k = origin_of geometry seats seats words taken k.chain k.file
 
-    rests : (k : MayStart geometry words taken generation position size) → RestsIn (new_world geometry words taken position seats) (origin k) (first_core (origin k))
+    rests : (k : KeepsStart geometry words taken generation position size) → RestsIn (new_world geometry words taken position seats) (origin k) (first_core (origin k))
     rests k = (let st = new_stands_by geometry words taken generation position size seats small some few k in
         let same = same_position geometry words taken generation position size seats seats k in record {
           stands = st;
@@ -185,7 +185,7 @@ new_rests geometry words taken generation position size seats small some few kep
         })
 
 pub made_rests : (geometry : Geometry) (words taken : List ℕ) (generation position size seats : ℕ) → ((place : ℕ) → get_or words place 0 < 2 ^ 64) → 0 < seats → seats ≤ SEATS →
-    ∥ MayStart geometry words taken generation position size ∥₁ → (g : Geometry) (p : ℕ) (cells : CellsNow) (states : List Seat) → g ≡ geometry → p ≡ position →
+    ∥ KeepsStart geometry words taken generation position size ∥₁ → (g : Geometry) (p : ℕ) (cells : CellsNow) (states : List Seat) → g ≡ geometry → p ≡ position →
     cells ≡ record { memory = fresh_memory words taken seats; room = 0 } → states ≡ map (λ (n : ℕ). new_seat g n seats p) (range_with_len 0 seats) →
     IsResting (record { geometry = g; cells = cells; seats = states; position = p; synced = p })
 made_rests geometry words taken generation position size seats small some few kept g p cells states g_is p_is cells_is states_is =

@@ -5,7 +5,7 @@ use Rattle.std.proofs.Math.Bridge.{le_prop}
 use Rattle.std.proofs.lemmas.List.{length-set}
 use Rattle.std.specs.List.{AllByRecursion, range_with_len}
 use Rattle.std.proofs.lemmas.List.FromFn.{map-range_with_len_more, length-map-range_with_len}
-use Rattle.log_image.specs.MayStart.{MayStart}
+use Rattle.log_image.specs.KeepsStart.{KeepsStart}
 use Rattle.log_core.specs.Starts.{origin_of}
 use Rattle.log_core.proofs.starts.StartKept.{kept_start, same_position}
 use Rattle.log_entry.specs.declared.layouts.TheConstants.{SEAL}
@@ -213,7 +213,7 @@ each_small (word ∷ words) small = (small 0, each_small words (λ place. subst 
 
 -- a world in which nothing was done stands for the core that a run of all seats starts with
 module _ (geometry : Rattle.log_entry.specs.declared.shapes.Geometry.Geometry) (words taken : List ℕ) (generation position size seats : ℕ) (small : (place : ℕ) → slice_index words place < 2 ^ 64) (some : 0 < seats) (few : seats ≤ SEATS) where
-  pub new_stands_by : (k : MayStart geometry words taken generation position size) → StandsForCore (new_world geometry words taken position seats) (origin_of geometry seats seats words taken k.chain k.file) (first_core (origin_of geometry seats seats words taken k.chain k.file))
+  pub new_stands_by : (k : KeepsStart geometry words taken generation position size) → StandsForCore (new_world geometry words taken position seats) (origin_of geometry seats seats words taken k.chain k.file) (first_core (origin_of geometry seats seats words taken k.chain k.file))
   new_stands_by k = record {
     start = kept_start geometry words taken generation position size seats seats k (each_small words small) (record { some = some; few = few; made = inr refl });
     geometry = refl;
@@ -224,11 +224,11 @@ module _ (geometry : Rattle.log_entry.specs.declared.shapes.Geometry.Geometry) (
     synced = same_position geometry words taken generation position size seats seats k;
   }
 
-  pub new_stands : ∥ MayStart geometry words taken generation position size ∥₁ → StandsForSome (new_world geometry words taken position seats)
+  pub new_stands : ∥ KeepsStart geometry words taken generation position size ∥₁ → StandsForSome (new_world geometry words taken position seats)
   new_stands kept = ∥∥₁_map kept (λ k. (origin_of geometry seats seats words taken k.chain k.file, first_core (origin_of geometry seats seats words taken k.chain k.file), new_stands_by k))
 
 pub made_stands : (geometry : Rattle.log_entry.specs.declared.shapes.Geometry.Geometry) (words taken : List ℕ) (generation position size seats : ℕ) → ((place : ℕ) → slice_index words place < 2 ^ 64) → 0 < seats → seats ≤ SEATS →
-    ∥ MayStart geometry words taken generation position size ∥₁ → (g : Rattle.log_entry.specs.declared.shapes.Geometry.Geometry) (p : ℕ) (cells : CellsNow) (states : List Seat) → g ≡ geometry → p ≡ position →
+    ∥ KeepsStart geometry words taken generation position size ∥₁ → (g : Rattle.log_entry.specs.declared.shapes.Geometry.Geometry) (p : ℕ) (cells : CellsNow) (states : List Seat) → g ≡ geometry → p ≡ position →
     cells ≡ record { memory = fresh_memory words taken seats; room = 0 } → states ≡ map (λ (n : ℕ). new_seat g n seats p) (range_with_len 0 seats) →
     StandsForSome (record { geometry = g; cells = cells; seats = states; position = p; synced = p })
 made_stands geometry words taken generation position size seats small some few kept g p cells states g_is p_is cells_is states_is =

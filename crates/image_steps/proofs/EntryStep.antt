@@ -14,7 +14,7 @@ use Rattle.log_image.specs.Header.{shape_of}
 use Rattle.log_image.specs.Entries.{Meaning, direct_meaning, names, all_names}
 use Rattle.log_image.specs.Blocks.{is_snapshot, link_of, slots_of, entry_words, is_closed}
 use Rattle.log_image.specs.Maps.{block_in, map_of, entry_end}
-use Rattle.log_image.specs.Chains.{all_different, is_in}
+use Rattle.log_image.specs.Chains.{all_different, is_listed}
 use Rattle.log_image.specs.Positions.{entries_of}
 use Rattle.log_image.specs.Format.{fits, is_direct, is_seal_placed, HasFormat}
 use Rattle.log_image.specs.Stands.{HoldsFile, StandsIn}
@@ -156,9 +156,9 @@ clear_after shape old tail slot word is = go (slot + 1 == words_in shape)
 named_once : (shape : Shape) (old chain file new_file : List ℕ) (word : ℕ) → IsEntryOf old shape chain file new_file word → all_different (all_names (entries_of old shape chain)) ≡ true → all_different (all_names (entries_of old shape chain ++ direct_meaning word ∷ [])) ≡ true
 named_once shape old chain file new_file word entry once =
     subst (λ (l : List ℕ). all_different l ≡ true) (sym (flat_map-append names (entries_of old shape chain) (direct_meaning word ∷ []) ∙ ap (λ (l : List ℕ). all_names (entries_of old shape chain) ++ l) (nothing_after (direct_meaning word).blocks)))
-    (different_join (all_names (entries_of old shape chain)) (direct_meaning word).blocks once (range_different (field DIRECT_BLOCK word) (field DIRECT_COUNT word + 1)) (λ b inside. apart b inside (is_in (direct_meaning word).blocks b) refl))
+    (different_join (all_names (entries_of old shape chain)) (direct_meaning word).blocks once (range_different (field DIRECT_BLOCK word) (field DIRECT_COUNT word + 1)) (λ b inside. apart b inside (is_listed (direct_meaning word).blocks b) refl))
   where
-    apart : (b : ℕ) → is_in (all_names (entries_of old shape chain)) b ≡ true → (there : Bool) → is_in (direct_meaning word).blocks b ≡ there → is_in (direct_meaning word).blocks b ≡ false
+    apart : (b : ℕ) → is_listed (all_names (entries_of old shape chain)) b ≡ true → (there : Bool) → is_listed (direct_meaning word).blocks b ≡ there → is_listed (direct_meaning word).blocks b ≡ false
     apart b inside false is = is
     apart b inside true is =
         let free : not (is_taken old shape chain b) ≡ true = test_in (λ (n : ℕ). not (is_taken old shape chain n)) (direct_meaning word).blocks b entry.free is in

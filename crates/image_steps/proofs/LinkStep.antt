@@ -9,7 +9,7 @@ use Rattle.log_image.specs.Image.{Shape, words_in, total, is_in_log, block_words
 use Rattle.log_image.specs.Header.{shape_of}
 use Rattle.log_image.specs.Entries.{Meaning, all_names}
 use Rattle.log_image.specs.Blocks.{is_snapshot, link_of, slots_of, entry_words, is_closed, leads_on, kind_of, base_of}
-use Rattle.log_image.specs.Chains.{all_different, is_in}
+use Rattle.log_image.specs.Chains.{all_different, is_listed}
 use Rattle.log_image.specs.Positions.{entries_of}
 use Rattle.log_image.specs.Format.{is_log_entry, is_log_block, is_seal_placed, is_seal_last, is_kind_word}
 use Rattle.log_image.proofs.ClearedChains.{both}
@@ -64,9 +64,9 @@ next_some shape old front tail next position is =
     ne_eqb next 0 (λ e. omega (arith, e, ltb-true shape.data_blocks next (both_left (nat_lt shape.data_blocks next) (nat_lt next (total shape)) is.next_area)))
 
 -- the new block is not one of the chain's
-not_in_chain : (shape : Shape) (old front : List ℕ) (tail next position : ℕ) → ClosedTail shape old front tail next position → (block : ℕ) → is_in (front ++ tail ∷ []) block ≡ true → next ≢ block
+not_in_chain : (shape : Shape) (old front : List ℕ) (tail next position : ℕ) → ClosedTail shape old front tail next position → (block : ℕ) → is_listed (front ++ tail ∷ []) block ≡ true → next ≢ block
 not_in_chain shape old front tail next position is block inside same =
-    let taken : is_taken old shape (front ++ tail ∷ []) next ≡ true = chain_taken old shape (front ++ tail ∷ []) next (subst (λ (b : ℕ). is_in (front ++ tail ∷ []) b ≡ true) (sym same) inside) in
+    let taken : is_taken old shape (front ++ tail ∷ []) next ≡ true = chain_taken old shape (front ++ tail ∷ []) next (subst (λ (b : ℕ). is_listed (front ++ tail ∷ []) b ≡ true) (sym same) inside) in
     differ (is_taken old shape (front ++ tail ∷ []) next) taken is.untaken
   where
     differ : (b : Bool) → b ≡ true → b ≡ false → ⊥

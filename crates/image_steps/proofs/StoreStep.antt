@@ -9,7 +9,7 @@ use Rattle.log_image.specs.Entries.{Meaning, all_names}
 use Rattle.log_image.specs.Blocks.{slots_of, entry_words, leads_on}
 use Rattle.log_image.specs.Format.{is_seal_placed}
 use Rattle.std.proofs.lemmas.Bool.{eq-eqb}
-use Rattle.log_image.specs.Chains.{all_different, is_in}
+use Rattle.log_image.specs.Chains.{all_different, is_listed}
 use Rattle.log_image.specs.Positions.{entries_of}
 use Rattle.log_image.specs.Stands.{HoldsFile, StandsIn}
 use Rattle.log_image.specs.Tails.{Tail, last_block, tail_in, tail_of, IsClear}
@@ -40,7 +40,7 @@ first_words shape old new long same_length same = record {
 }
 
 -- the same file is held by the same blocks
-pub holds_kept : (shape : Shape) (old new : List ℕ) (entries : List Meaning) (file : List ℕ) → ((block : ℕ) → is_in (all_names entries) block ≡ true → block_words new shape block ≡ block_words old shape block) → HoldsFile old shape entries file → HoldsFile new shape entries file
+pub holds_kept : (shape : Shape) (old new : List ℕ) (entries : List Meaning) (file : List ℕ) → ((block : ℕ) → is_listed (all_names entries) block ≡ true → block_words new shape block ≡ block_words old shape block) → HoldsFile old shape entries file → HoldsFile new shape entries file
 holds_kept shape old new entries file same holds = record {
   mapped = λ virt block is at inside.
       ap (λ (l : List ℕ). get_or (word_bytes l) at 0) (same block (map_in_names entries virt block is)) ∙ holds.mapped virt block is at inside;
@@ -75,7 +75,7 @@ stores_extend shape old new front tail file position long stands keeps =
       below_limit = omega (arith, stands.format.below_limit);
     }
   where
-    self : (n : ℕ) → is_in (n ∷ []) n ≡ true
+    self : (n : ℕ) → is_listed (n ∷ []) n ≡ true
     self n = or_left (n == n) false (eq-eqb n n refl)
 
 stores_at : (old new front : List ℕ) (tail : ℕ) (file : List ℕ) (position : ℕ) → StandsClear old (front ++ tail ∷ []) file position → KeepsTaken (shape_of old) (front ++ tail ∷ []) old new → StandsAsBefore old new (front ++ tail ∷ []) file position

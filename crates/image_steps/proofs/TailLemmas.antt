@@ -8,7 +8,7 @@ use Rattle.log_image.specs.Image.{Shape, words_in, is_in_log, block_words}
 use Rattle.log_image.specs.Entries.{Meaning, names, all_names}
 use Rattle.log_image.specs.Blocks.{is_snapshot, link_of, slots_of, entry_words, is_closed, leads_on}
 use Rattle.log_image.specs.Maps.{block_in, map_of}
-use Rattle.log_image.specs.Chains.{LeadsAlong, IsLinked, logs_of, is_in}
+use Rattle.log_image.specs.Chains.{LeadsAlong, IsLinked, logs_of, is_listed}
 use Rattle.log_image.specs.Positions.{entries_of}
 use Rattle.log_image.specs.Format.{is_log_block}
 use Rattle.log_image.specs.Stands.{StandsIn}
@@ -82,29 +82,29 @@ link_none block ends closed = go (is_snapshot block) (link_of block == 0) refl (
     go false false is ends = cc
 
 -- in one list or the other
-pub in_left : (first second : List ℕ) (number : ℕ) → is_in first number ≡ true → is_in (first ++ second) number ≡ true
-in_left first second number inside = list_any-append (λ (n : ℕ). n == number) first second ∙ or_left (is_in first number) (is_in second number) inside
+pub in_left : (first second : List ℕ) (number : ℕ) → is_listed first number ≡ true → is_listed (first ++ second) number ≡ true
+in_left first second number inside = list_any-append (λ (n : ℕ). n == number) first second ∙ or_left (is_listed first number) (is_listed second number) inside
 
-pub in_right : (first second : List ℕ) (number : ℕ) → is_in second number ≡ true → is_in (first ++ second) number ≡ true
-in_right first second number inside = list_any-append (λ (n : ℕ). n == number) first second ∙ or_right (is_in first number) (is_in second number) inside
+pub in_right : (first second : List ℕ) (number : ℕ) → is_listed second number ≡ true → is_listed (first ++ second) number ≡ true
+in_right first second number inside = list_any-append (λ (n : ℕ). n == number) first second ∙ or_right (is_listed first number) (is_listed second number) inside
 
 -- blocks of the chain, and those that its entries name, are taken
-pub chain_taken : (words : List ℕ) (shape : Shape) (chain : List ℕ) (block : ℕ) → is_in chain block ≡ true → is_taken words shape chain block ≡ true
-chain_taken words shape chain block inside = or_right (block == 0) (is_in (named_blocks words shape chain) block) (in_left chain (all_names (entries_of words shape chain)) block inside)
+pub chain_taken : (words : List ℕ) (shape : Shape) (chain : List ℕ) (block : ℕ) → is_listed chain block ≡ true → is_taken words shape chain block ≡ true
+chain_taken words shape chain block inside = or_right (block == 0) (is_listed (named_blocks words shape chain) block) (in_left chain (all_names (entries_of words shape chain)) block inside)
 
-pub name_taken : (words : List ℕ) (shape : Shape) (chain : List ℕ) (block : ℕ) → is_in (all_names (entries_of words shape chain)) block ≡ true → is_taken words shape chain block ≡ true
-name_taken words shape chain block inside = or_right (block == 0) (is_in (named_blocks words shape chain) block) (in_right chain (all_names (entries_of words shape chain)) block inside)
+pub name_taken : (words : List ℕ) (shape : Shape) (chain : List ℕ) (block : ℕ) → is_listed (all_names (entries_of words shape chain)) block ≡ true → is_taken words shape chain block ≡ true
+name_taken words shape chain block inside = or_right (block == 0) (is_listed (named_blocks words shape chain) block) (in_right chain (all_names (entries_of words shape chain)) block inside)
 
 -- a block that an entry gives is among its blocks
-pub at_in : (blocks : List ℕ) (place block : ℕ) → slice_get blocks place ≡ Some block → is_in blocks block ≡ true
+pub at_in : (blocks : List ℕ) (place block : ℕ) → slice_get blocks place ≡ Some block → is_listed blocks block ≡ true
 at_in [] place block found = cc
-at_in (first ∷ blocks) zero block found = (let same : first ≡ block = cc in or_left (first == block) (is_in blocks block) (eq-eqb first block same))
-at_in (first ∷ blocks) (suc place) block found = or_right (first == block) (is_in blocks block) (at_in blocks place block found)
+at_in (first ∷ blocks) zero block found = (let same : first ≡ block = cc in or_left (first == block) (is_listed blocks block) (eq-eqb first block same))
+at_in (first ∷ blocks) (suc place) block found = or_right (first == block) (is_listed blocks block) (at_in blocks place block found)
 
-pub block_in_blocks : (entry : Meaning) (virt block : ℕ) → block_in entry virt ≡ Some block → is_in entry.blocks block ≡ true
+pub block_in_blocks : (entry : Meaning) (virt block : ℕ) → block_in entry virt ≡ Some block → is_listed entry.blocks block ≡ true
 block_in_blocks entry virt block found = go (nat_le entry.virt virt) found
   where
-    go : (named : Bool) → (if named then slice_get entry.blocks (virt - entry.virt) else None) ≡ Some block → is_in entry.blocks block ≡ true
+    go : (named : Bool) → (if named then slice_get entry.blocks (virt - entry.virt) else None) ≡ Some block → is_listed entry.blocks block ≡ true
     go true is = at_in entry.blocks (virt - entry.virt) block is
     go false is = cc
 
@@ -113,7 +113,7 @@ one_of None second x found = inr found
 one_of (Some y) second x found = inl found
 
 -- a mapped block is named
-pub map_in_names : (entries : List Meaning) (virt block : ℕ) → map_of entries virt ≡ Some block → is_in (all_names entries) block ≡ true
+pub map_in_names : (entries : List Meaning) (virt block : ℕ) → map_of entries virt ≡ Some block → is_listed (all_names entries) block ≡ true
 map_in_names [] virt block found = cc
 map_in_names (entry ∷ entries) virt block found =
     elim (one_of (map_of entries virt) (block_in entry virt) block found) [

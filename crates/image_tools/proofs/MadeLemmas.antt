@@ -21,7 +21,7 @@ use Rattle.log_image.specs.Positions.{entries_of}
 use Rattle.log_image.specs.Tails.{AtSlot, tail_of, IsClear}
 use Rattle.log_image.specs.Stands.{StandsBy}
 use Rattle.log_image.specs.Taken.{is_taken, HasTaken}
-use Rattle.log_image.specs.MayStart.{MayStart}
+use Rattle.log_image.specs.KeepsStart.{KeepsStart}
 use Rattle.log_image.specs.JustMade.{block_power, first_log, made_word, IsJustMade}
 use Rattle.log_image.specs.declared.header.TheConstants.{MAGIC, VERSION, HEADER_VERSION, HEADER_BLOCK_POWER, HEADER_DATA, HEADER_LOG}
 use Rattle.log_image.proofs.ImageLemmas.{in_block, length_range}
@@ -191,7 +191,7 @@ taken_made words shape taken is bits = record {
         ∙ plain (block == 0) (first_log shape == block)
 
 -- what is kept of a just-made image
-pub made_kept : (geometry : Geometry) (words taken : List ℕ) → IsJustMade (shape_by geometry) words → HasBitsOf (total (shape_by geometry)) (first_log (shape_by geometry)) taken → MayStart geometry words taken 1 0 0
+pub made_kept : (geometry : Geometry) (words taken : List ℕ) → IsJustMade (shape_by geometry) words → HasBitsOf (total (shape_by geometry)) (first_log (shape_by geometry)) taken → KeepsStart geometry words taken 1 0 0
 made_kept geometry words taken made bits =
     let stands : (shape_of words ≡ shape_by geometry) × StandsBy words (first_log (shape_by geometry) ∷ []) [] 0 = just_made_stands (shape_by geometry) words (allowed geometry) made in
     let is : LogIsEmpty words (shape_by geometry) = log_empty geometry words made in

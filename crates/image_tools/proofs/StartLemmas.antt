@@ -21,7 +21,7 @@ use Rattle.log_image.specs.Chains.{IsChain, snapshots_of, logs_of, first_size, s
 use Rattle.log_image.specs.Positions.{log_words, size_at_end}
 use Rattle.log_image.specs.Format.{fits, is_direct, is_indirect, has_runs, is_log_entry, is_log_block, is_snapshot_entry, is_snapshot_block, is_seal_placed, all_zero, HasFormat}
 use Rattle.log_image.specs.Stands.{StandsBy, Stands}
-use Rattle.log_image.specs.MayStart.{MayStart}
+use Rattle.log_image.specs.KeepsStart.{KeepsStart}
 use Rattle.log_image.proofs.HoldingLemmas.{both_left, both_right}
 use Rattle.log_image.proofs.ClearedEntries.{map_in_data}
 use Rattle.chain_reader.specs.Reads.{StandForSome, IsReadOf}
@@ -30,16 +30,16 @@ use Rattle.chain_reader.proofs.FitsLemmas.{Fitting, fitting, inside_data}
 use Rattle.chain_reader.proofs.WalkLemmas.{same_shape}
 
 -- the words of a start stand for a file
-pub kept_stands : (geometry : Geometry) (words taken : List ℕ) (generation position size : ℕ) → ∥ MayStart geometry words taken generation position size ∥₁ → StandForSome words
+pub kept_stands : (geometry : Geometry) (words taken : List ℕ) (generation position size : ℕ) → ∥ KeepsStart geometry words taken generation position size ∥₁ → StandForSome words
 kept_stands geometry words taken generation position size kept = ∥∥₁_map kept (λ is. (is.chain, is.file, position, is.stands))
 
 -- the geometry of a start is that of its words
-pub kept_shape : (geometry : Geometry) (words taken : List ℕ) (generation position size : ℕ) → ∥ MayStart geometry words taken generation position size ∥₁ →
+pub kept_shape : (geometry : Geometry) (words taken : List ℕ) (generation position size : ℕ) → ∥ KeepsStart geometry words taken generation position size ∥₁ →
     HasShape geometry (shape_of words).data_blocks (shape_of words).log_blocks (shape_of words).block_bytes
 kept_shape geometry words taken generation position size kept = ∥∥₁_elim kept (hlevel ℕ_set) (λ is. is.same_geometry)
 
 -- bytes that are each file that the words of a start stand for
-pub kept_file : (geometry : Geometry) (words taken : List ℕ) (generation position size : ℕ) (bytes : List ℕ) → ∥ MayStart geometry words taken generation position size ∥₁ →
+pub kept_file : (geometry : Geometry) (words taken : List ℕ) (generation position size : ℕ) (bytes : List ℕ) → ∥ KeepsStart geometry words taken generation position size ∥₁ →
     ((chain file : List ℕ) (position : ℕ) → StandsBy words chain file position → bytes ≡ file) → ∥ Stands words bytes position ∥₁
 kept_file geometry words taken generation position size bytes kept each =
     ∥∥₁_map kept (λ is. (is.chain, subst (λ (l : List ℕ). StandsBy words is.chain l position) (sym (each is.chain is.file position is.stands)) is.stands))

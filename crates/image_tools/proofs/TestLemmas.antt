@@ -4,15 +4,15 @@ use Rattle.log_entry.specs.Geometry.{HasShape}
 use Rattle.log_entry.specs.declared.shapes.Geometry.{Geometry}
 use Rattle.log_image.specs.Header.{shape_of}
 use Rattle.log_image.specs.Tails.{AtSlot}
-use Rattle.log_image.specs.MayStart.{MayStart}
+use Rattle.log_image.specs.KeepsStart.{KeepsStart}
 use Rattle.log_image.specs.Rows.{collected}
 use Rattle.chain_reader.proofs.TestLemmas.{stands_collected}
 use Rattle.log_image.proofs.StartRows.{bits_by, clear_by}
 
 -- what is kept of it
-pub kept_collected : (geometry : Geometry) (words taken : List ℕ) → HasShape geometry 2 1 64 → words ≡ collected → taken ≡ 55 ∷ [] → MayStart geometry words taken 2 3 1
+pub kept_collected : (geometry : Geometry) (words taken : List ℕ) → HasShape geometry 2 1 64 → words ≡ collected → taken ≡ 55 ∷ [] → KeepsStart geometry words taken 2 3 1
 kept_collected geometry words taken shaped same_words same_taken =
-    subst (λ (l : List ℕ). MayStart geometry l taken 2 3 1) (sym same_words) (subst (λ (l : List ℕ). MayStart geometry collected l 2 3 1) (sym same_taken) (record {
+    subst (λ (l : List ℕ). KeepsStart geometry l taken 2 3 1) (sym same_words) (subst (λ (l : List ℕ). KeepsStart geometry collected l 2 3 1) (sym same_taken) (record {
       chain = 5 ∷ 4 ∷ [];
       file = 204 ∷ [];
       stands = stands_collected;

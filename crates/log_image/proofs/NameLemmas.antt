@@ -11,7 +11,7 @@ use Rattle.log_entry.specs.declared.layouts.TheConstants.{ENTRY_KIND, DIRECT, IN
 use Rattle.log_image.specs.Image.{Shape, words_in, total, is_in_data, is_in_log, block_words}
 use Rattle.log_image.specs.Entries.{Meaning, direct_meaning, indirect_meaning, meaning, names, all_names}
 use Rattle.log_image.specs.Blocks.{entry_count, file_size, slots_of, kept_words}
-use Rattle.log_image.specs.Chains.{is_in, all_different, snapshots_of, logs_of}
+use Rattle.log_image.specs.Chains.{is_listed, all_different, snapshots_of, logs_of}
 use Rattle.log_image.specs.Positions.{snapshot_entries, log_words, log_entries, entries_of}
 use Rattle.log_image.specs.Format.{all_zero, fits, is_direct, is_indirect, is_indirect_block, has_runs, is_log_entry, is_log_block, is_snapshot_entry, is_snapshot_block, HasFormat}
 use Rattle.log_image.proofs.HoldingLemmas.{both_left, both_right}
@@ -28,19 +28,19 @@ or_right true b is = refl
 or_right false b is = is
 
 -- what holds of each number in a list holds along it
-pub each_in : (P : ℕ → Type 0) (numbers : List ℕ) → ((number : ℕ) → is_in numbers number ≡ true → P number) → AllByRecursion P numbers
+pub each_in : (P : ℕ → Type 0) (numbers : List ℕ) → ((number : ℕ) → is_listed numbers number ≡ true → P number) → AllByRecursion P numbers
 each_in P [] given = tt
 each_in P (number ∷ numbers) given = (
-  given number (or_left (number == number) (is_in numbers number) (eq-eqb number number refl)),
-  each_in P numbers (λ other inside. given other (or_right (number == other) (is_in numbers other) inside)),
+  given number (or_left (number == number) (is_listed numbers number) (eq-eqb number number refl)),
+  each_in P numbers (λ other inside. given other (or_right (number == other) (is_listed numbers other) inside)),
 )
 
 -- a test that each number of a list passes
-pub test_in : (p : ℕ → Bool) (numbers : List ℕ) (number : ℕ) → list_all p numbers ≡ true → is_in numbers number ≡ true → p number ≡ true
+pub test_in : (p : ℕ → Bool) (numbers : List ℕ) (number : ℕ) → list_all p numbers ≡ true → is_listed numbers number ≡ true → p number ≡ true
 test_in p [] number all inside = cc
 test_in p (first ∷ numbers) number all inside = go (first == number) refl (λ later. test_in p numbers number (both_right (p first) (list_all p numbers) all) later)
   where
-    go : (same : Bool) → (first == number) ≡ same → (is_in numbers number ≡ true → p number ≡ true) → p number ≡ true
+    go : (same : Bool) → (first == number) ≡ same → (is_listed numbers number ≡ true → p number ≡ true) → p number ≡ true
     go true is rest = subst (λ (n : ℕ). p n ≡ true) (eqb-true first number is) (both_left (p first) (list_all p numbers) all)
     go false is rest = rest (rw is at inside)
 
@@ -125,22 +125,22 @@ not_data shape block other stored log same =
     omega (arith, low, high, same)
 
 -- lists of different numbers that have no number in common
-pub different_join : (first second : List ℕ) → all_different first ≡ true → all_different second ≡ true → ((number : ℕ) → is_in first number ≡ true → is_in second number ≡ false) → all_different (first ++ second) ≡ true
+pub different_join : (first second : List ℕ) → all_different first ≡ true → all_different second ≡ true → ((number : ℕ) → is_listed first number ≡ true → is_listed second number ≡ false) → all_different (first ++ second) ≡ true
 different_join [] second one other apart = other
 different_join (number ∷ first) second one other apart =
-    both (not (is_in (first ++ second) number)) (all_different (first ++ second))
-    (ap (λ (b : Bool). not b) (list_any-append (λ (n : ℕ). n == number) first second) ∙ neither (is_in first number) (is_in second number) (both_left (not (is_in first number)) (all_different first) one) (apart number (or_left (number == number) (is_in first number) (eq-eqb number number refl))))
-    (different_join first second (both_right (not (is_in first number)) (all_different first) one) other (λ n inside. apart n (or_right (number == n) (is_in first n) inside)))
+    both (not (is_listed (first ++ second) number)) (all_different (first ++ second))
+    (ap (λ (b : Bool). not b) (list_any-append (λ (n : ℕ). n == number) first second) ∙ neither (is_listed first number) (is_listed second number) (both_left (not (is_listed first number)) (all_different first) one) (apart number (or_left (number == number) (is_listed first number) (eq-eqb number number refl))))
+    (different_join first second (both_right (not (is_listed first number)) (all_different first) one) other (λ n inside. apart n (or_right (number == n) (is_listed first n) inside)))
   where
     neither : (a b : Bool) → not a ≡ true → b ≡ false → not (a || b) ≡ true
     neither true b no_a no_b = cc
     neither false b no_a no_b = ap (λ (c : Bool). not c) no_b
 
 -- a number before a range is not in it, and a range has different numbers
-before_range : (first count number : ℕ) → number < first → is_in (range_with_len first count) number ≡ false
+before_range : (first count number : ℕ) → number < first → is_listed (range_with_len first count) number ≡ false
 before_range first zero number before = refl
 before_range first (suc count) number before = rw (ne_eqb first number (omega (arith, before))) (before_range (first + 1) count number (omega (arith, before)))
 
 pub range_different : (first count : ℕ) → all_different (range_with_len first count) ≡ true
 range_different first zero = refl
-range_different first (suc count) = both (not (is_in (range_with_len (first + 1) count) first)) (all_different (range_with_len (first + 1) count)) (ap (λ (b : Bool). not b) (before_range (first + 1) count first (omega arith))) (range_different (first + 1) count)
+range_different first (suc count) = both (not (is_listed (range_with_len (first + 1) count) first)) (all_different (range_with_len (first + 1) count)) (ap (λ (b : Bool). not b) (before_range (first + 1) count first (omega arith))) (range_different (first + 1) count)

@@ -6,7 +6,7 @@ use Rattle.std.proofs.Math.Nat.{mul-le-mul_right}
 use Rattle.log_image.specs.Image.{Shape, words_in, total, is_in_data, is_in_log, block_words}
 use Rattle.log_image.specs.Header.{shape_of, HasHeader}
 use Rattle.log_image.specs.Entries.{all_names}
-use Rattle.log_image.specs.Chains.{all_different, is_in}
+use Rattle.log_image.specs.Chains.{all_different, is_listed}
 use Rattle.log_image.specs.Positions.{entries_of}
 use Rattle.log_image.specs.Format.{HasFormat}
 use Rattle.log_image.proofs.HoldingLemmas.{both_left, both_right}
@@ -45,22 +45,22 @@ set_header shape old block index word long log = record {
 }
 
 -- a number before the last of different ones is not the last
-pub not_last : (front : List ℕ) (tail : ℕ) (more : List ℕ) → all_different (front ++ tail ∷ more) ≡ true → (block : ℕ) → is_in front block ≡ true → block ≢ tail
+pub not_last : (front : List ℕ) (tail : ℕ) (more : List ℕ) → all_different (front ++ tail ∷ more) ≡ true → (block : ℕ) → is_listed front block ≡ true → block ≢ tail
 not_last [] tail more different block inside = λ same. (let never : false ≡ true = inside in cc)
-not_last (first ∷ front) tail more different block inside = go (first == block) refl (λ later. not_last front tail more (both_right (not (is_in (front ++ tail ∷ more) first)) (all_different (front ++ tail ∷ more)) different) block later)
+not_last (first ∷ front) tail more different block inside = go (first == block) refl (λ later. not_last front tail more (both_right (not (is_listed (front ++ tail ∷ more) first)) (all_different (front ++ tail ∷ more)) different) block later)
   where
     never : (b : Bool) → not b ≡ true → b ≡ true → ⊥
     never b no_b is = cc
 
-    in_back : (front : List ℕ) → is_in (front ++ tail ∷ more) tail ≡ true
-    in_back [] = or_left (tail == tail) (is_in more tail) (eq-eqb tail tail refl)
-    in_back (other ∷ front) = or_right (other == tail) (is_in (front ++ tail ∷ more) tail) (in_back front)
+    in_back : (front : List ℕ) → is_listed (front ++ tail ∷ more) tail ≡ true
+    in_back [] = or_left (tail == tail) (is_listed more tail) (eq-eqb tail tail refl)
+    in_back (other ∷ front) = or_right (other == tail) (is_listed (front ++ tail ∷ more) tail) (in_back front)
 
-    go : (same : Bool) → (first == block) ≡ same → (is_in front block ≡ true → block ≢ tail) → block ≢ tail
+    go : (same : Bool) → (first == block) ≡ same → (is_listed front block ≡ true → block ≢ tail) → block ≢ tail
     go true is rest e =
         let one : first ≡ tail = eqb-true first block is ∙ e in
-        never (is_in (front ++ tail ∷ more) first) (both_left (not (is_in (front ++ tail ∷ more) first)) (all_different (front ++ tail ∷ more)) different)
-        (subst (λ (n : ℕ). is_in (front ++ tail ∷ more) n ≡ true) (sym one) (in_back front))
+        never (is_listed (front ++ tail ∷ more) first) (both_left (not (is_listed (front ++ tail ∷ more) first)) (all_different (front ++ tail ∷ more)) different)
+        (subst (λ (n : ℕ). is_listed (front ++ tail ∷ more) n ≡ true) (sym one) (in_back front))
     go false is rest e = rest (rw is at inside) e
 
 -- the blocks before the tail are the same, and so are those that the entries name
@@ -74,7 +74,7 @@ pub set_data : (shape : Shape) (old : List ℕ) (tail index word : ℕ) → inde
 set_data shape old tail index word inside log block stored = set_elsewhere shape old tail index word block inside (not_data shape block tail stored log)
 
 pub set_named : (shape : Shape) (old chain : List ℕ) (tail index word : ℕ) → index < words_in shape → is_in_log shape tail ≡ true → HasFormat old shape chain →
-    (block : ℕ) → is_in (all_names (entries_of old shape chain)) block ≡ true → block_words (set old (tail * words_in shape + index) word) shape block ≡ block_words old shape block
+    (block : ℕ) → is_listed (all_names (entries_of old shape chain)) block ≡ true → block_words (set old (tail * words_in shape + index) word) shape block ≡ block_words old shape block
 set_named shape old chain tail index word inside log format block here =
     set_data shape old tail index word inside log block (test_in (is_in_data shape) (all_names (entries_of old shape chain)) block (names_in_data old shape chain format) here)
 

@@ -9,7 +9,7 @@ use Rattle.log_image.specs.Image.{Shape}
 use Rattle.log_image.specs.Tails.{Tail, AtSlot, is_after, IsClear, IsCleared}
 use Rattle.log_image.specs.Stands.{Stands}
 use Rattle.log_image.specs.Taken.{bit_of, is_taken}
-use Rattle.log_image.specs.MayStart.{MayStart}
+use Rattle.log_image.specs.KeepsStart.{KeepsStart}
 use Rattle.log_image.specs.Rows.{two_blocks, behind_tail, RecoveredBeforeTail}
 use Rattle.log_image.proofs.HoldingLemmas.{both_left, both_right}
 use Rattle.log_image.proofs.JustMadeRows.{just_made_by, just_made}
@@ -54,7 +54,7 @@ clear_by words shape tail count long all place after = at_place (nat_lt place co
         (at_each (λ (k : ℕ). not (is_after shape tail k) || get_or words k 0 == 0) count place all (ltb-true place count is)) after)
     at_place false is = get_or_past words place 0 (omega (arith, long, ltb-false place count is))
 
-pub kept_two : (geometry : Geometry) → HasShape geometry 2 1 64 → MayStart geometry two_blocks (9 ∷ []) 1 0 0
+pub kept_two : (geometry : Geometry) → HasShape geometry 2 1 64 → KeepsStart geometry two_blocks (9 ∷ []) 1 0 0
 kept_two geometry shaped = record {
   chain = 3 ∷ [];
   file = [];
@@ -66,9 +66,9 @@ kept_two geometry shaped = record {
   bitmap = record { room = omega arith; bits = bits_by two_blocks (shape_of two_blocks) (3 ∷ []) (9 ∷ []) 24 refl };
 }
 
-pub kept_made : (geometry : Geometry) (words taken : List ℕ) → HasShape geometry 2 1 64 → words ≡ two_blocks → taken ≡ 9 ∷ [] → MayStart geometry words taken 1 0 0
+pub kept_made : (geometry : Geometry) (words taken : List ℕ) → HasShape geometry 2 1 64 → words ≡ two_blocks → taken ≡ 9 ∷ [] → KeepsStart geometry words taken 1 0 0
 kept_made geometry words taken shaped same_words same_taken =
-    subst (λ (l : List ℕ). MayStart geometry l taken 1 0 0) (sym same_words) (subst (λ (l : List ℕ). MayStart geometry two_blocks l 1 0 0) (sym same_taken) (kept_two geometry shaped))
+    subst (λ (l : List ℕ). KeepsStart geometry l taken 1 0 0) (sym same_words) (subst (λ (l : List ℕ). KeepsStart geometry two_blocks l 1 0 0) (sym same_taken) (kept_two geometry shaped))
 
 either_way : (b : Bool) (number : ℕ) → (if b then number else number) ≡ number
 either_way true number = refl

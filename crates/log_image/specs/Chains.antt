@@ -7,13 +7,13 @@ use Rattle.log_image.specs.Header.{head_block}
 use Rattle.log_image.specs.Blocks.{link_of, kind_of, is_snapshot, base_of, file_size, slots_of, entry_words, leads_on}
 
 -- a number is in the list
-abbrev pub is_in : List ℕ → ℕ → Bool
-is_in numbers number = list_any (λ (other : ℕ). other == number) numbers
+abbrev pub is_listed : List ℕ → ℕ → Bool
+is_listed numbers number = list_any (λ (other : ℕ). other == number) numbers
 
 -- no number stands twice
 abbrev pub all_different : List ℕ → Bool
 all_different [] = true
-all_different (number ∷ numbers) = not (is_in numbers number) && all_different numbers
+all_different (number ∷ numbers) = not (is_listed numbers number) && all_different numbers
 
 -- the snapshot blocks at the beginning of a list of blocks
 abbrev pub snapshots_of : List ℕ → Shape → List ℕ → List ℕ

@@ -9,7 +9,7 @@ pub mod Format
 pub mod Stands
 pub mod Tails
 pub mod Taken
-pub mod MayStart
+pub mod KeepsStart
 pub mod SameWords
 pub mod Recovered
 pub mod JustMade

@@ -3,7 +3,7 @@ use Rattle.std.specs.Prelude.{ℕ, ◌*◌, ◌/◌, ◌%◌, ◌≡◌, ◌≤�
 use Rattle.std.specs.Int.{bit_at}
 use Rattle.log_image.specs.Image.{Shape, total}
 use Rattle.log_image.specs.Entries.{all_names}
-use Rattle.log_image.specs.Chains.{is_in}
+use Rattle.log_image.specs.Chains.{is_listed}
 use Rattle.log_image.specs.Positions.{entries_of}
 
 -- the bit of a block
@@ -16,12 +16,12 @@ named_blocks words shape chain = chain ++ all_names (entries_of words shape chai
 
 -- the header, or a block that the chain names
 abbrev pub is_taken : List ℕ → Shape → List ℕ → ℕ → Bool
-is_taken words shape chain block = block == 0 || is_in (named_blocks words shape chain) block
+is_taken words shape chain block = block == 0 || is_listed (named_blocks words shape chain) block
 
 -- there is a bit for each block of the image, and of these the set ones are those of block 0 and of these blocks
 pub record HasBits (shape : Shape) (taken blocks : List ℕ) : Type 0 where
   pub room : total shape ≤ 64 * length taken
-  pub bits : (block : ℕ) → block < total shape → bit_of taken block ≡ (if block == 0 || is_in blocks block then 1 else 0)
+  pub bits : (block : ℕ) → block < total shape → bit_of taken block ≡ (if block == 0 || is_listed blocks block then 1 else 0)
 
 -- the set bits are those of block 0 and of the blocks that the chain names
 abbrev pub HasTaken : List ℕ → Shape → List ℕ → List ℕ → Type 0

@@ -1,7 +1,7 @@
 //! An image that a run may start from.
 
 ghost use Rattle.std.specs.Prelude.{◌≡◌};
-ghost use Rattle.log_image.specs.MayStart.{MayStart};
+ghost use Rattle.log_image.specs.KeepsStart.{KeepsStart};
 
 use log_entry::Geometry;
 
@@ -15,7 +15,7 @@ pub struct Start {
     generation: u32,
     position: u64,
     size: u64,
-    pub ghost kept: { ∥ MayStart geometry words.items taken.items generation position size ∥₁ },
+    pub ghost kept: { ∥ KeepsStart geometry words.items taken.items generation position size ∥₁ },
 }
 
 impl Start {
@@ -29,7 +29,7 @@ impl Start {
         position: u64,
         size: u64,
     ) -> Start
-        requires { ∥ MayStart geometry words.items taken.items generation position size ∥₁ }
+        requires { ∥ KeepsStart geometry words.items taken.items generation position size ∥₁ }
         ensures same_geometry { result.geometry ≡ geometry }
         ensures same_words { result.words ≡ words }
         ensures same_taken { result.taken ≡ taken }
@@ -57,7 +57,7 @@ impl Start {
     /// The words of the image. They stand for a file of the size that `size` gives, at the position that `position` gives.
     pub fn words(&self) -> &[u64]
         ensures value { result.now ≡ self.now.words.items }
-        ensures kept { ∥ MayStart self.now.geometry result.now self.now.taken.items self.now.generation self.now.position self.now.size ∥₁ }
+        ensures kept { ∥ KeepsStart self.now.geometry result.now self.now.taken.items self.now.generation self.now.position self.now.size ∥₁ }
     {
         &self.words
     }
@@ -94,7 +94,7 @@ impl Start {
     pub fn into_parts(self) -> (Vec<u64>, Vec<u64>)
         ensures same_words { result.0 ≡ self.words }
         ensures same_taken { result.1 ≡ self.taken }
-        ensures kept { ∥ MayStart self.geometry result.0.items result.1.items self.generation self.position self.size ∥₁ }
+        ensures kept { ∥ KeepsStart self.geometry result.0.items result.1.items self.generation self.position self.size ∥₁ }
     {
         (self.words, self.taken)
     }

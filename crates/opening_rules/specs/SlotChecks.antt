@@ -4,14 +4,14 @@ use Rattle.std.specs.Prelude.{ℕ, zero, suc, ◌+◌, ◌^◌, ◌==◌, Bool, 
 use Rattle.log_entry.specs.declared.layouts.TheConstants.{EMPTY, SEAL}
 use Rattle.log_image.specs.Image.{Shape}
 use Rattle.log_image.specs.Entries.{Meaning, direct_meaning, meaning, names, all_names}
-use Rattle.log_image.specs.Chains.{is_in}
+use Rattle.log_image.specs.Chains.{is_listed}
 use Rattle.log_image.specs.Format.{is_log_entry, is_snapshot_entry}
 use Rattle.opening_rules.specs.Checks.{Check, check}
 use Rattle.opening_rules.specs.declared.refusals.BadImage.TheVariants.{BadEntry, BadShare}
 
 -- a block stands among these
 abbrev pub is_among : ℕ → List ℕ → Bool
-is_among block blocks = is_in blocks block
+is_among block blocks = is_listed blocks block
 
 -- each of some blocks in order, where it was named before: by these, or by one of its own before it
 abbrev pub share_checks : List ℕ → List ℕ → List Check

@@ -17,7 +17,7 @@ use Rattle.log_image.specs.Taken.{bit_of}
 use Rattle.log_image.proofs.ImageLemmas.{length_range, allowed_shape}
 use Rattle.log_image.proofs.MadeImages.{by_bytes}
 use Rattle.log_image.proofs.HeaderSteps.{long_words}
-use Rattle.log_image.specs.Chains.{is_in}
+use Rattle.log_image.specs.Chains.{is_listed}
 use Rattle.log_image.proofs.NameLemmas.{test_in, names_in_data}
 use Rattle.log_image.proofs.Clearing.{open_inside}
 use Rattle.log_image.proofs.SetWordLemmas.{tail_inside}
@@ -78,7 +78,7 @@ bounds_by words taken table position tail_block tail_slot first_clear front tail
       slot_inside = end.slot;
       below = omega (arith, runs.stands.stands.ends_at, runs.stands.stands.format.below_limit);
       held = λ virt block is.
-          let named : is_in (all_names (entries_of words (shape_of words) (front ++ tail ∷ []))) block ≡ true = map_in_names (entries_of words (shape_of words) (front ++ tail ∷ [])) virt block (sym (runs.fits.map.each virt) ∙ is) in
+          let named : is_listed (all_names (entries_of words (shape_of words) (front ++ tail ∷ []))) block ≡ true = map_in_names (entries_of words (shape_of words) (front ++ tail ∷ [])) virt block (sym (runs.fits.map.each virt) ∙ is) in
           let stored : is_in_data (shape_of words) block ≡ true = test_in (is_in_data (shape_of words)) (all_names (entries_of words (shape_of words) (front ++ tail ∷ []))) block (names_in_data words (shape_of words) (front ++ tail ∷ []) runs.stands.stands.format) named in
           (stored, runs.fits.bitmap.bits block (data_inside (shape_of words) block stored) ∙ ap (λ (b : Bool). if b then 1 else 0) (name_taken words (shape_of words) (front ++ tail ∷ []) block named));
     }

@@ -15,7 +15,7 @@ use Rattle.log_image.specs.Positions.{entries_of}
 use Rattle.log_image.specs.Format.{is_log_entry}
 use Rattle.log_image.specs.Taken.{bit_of, is_taken}
 use Rattle.image_steps.specs.Steps.{IsEntryOf, fits_log}
-use Rattle.log_image.specs.Chains.{is_in}
+use Rattle.log_image.specs.Chains.{is_listed}
 use Rattle.std.proofs.lemmas.List.{get_or-set_other}
 use Rattle.log_image.proofs.EntrySteps.{direct_entries}
 use Rattle.chain_reader.specs.Tables.{HasMap, HasSize}
@@ -44,7 +44,7 @@ word_fields virt block count leftover small_virt small_block some few left = rec
 }
 
 -- a number is in a range
-pub in_range_test : (first count number : ℕ) → is_in (range_with_len first count) number ≡ (nat_le first number && nat_lt number (first + count))
+pub in_range_test : (first count number : ℕ) → is_listed (range_with_len first count) number ≡ (nat_le first number && nat_lt number (first + count))
 in_range_test first zero number = never first number
   where
     never : (first number : ℕ) → false ≡ (nat_le first number && nat_lt number (first + 0))
@@ -75,14 +75,14 @@ pub commit_runs : (shape : Shape) (words taken new_taken : List ℕ) (table new_
 commit_runs shape words taken new_taken table new_table position tail_block tail_slot first_clear chain file new_file word block count runs slot room fitting entry is_run same_bits marks maps sizes least =
     let means : meaning words shape word ≡ direct_meaning word = (entry_is shape words word fitting).1 in
     entry_put shape words taken new_taken table new_table position tail_block tail_slot first_clear (block + count) chain file new_file word runs slot room entry same_bits
-    (λ other. marks other ∙ ap (λ (b : Bool). if b then 1 else bit_of taken other) (sym (in_range_test block count other) ∙ ap (λ (l : List ℕ). is_in l other) (sym is_run)))
+    (λ other. marks other ∙ ap (λ (b : Bool). if b then 1 else bit_of taken other) (sym (in_range_test block count other) ∙ ap (λ (l : List ℕ). is_listed l other) (sym is_run)))
     (subst (λ (m : Meaning). HasMap new_table (entries_of words shape chain ++ m ∷ [])) means (maps (entries_of words shape chain) runs.fits.map))
     ((sizes table.size [] (record { same = refl })).same ∙ ap (λ (m : Meaning). max table.size (entry_end shape m)) means ∙ ap (λ (n : ℕ). max n (entry_end shape (direct_meaning word))) runs.fits.size ∙ sym entry.size)
     (λ other some before. go other some before (cases_lt other block))
   where
-    go : (other : ℕ) → 1 ≤ other → other < block + count → (other < block) ⊎ (block ≤ other) → (is_taken words shape chain other ≡ true) ⊎ (is_in (direct_meaning word).blocks other ≡ true)
+    go : (other : ℕ) → 1 ≤ other → other < block + count → (other < block) ⊎ (block ≤ other) → (is_taken words shape chain other ≡ true) ⊎ (is_listed (direct_meaning word).blocks other ≡ true)
     go other some before (inl low) = inl (least other some low)
-    go other some before (inr high) = inr (ap (λ (l : List ℕ). is_in l other) is_run ∙ in_range_test block count other ∙ rw (le-leb block other high, lt-ltb other (block + count) before) refl)
+    go other some before (inr high) = inr (ap (λ (l : List ℕ). is_listed l other) is_run ∙ in_range_test block count other ∙ rw (le-leb block other high, lt-ltb other (block + count) before) refl)
 
 -- the blocks of a run's entry
 pub run_blocks_are : (virt block count leftover : ℕ) → virt < 65536 → block < 65536 → 1 ≤ count → count ≤ 256 → leftover < 4096 → (direct_meaning (entry_word (Direct virt block count leftover))).blocks ≡ range_with_len block count

@@ -15,7 +15,7 @@ use Rattle.image_steps.specs.Steps.{StandsClear, KeepsTaken, StandsAsBefore, IsE
 use Rattle.image_steps.proofs.StoreStep.{stores_mean_nothing, nothing_after}
 use Rattle.image_steps.proofs.EntryStep.{entries_are_writes}
 use Rattle.image_steps.proofs.LinkStep.{links_grow_the_log}
-use Rattle.log_image.specs.Chains.{is_in}
+use Rattle.log_image.specs.Chains.{is_listed}
 use Rattle.log_image.proofs.NameLemmas.{or_left, or_right}
 use Rattle.chain_reader.specs.Tables.{HasMap}
 use Rattle.plain_engine.specs.Running.{Runs}
@@ -26,7 +26,7 @@ stands_clear words taken table position tail_block tail_slot first_clear chain f
 
 -- the same entries name the same blocks
 taken_same : (old new : List ℕ) (shape : Shape) (chain : List ℕ) → entries_of new shape chain ≡ entries_of old shape chain → (block : ℕ) → is_taken new shape chain block ≡ is_taken old shape chain block
-taken_same old new shape chain same block = ap (λ (l : List Meaning). block == 0 || is_in (chain ++ all_names l) block) same
+taken_same old new shape chain same block = ap (λ (l : List Meaning). block == 0 || is_listed (chain ++ all_names l) block) same
 
 -- words of blocks that are not taken are stored
 pub store_step : (words new taken : List ℕ) (table : FileMap) (position tail_block tail_slot first_clear : ℕ) (chain file : List ℕ) → Runs (shape_of words) words taken table position tail_block tail_slot first_clear chain file →
@@ -47,14 +47,14 @@ store_step words new taken table position tail_block tail_slot first_clear chain
     }
 
 -- a block is taken after an entry where it was, or where the entry names it
-pub taken_entry : (old new : List ℕ) (shape : Shape) (chain : List ℕ) (entry : Meaning) → entry.holder ≡ [] → entries_of new shape chain ≡ entries_of old shape chain ++ entry ∷ [] → (block : ℕ) → is_taken new shape chain block ≡ (is_taken old shape chain block || is_in entry.blocks block)
+pub taken_entry : (old new : List ℕ) (shape : Shape) (chain : List ℕ) (entry : Meaning) → entry.holder ≡ [] → entries_of new shape chain ≡ entries_of old shape chain ++ entry ∷ [] → (block : ℕ) → is_taken new shape chain block ≡ (is_taken old shape chain block || is_listed entry.blocks block)
 taken_entry old new shape chain entry direct more block =
-    ap (λ (l : List Meaning). block == 0 || is_in (chain ++ all_names l) block) more
-    ∙ ap (λ (l : List ℕ). block == 0 || is_in (chain ++ l) block) (flat_map-append names (entries_of old shape chain) (entry ∷ []) ∙ ap (λ (l : List ℕ). all_names (entries_of old shape chain) ++ l) (nothing_after (names entry) ∙ ap (λ (l : List ℕ). l ++ entry.blocks) direct))
+    ap (λ (l : List Meaning). block == 0 || is_listed (chain ++ all_names l) block) more
+    ∙ ap (λ (l : List ℕ). block == 0 || is_listed (chain ++ l) block) (flat_map-append names (entries_of old shape chain) (entry ∷ []) ∙ ap (λ (l : List ℕ). all_names (entries_of old shape chain) ++ l) (nothing_after (names entry) ∙ ap (λ (l : List ℕ). l ++ entry.blocks) direct))
     ∙ ap (λ (b : Bool). block == 0 || b) (list_any-append (λ (n : ℕ). n == block) chain (all_names (entries_of old shape chain) ++ entry.blocks)
-    ∙ ap (λ (b : Bool). is_in chain block || b) (list_any-append (λ (n : ℕ). n == block) (all_names (entries_of old shape chain)) entry.blocks))
-    ∙ regroup (block == 0) (is_in chain block) (is_in (all_names (entries_of old shape chain)) block) (is_in entry.blocks block)
-    ∙ ap (λ (b : Bool). (block == 0 || b) || is_in entry.blocks block) (sym (list_any-append (λ (n : ℕ). n == block) chain (all_names (entries_of old shape chain))))
+    ∙ ap (λ (b : Bool). is_listed chain block || b) (list_any-append (λ (n : ℕ). n == block) (all_names (entries_of old shape chain)) entry.blocks))
+    ∙ regroup (block == 0) (is_listed chain block) (is_listed (all_names (entries_of old shape chain)) block) (is_listed entry.blocks block)
+    ∙ ap (λ (b : Bool). (block == 0 || b) || is_listed entry.blocks block) (sym (list_any-append (λ (n : ℕ). n == block) chain (all_names (entries_of old shape chain))))
   where
     regroup : (a b c d : Bool) → (a || (b || (c || d))) ≡ ((a || (b || c)) || d)
     regroup true b c d = refl
@@ -64,16 +64,16 @@ taken_entry old new shape chain entry direct more block =
 -- an entry is put into the tail's slot
 pub entry_step : (words taken new_taken : List ℕ) (table new_table : FileMap) (position tail_block tail_slot first_clear new_clear : ℕ) (chain file new_file : List ℕ) (word : ℕ) → Runs (shape_of words) words taken table position tail_block tail_slot first_clear chain file →
     tail_slot ≢ words_in (shape_of words) → position + 1 < 2 ^ 40 → IsEntryOf words (shape_of words) chain file new_file word →
-    length new_taken ≡ length taken → ((block : ℕ) → bit_of new_taken block ≡ (if is_in (direct_meaning word).blocks block then 1 else bit_of taken block)) →
+    length new_taken ≡ length taken → ((block : ℕ) → bit_of new_taken block ≡ (if is_listed (direct_meaning word).blocks block then 1 else bit_of taken block)) →
     HasMap new_table (entries_of words (shape_of words) chain ++ direct_meaning word ∷ []) → new_table.size ≡ length new_file →
-    ((block : ℕ) → 1 ≤ block → block < new_clear → (is_taken words (shape_of words) chain block ≡ true) ⊎ (is_in (direct_meaning word).blocks block ≡ true)) →
+    ((block : ℕ) → 1 ≤ block → block < new_clear → (is_taken words (shape_of words) chain block ≡ true) ⊎ (is_listed (direct_meaning word).blocks block ≡ true)) →
     Runs (shape_of words) (set words (tail_block * words_in (shape_of words) + tail_slot) word) new_taken new_table (position + 1) tail_block (tail_slot + 1) new_clear chain new_file
 entry_step words taken new_taken table new_table position tail_block tail_slot first_clear new_clear chain file new_file word runs opens room entry same_bits bits maps size low =
     let at : tail_of words (shape_of words) chain ≡ AtSlot tail_block tail_slot = runs.fits.tail ∙ ap (λ (b : Bool). if b then AtLink tail_block else AtSlot tail_block tail_slot) (ne_eqb tail_slot (words_in (shape_of words)) opens) in
     let new : List ℕ = set words (tail_block * words_in (shape_of words) + tail_slot) word in
     let is : TakesEntry words (set words (tail_block * words_in (shape_of words) + tail_slot) word) chain new_file position tail_block tail_slot word =
     entries_are_writes words chain file new_file position tail_block tail_slot word (stands_clear words taken table position tail_block tail_slot first_clear chain file runs) at room entry in
-    let takes : (block : ℕ) → is_taken (set words (tail_block * words_in (shape_of words) + tail_slot) word) (shape_of words) chain block ≡ (is_taken words (shape_of words) chain block || is_in (direct_meaning word).blocks block) =
+    let takes : (block : ℕ) → is_taken (set words (tail_block * words_in (shape_of words) + tail_slot) word) (shape_of words) chain block ≡ (is_taken words (shape_of words) chain block || is_listed (direct_meaning word).blocks block) =
     taken_entry words (set words (tail_block * words_in (shape_of words) + tail_slot) word) (shape_of words) chain (direct_meaning word) refl is.entries in
     record {
       stands = is.stands.stands;
@@ -84,12 +84,12 @@ entry_step words taken new_taken table new_table position tail_block tail_slot f
         bitmap = record {
           room = subst (λ (n : ℕ). total (shape_of words) ≤ 64 * n) (sym same_bits) runs.fits.bitmap.room;
           bits = λ block inside.
-              bits block ∙ ap (λ (n : ℕ). if is_in (direct_meaning word).blocks block then 1 else n) (runs.fits.bitmap.bits block inside)
-              ∙ both_bits (is_taken words (shape_of words) chain block) (is_in (direct_meaning word).blocks block) ∙ ap (λ (b : Bool). if b then 1 else 0) (sym (takes block));
+              bits block ∙ ap (λ (n : ℕ). if is_listed (direct_meaning word).blocks block then 1 else n) (runs.fits.bitmap.bits block inside)
+              ∙ both_bits (is_taken words (shape_of words) chain block) (is_listed (direct_meaning word).blocks block) ∙ ap (λ (b : Bool). if b then 1 else 0) (sym (takes block));
         };
         map = record { each = λ virt. maps.each virt ∙ ap (λ (l : List Meaning). map_of l virt) (sym is.entries) };
         size = size;
-        low = λ block some before. takes block ∙ either (is_taken words (shape_of words) chain block) (is_in (direct_meaning word).blocks block) (low block some before);
+        low = λ block some before. takes block ∙ either (is_taken words (shape_of words) chain block) (is_listed (direct_meaning word).blocks block) (low block some before);
       };
     }
   where
@@ -106,10 +106,10 @@ entry_step words taken new_taken table new_table position tail_block tail_slot f
 -- a block is taken after the log grew where it was, or where it is the new one
 pub taken_block : (old new : List ℕ) (shape : Shape) (chain : List ℕ) (next : ℕ) → entries_of new shape (chain ++ next ∷ []) ≡ entries_of old shape chain → (block : ℕ) → is_taken new shape (chain ++ next ∷ []) block ≡ (is_taken old shape chain block || next == block)
 taken_block old new shape chain next same block =
-    ap (λ (l : List Meaning). block == 0 || is_in ((chain ++ next ∷ []) ++ all_names l) block) same
+    ap (λ (l : List Meaning). block == 0 || is_listed ((chain ++ next ∷ []) ++ all_names l) block) same
     ∙ ap (λ (b : Bool). block == 0 || b) (list_any-append (λ (n : ℕ). n == block) (chain ++ next ∷ []) (all_names (entries_of old shape chain))
-    ∙ ap (λ (b : Bool). b || is_in (all_names (entries_of old shape chain)) block) (list_any-append (λ (n : ℕ). n == block) chain (next ∷ [])))
-    ∙ regroup (block == 0) (is_in chain block) (next == block) (is_in (all_names (entries_of old shape chain)) block)
+    ∙ ap (λ (b : Bool). b || is_listed (all_names (entries_of old shape chain)) block) (list_any-append (λ (n : ℕ). n == block) chain (next ∷ [])))
+    ∙ regroup (block == 0) (is_listed chain block) (next == block) (is_listed (all_names (entries_of old shape chain)) block)
     ∙ ap (λ (b : Bool). (block == 0 || b) || next == block) (sym (list_any-append (λ (n : ℕ). n == block) chain (all_names (entries_of old shape chain))))
   where
     regroup : (a b c d : Bool) → (a || ((b || (c || false)) || d)) ≡ ((a || (b || d)) || c)
@@ -180,16 +180,16 @@ store_names shape words new taken table position tail_block tail_slot first_clea
 
 pub entry_put : (shape : Shape) (words taken new_taken : List ℕ) (table new_table : FileMap) (position tail_block tail_slot first_clear new_clear : ℕ) (chain file new_file : List ℕ) (word : ℕ) → Runs shape words taken table position tail_block tail_slot first_clear chain file →
     tail_slot ≢ words_in shape → position + 1 < 2 ^ 40 → IsEntryOf words shape chain file new_file word →
-    length new_taken ≡ length taken → ((block : ℕ) → bit_of new_taken block ≡ (if is_in (direct_meaning word).blocks block then 1 else bit_of taken block)) →
+    length new_taken ≡ length taken → ((block : ℕ) → bit_of new_taken block ≡ (if is_listed (direct_meaning word).blocks block then 1 else bit_of taken block)) →
     HasMap new_table (entries_of words shape chain ++ direct_meaning word ∷ []) → new_table.size ≡ length new_file →
-    ((block : ℕ) → 1 ≤ block → block < new_clear → (is_taken words shape chain block ≡ true) ⊎ (is_in (direct_meaning word).blocks block ≡ true)) →
+    ((block : ℕ) → 1 ≤ block → block < new_clear → (is_taken words shape chain block ≡ true) ⊎ (is_listed (direct_meaning word).blocks block ≡ true)) →
     Runs shape (set words (tail_block * words_in shape + tail_slot) word) new_taken new_table (position + 1) tail_block (tail_slot + 1) new_clear chain new_file
 entry_put shape words taken new_taken table new_table position tail_block tail_slot first_clear new_clear chain file new_file word runs =
     subst (λ (s : Shape). Runs s words taken table position tail_block tail_slot first_clear chain file →
     tail_slot ≢ words_in s → position + 1 < 2 ^ 40 → IsEntryOf words s chain file new_file word →
-    length new_taken ≡ length taken → ((block : ℕ) → bit_of new_taken block ≡ (if is_in (direct_meaning word).blocks block then 1 else bit_of taken block)) →
+    length new_taken ≡ length taken → ((block : ℕ) → bit_of new_taken block ≡ (if is_listed (direct_meaning word).blocks block then 1 else bit_of taken block)) →
     HasMap new_table (entries_of words s chain ++ direct_meaning word ∷ []) → new_table.size ≡ length new_file →
-    ((block : ℕ) → 1 ≤ block → block < new_clear → (is_taken words s chain block ≡ true) ⊎ (is_in (direct_meaning word).blocks block ≡ true)) →
+    ((block : ℕ) → 1 ≤ block → block < new_clear → (is_taken words s chain block ≡ true) ⊎ (is_listed (direct_meaning word).blocks block ≡ true)) →
     Runs s (set words (tail_block * words_in s + tail_slot) word) new_taken new_table (position + 1) tail_block (tail_slot + 1) new_clear chain new_file) runs.fits.same_shape
     (entry_step words taken new_taken table new_table position tail_block tail_slot first_clear new_clear chain file new_file word) runs
 

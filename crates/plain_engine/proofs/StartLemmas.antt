@@ -11,7 +11,7 @@ use Rattle.log_image.specs.Blocks.{slots_of, entry_words, is_closed}
 use Rattle.log_image.specs.Chains.{IsChain}
 use Rattle.log_image.specs.Stands.{StandsBy}
 use Rattle.log_image.specs.Tails.{AtSlot, AtLink, last_block, tail_in, tail_of}
-use Rattle.log_image.specs.MayStart.{MayStart}
+use Rattle.log_image.specs.KeepsStart.{KeepsStart}
 use Rattle.log_image.proofs.ImageLemmas.{length_range}
 use Rattle.log_image.proofs.HeaderSteps.{long_words}
 use Rattle.log_image.proofs.Clearing.{open_inside}
@@ -60,7 +60,7 @@ chain_tail words (first ∷ rest) file position stands =
 
 -- what is kept of a start whose chain was read
 pub start_kept : (g : Geometry) (words taken : List ℕ) (generation position size : ℕ) (read : ChainRead) → ((chain : List ℕ) → IsChain words (shape_of words) chain → IsReadOf words (shape_of words) chain read) →
-    MayStart g words taken generation position size → RunsOnSome (shape_by g) words taken read.table position read.tail_block read.tail_slot 1
+    KeepsStart g words taken generation position size → RunsOnSome (shape_by g) words taken read.table position read.tail_block read.tail_slot 1
 start_kept g words taken generation position size read reads kept =
     let is : IsReadOf words (shape_of words) kept.chain read = reads kept.chain kept.stands.stands.is_chain in
     let fits : Fits (shape_of words) words taken read.table read.tail_block read.tail_slot 1 kept.chain kept.file = record {
@@ -84,8 +84,8 @@ start_kept g words taken generation position size read reads kept =
     }
 
 -- a start stands for some file, and has its geometry
-pub start_stands : (g : Geometry) (words taken : List ℕ) (generation position size : ℕ) → ∥ MayStart g words taken generation position size ∥₁ → StandForSome words
-start_stands g words taken generation position size kept = ∥∥₁_map kept (λ (k : MayStart g words taken generation position size). (k.chain, k.file, position, k.stands))
+pub start_stands : (g : Geometry) (words taken : List ℕ) (generation position size : ℕ) → ∥ KeepsStart g words taken generation position size ∥₁ → StandForSome words
+start_stands g words taken generation position size kept = ∥∥₁_map kept (λ (k : KeepsStart g words taken generation position size). (k.chain, k.file, position, k.stands))
 
-pub start_shape : (g : Geometry) (words taken : List ℕ) (generation position size : ℕ) → ∥ MayStart g words taken generation position size ∥₁ → HasShape g (shape_of words).data_blocks (shape_of words).log_blocks (shape_of words).block_bytes
+pub start_shape : (g : Geometry) (words taken : List ℕ) (generation position size : ℕ) → ∥ KeepsStart g words taken generation position size ∥₁ → HasShape g (shape_of words).data_blocks (shape_of words).log_blocks (shape_of words).block_bytes
 start_shape g words taken generation position size kept = ∥∥₁_elim kept (hlevel ℕ_set) (λ k. k.same_geometry)

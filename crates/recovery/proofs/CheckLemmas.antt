@@ -15,7 +15,7 @@ use Rattle.opening_rules.specs.declared.refusals.BadImage.TheVariants.{BadBase, 
 use Rattle.opening_rules.proofs.Firsts.{skip, pass_over, found_in}
 use Rattle.recovery.specs.declared.reading.Reading.{Reading}
 use Rattle.log_image.specs.Taken.{HasBits}
-use Rattle.recovery.specs.Readings.{HasRead}
+use Rattle.recovery.specs.Readings.{ReadsUpTo}
 use Rattle.recovery.specs.Slots.{HasEntries}
 use Rattle.recovery.specs.BlockAnswers.{ChecksWords, FollowsLink, ChecksBlock}
 use Rattle.recovery.specs.ReadBlocks.{ReadsBlock}
@@ -45,7 +45,7 @@ bits_moved shape taken before named block has = record {
         swap false false false = refl
 
 -- before the slots of a block, whose bit is set
-pub begins : (shape : Shape) (reading : Reading) (place : Place) (block : ℕ) (taken : List ℕ) → HasRead shape reading place → is_in_log shape block ≡ true →
+pub begins : (shape : Shape) (reading : Reading) (place : Place) (block : ℕ) (taken : List ℕ) → ReadsUpTo shape reading place → is_in_log shape block ≡ true →
     ((blocks : List ℕ) → block < total shape → HasBits shape reading.taken.items blocks → HasBits shape taken (blocks ++ block ∷ [])) →
     HasEntries shape reading.table taken (place.before ++ block ∷ []) place.size place.entries
 begins shape reading place block taken agrees far sets = record {
@@ -102,7 +102,7 @@ not_first [] block = refl
 not_first (other ∷ blocks) block = refl
 
 agrees_after : (words : List ℕ) (shape : Shape) (place : Place) (number : ℕ) (block : List ℕ) (reading : Reading) → Reached words shape place number block reading →
-    (chain : Vec ℕ) → chain.items ≡ place.before ++ number ∷ [] → HasRead shape (record reading { chain = chain }) (place_after words shape place number block)
+    (chain : Vec ℕ) → chain.items ≡ place.before ++ number ∷ [] → ReadsUpTo shape (record reading { chain = chain }) (place_after words shape place number block)
 agrees_after words shape place number block reading is chain same = record {
   chain = same;
   in_logs = is.in_logs;
@@ -127,11 +127,11 @@ pub link_checked : (result : Result (Option ℕ) BadImage) (words : List ℕ) (s
 link_checked (Err why) words shape place number block reading same due clean is follows = refused_as words shape place number block why reading same (after_slots words shape place number block due clean ∙ follows)
 link_checked (Ok None) words shape place number block reading same due clean is follows =
     subst (λ (l : List ℕ). (first (block_checks words shape place number l) ≡ None) × FollowsLink (Ok None) shape (place.before ++ number ∷ []) number l
-    × ((chain : Vec ℕ) → chain.items ≡ place.before ++ number ∷ [] → HasRead shape (record reading { chain = chain }) (place_after words shape place number l))) same
+    × ((chain : Vec ℕ) → chain.items ≡ place.before ++ number ∷ [] → ReadsUpTo shape (record reading { chain = chain }) (place_after words shape place number l))) same
     (after_slots words shape place number block due clean ∙ skip (is_bad_link shape (place.before ++ number ∷ []) block) (BadLink number (link_of block)) [] follows.0, follows, agrees_after words shape place number block reading is)
 link_checked (Ok (Some next)) words shape place number block reading same due clean is follows =
     subst (λ (l : List ℕ). (first (block_checks words shape place number l) ≡ None) × FollowsLink (Ok (Some next)) shape (place.before ++ number ∷ []) number l
-    × ((chain : Vec ℕ) → chain.items ≡ place.before ++ number ∷ [] → HasRead shape (record reading { chain = chain }) (place_after words shape place number l))) same
+    × ((chain : Vec ℕ) → chain.items ≡ place.before ++ number ∷ [] → ReadsUpTo shape (record reading { chain = chain }) (place_after words shape place number l))) same
     (after_slots words shape place number block due clean ∙ skip (is_bad_link shape (place.before ++ number ∷ []) block) (BadLink number (link_of block)) [] follows.0, follows, agrees_after words shape place number block reading is)
 
 -- with its number among the reading's, the block is read

@@ -15,7 +15,7 @@ use Rattle.log_image.specs.Blocks.{slots_of, entry_words, is_closed}
 use Rattle.log_image.specs.Tails.{Tail as ImageTail, AtSlot, AtLink, last_block, tail_in, tail_of, IsClear, IsCleared}
 use Rattle.log_image.specs.Taken.{HasTaken, named_blocks}
 use Rattle.log_image.specs.Stands.{StandsBy}
-use Rattle.log_image.specs.MayStart.{MayStart}
+use Rattle.log_image.specs.KeepsStart.{KeepsStart}
 use Rattle.log_image.specs.Recovered.{Recovered}
 use Rattle.log_image.specs.declared.starts.Start.{Start}
 use Rattle.log_image.proofs.ClearedImages.{clearing_keeps}
@@ -115,7 +115,7 @@ taken_after old new shape after chain taken has same names =
 
 -- what a run may start from
 keeps_by : (geometry : Geometry) (old new taken : List ℕ) (generation position size : ℕ) (tail : Tail) → IsCleared (shape_by geometry) (as_tail tail) old new →
-    IsOpened geometry old taken generation position size tail → MayStart geometry new taken generation position size
+    IsOpened geometry old taken generation position size tail → KeepsStart geometry new taken generation position size
 keeps_by geometry old new taken generation position size tail cleared holds =
     let chain : List ℕ = chain_of old holds.rest in
     let stays = clearing_keeps old new chain holds.file position holds.stands (cleared_by geometry old new taken generation position size tail holds cleared) in
@@ -131,7 +131,7 @@ keeps_by geometry old new taken generation position size tail cleared holds =
     }
 
 pub kept_after : (geometry : Geometry) (old new taken : List ℕ) (generation position size : ℕ) (tail : Tail) → IsCleared (shape_by geometry) (as_tail tail) old new →
-    ∥ IsOpened geometry old taken generation position size tail ∥₁ → ∥ MayStart geometry new taken generation position size ∥₁
+    ∥ IsOpened geometry old taken generation position size tail ∥₁ → ∥ KeepsStart geometry new taken generation position size ∥₁
 kept_after geometry old new taken generation position size tail cleared kept = ∥∥₁_map kept (keeps_by geometry old new taken generation position size tail cleared)
 
 -- what is recovered by a chain of the words

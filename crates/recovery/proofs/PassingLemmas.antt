@@ -20,7 +20,7 @@ use Rattle.opening_rules.specs.declared.refusals.BadImage.TheVariants.{BadSlack}
 use Rattle.recovery.specs.declared.refusals.OpenRefusal.{OpenRefusal}
 use Rattle.recovery.specs.declared.refusals.OpenRefusal.TheVariants.{Bad, NoMemory}
 use Rattle.recovery.specs.declared.reading.Reading.{Reading}
-use Rattle.recovery.specs.Readings.{HasRead}
+use Rattle.recovery.specs.Readings.{ReadsUpTo}
 use Rattle.recovery.specs.WalkAnswers.{EndsWalk, WalkAnswers}
 use Rattle.recovery.specs.Slacks.{MapsInside}
 use Rattle.recovery.specs.Passing.{PassesConditions, PassAnswers}
@@ -63,7 +63,7 @@ mapped_named p (entry ∷ entries) virt block all found =
     ]
 
 -- the table of a reading maps to blocks of the image
-pub maps_inside : (shape : Shape) (reading : Reading) (place : Place) → HasRead shape reading place → MapsInside shape reading.table
+pub maps_inside : (shape : Shape) (reading : Reading) (place : Place) → ReadsUpTo shape reading place → MapsInside shape reading.table
 maps_inside shape reading place agrees = record { each = λ virt block found. inside block (mapped_named (is_in_data shape) place.entries virt block agrees.in_data (sym (agrees.map.each virt) ∙ found)) }
   where
     inside : (block : ℕ) → is_in_data shape block ≡ true → block < total shape

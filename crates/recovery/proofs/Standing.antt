@@ -12,7 +12,7 @@ use Rattle.opening_rules.specs.declared.refusals.BadImage.{BadImage}
 use Rattle.recovery.specs.declared.refusals.OpenRefusal.{OpenRefusal}
 use Rattle.recovery.specs.declared.refusals.OpenRefusal.TheVariants.{Bad, NoMemory}
 use Rattle.recovery.specs.declared.reading.Reading.{Reading}
-use Rattle.recovery.specs.Readings.{HasRead}
+use Rattle.recovery.specs.Readings.{ReadsUpTo}
 use Rattle.recovery.specs.ReadBlocks.{ReadsBlock}
 use Rattle.recovery.specs.WalkAnswers.{EndsWalk, WalkAnswers}
 
@@ -69,14 +69,14 @@ unseen_falls blocks block (suc count) below fresh = rw (is_among-more count bloc
 -- is what the whole walk gives
 pub record Standing (words : List ℕ) (shape : Shape) (reading : Reading) (block : ℕ) : Type 0 where
   pub place : Place
-  pub agrees : HasRead shape reading place
+  pub agrees : ReadsUpTo shape reading place
   pub inside : is_in_log shape block ≡ true
   pub fresh : is_among block place.before ≡ false
   pub refuses : (rest : List ℕ) (why : BadImage) → RefusesFrom words shape place block rest why → WalkRefuses words shape why
   pub passes : (rest : List ℕ) → PassesFrom words shape place block rest → (whole : List ℕ) × Passes words shape whole × (end_place words shape whole ≡ end_from words shape place block rest)
 
 -- before the first block
-pub stands_first : (words : List ℕ) (shape : Shape) (reading : Reading) → HasRead shape reading start → is_in_log shape (head_block words) ≡ true → Standing words shape reading (head_block words)
+pub stands_first : (words : List ℕ) (shape : Shape) (reading : Reading) → ReadsUpTo shape reading start → is_in_log shape (head_block words) ≡ true → Standing words shape reading (head_block words)
 stands_first words shape reading agrees inside = record {
   place = start;
   agrees = agrees;
@@ -122,5 +122,5 @@ pub stands_last : (words : List ℕ) (shape : Shape) (reading new : Reading) (bl
     ReadsBlock (Ok None) words shape stands.place block new → (rest : List ℕ) × EndsWalk words shape new rest
 stands_last words shape reading new block stands reads =
     let all = stands.passes [] (reads.0, reads.1) in
-    let agrees : HasRead shape new (end_place words shape all.0) = subst (λ (p : Place). HasRead shape new p) (sym all.2) reads.2 in
+    let agrees : ReadsUpTo shape new (end_place words shape all.0) = subst (λ (p : Place). ReadsUpTo shape new p) (sym all.2) reads.2 in
     (all.0, record { passes = all.1; agrees = agrees; chain = agrees.chain ∙ end_before words shape start (head_block words) all.0 })

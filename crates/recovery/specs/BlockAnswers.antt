@@ -11,7 +11,7 @@ use Rattle.opening_rules.specs.declared.refusals.BadImage.TheVariants.{BadBase, 
 use Rattle.std.specs.Global.{Vec}
 use Rattle.recovery.specs.declared.reading.Reading.{Reading}
 use Rattle.recovery.specs.declared.blocks.Ended.{Ended}
-use Rattle.recovery.specs.Readings.{HasRead}
+use Rattle.recovery.specs.Readings.{ReadsUpTo}
 use Rattle.recovery.specs.Slots.{HasEntries}
 
 -- of the second and the third word of the block of this number and these words: the first that is not due; or both are
@@ -44,4 +44,4 @@ ChecksBlock (Err why) words shape place number reading = first (block_checks wor
 ChecksBlock (Ok next) words shape place number reading =
     (first (block_checks words shape place number (block_words words shape number)) ≡ None)
     × FollowsLink (Ok next) shape (place.before ++ number ∷ []) number (block_words words shape number)
-    × ((chain : Vec ℕ) → chain.items ≡ place.before ++ number ∷ [] → HasRead shape (record reading { chain = chain }) (place_after words shape place number (block_words words shape number)))
+    × ((chain : Vec ℕ) → chain.items ≡ place.before ++ number ∷ [] → ReadsUpTo shape (record reading { chain = chain }) (place_after words shape place number (block_words words shape number)))

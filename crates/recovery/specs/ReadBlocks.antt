@@ -8,7 +8,7 @@ use Rattle.opening_rules.specs.BlockChecks.{Place, block_checks, place_after}
 use Rattle.recovery.specs.declared.refusals.OpenRefusal.{OpenRefusal}
 use Rattle.recovery.specs.declared.refusals.OpenRefusal.TheVariants.{Bad, NoMemory}
 use Rattle.recovery.specs.declared.reading.Reading.{Reading}
-use Rattle.recovery.specs.Readings.{HasRead}
+use Rattle.recovery.specs.Readings.{ReadsUpTo}
 
 -- from a place, at a block: the refusal of the first condition that holds of it; or none holds, the reading takes it in, and the
 -- walk ends or goes on to a block of the log or spare area that was not passed
@@ -18,11 +18,11 @@ ReadsBlock (Err NoMemory) words shape place block reading = Unit {0}
 ReadsBlock (Ok None) words shape place block reading =
     (first (block_checks words shape place block (block_words words shape block)) ≡ None)
     × (leads_on (block_words words shape block) ≡ false)
-    × HasRead shape reading (place_after words shape place block (block_words words shape block))
+    × ReadsUpTo shape reading (place_after words shape place block (block_words words shape block))
 ReadsBlock (Ok (Some next)) words shape place block reading =
     (first (block_checks words shape place block (block_words words shape block)) ≡ None)
     × (leads_on (block_words words shape block) ≡ true)
     × (link_of (block_words words shape block) ≡ next)
     × (is_in_log shape next ≡ true)
     × (is_among next (place.before ++ block ∷ []) ≡ false)
-    × HasRead shape reading (place_after words shape place block (block_words words shape block))
+    × ReadsUpTo shape reading (place_after words shape place block (block_words words shape block))

@@ -10,7 +10,7 @@ use Rattle.recovery.specs.declared.reading.Reading.{Reading}
 
 -- the reading is what the blocks passed come to; those are of the log or spare area, and the ones that their entries name of the data area.
 -- Before the first block the size is 0
-pub record HasRead (shape : Shape) (reading : Reading) (place : Place) : Type 0 where
+pub record ReadsUpTo (shape : Shape) (reading : Reading) (place : Place) : Type 0 where
   pub chain : reading.chain.items ≡ place.before
   pub in_logs : reading.in_logs ≡ place.in_logs
   pub position : reading.position ≡ place.position

@@ -6,7 +6,7 @@ ghost use Rattle.log_image.specs.Image.{Shape, total, words_in, is_in_log, shape
 ghost use Rattle.log_image.specs.Blocks.{kind_of, is_snapshot as is_snapshot_block, base_of, entry_count, file_size, slots_of, is_closed, leads_on as is_followed};
 ghost use Rattle.opening_rules.specs.BlockChecks.{Place, is_first, is_bad_second as is_second_not_due, is_bad_third as is_third_not_due, place_after};
 ghost use Rattle.opening_rules.specs.SlotChecks.{is_among};
-ghost use Rattle.recovery.specs.Readings.{HasRead};
+ghost use Rattle.recovery.specs.Readings.{ReadsUpTo};
 ghost use Rattle.recovery.specs.Names.{HasNamed};
 ghost use Rattle.recovery.specs.Slots.{HasEntries};
 ghost use Rattle.recovery.specs.BlockAnswers.{ChecksWords, ReadsSlots, FollowsLink, ChecksBlock};
@@ -95,7 +95,7 @@ fn check_words(
     own: &[u64],
 ) -> Result<(), BadImage>
     requires { length own.now ≡ words_in (shape_by geometry) }
-    ensures { (place : Place) → HasRead (shape_by geometry) reading.now place → ChecksWords result (shape_by geometry) place block own.now }
+    ensures { (place : Place) → ReadsUpTo (shape_by geometry) reading.now place → ChecksWords result (shape_by geometry) place block own.now }
 {
     let first = reading.chain.is_empty();
     if is_bad_second(reading.in_logs, first, reading.position, own) {
@@ -204,7 +204,7 @@ fn check_block(
     requires whole { length words.now ≡ total (shape_by geometry) * words_in (shape_by geometry) }
     requires inside { is_in_log (shape_by geometry) block ≡ true }
     ensures chain { reading.new.chain ≡ reading.old.chain }
-    ensures answer { (place : Place) → HasRead (shape_by geometry) reading.old place → ChecksBlock result words.now (shape_by geometry) place block reading.new }
+    ensures answer { (place : Place) → ReadsUpTo (shape_by geometry) reading.old place → ChecksBlock result words.now (shape_by geometry) place block reading.new }
 {
     let own = block_at(words, geometry, u64::from(block));
     check_words(reading, geometry, block, own)?;
@@ -233,7 +233,7 @@ pub fn read_block(
 ) -> Result<Option<u16>, OpenRefusal>
     requires whole { length words.now ≡ total (shape_by geometry) * words_in (shape_by geometry) }
     requires inside { is_in_log (shape_by geometry) block ≡ true }
-    ensures answer { (place : Place) → HasRead (shape_by geometry) reading.old place → is_among block place.before ≡ false →
+    ensures answer { (place : Place) → ReadsUpTo (shape_by geometry) reading.old place → is_among block place.before ≡ false →
         ReadsBlock result words.now (shape_by geometry) place block reading.new }
 {
     match check_block(reading, words, geometry, block) {

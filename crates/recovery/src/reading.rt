@@ -24,11 +24,11 @@ impl Reading {
     ghost use Rattle.log_image.specs.Image.{total, shape_by};
     ghost use Rattle.opening_rules.specs.BlockChecks.{start};
     ghost use Rattle.log_image.specs.Taken.{HasBits};
-    ghost use Rattle.recovery.specs.Readings.{HasRead};
+    ghost use Rattle.recovery.specs.Readings.{ReadsUpTo};
 
     /// A reading of no block, with an empty map. Only want of memory refuses it.
     pub fn new(alloc: Global, geometry: Geometry) -> Result<Reading, AllocError>
-        ensures { IfOk result (λ reading. HasRead (shape_by geometry) reading start) }
+        ensures { IfOk result (λ reading. ReadsUpTo (shape_by geometry) reading start) }
     {
         let taken = Reading::only_the_header(alloc, geometry)?;
         let table = Table::new(alloc, geometry.block_bytes())?;

@@ -6,13 +6,13 @@ use Rattle.log_image.specs.Image.{Shape}
 use Rattle.log_image.specs.Header.{shape_of}
 use Rattle.log_image.specs.Positions.{position_of}
 use Rattle.log_image.specs.Stands.{StandsBy}
-use Rattle.log_image.specs.MayStart.{MayStart}
+use Rattle.log_image.specs.KeepsStart.{KeepsStart}
 use Rattle.log_core.specs.Origin.{first_position, first_generation}
 use Rattle.log_core.specs.Sizes.{HasSeats}
 use Rattle.log_core.specs.Starts.{IsStart, origin_of}
 use Rattle.log_core.proofs.starts.StartFacts.{same_shape}
 
-module _ (g : Geometry) (words taken : List ℕ) (generation position size seats made : ℕ) (k : MayStart g words taken generation position size) where
+module _ (g : Geometry) (words taken : List ℕ) (generation position size seats made : ℕ) (k : KeepsStart g words taken generation position size) where
   pub same_position : first_position (origin_of g seats made words taken k.chain k.file) ≡ position
   same_position = ap (λ (s : Shape). position_of words s k.chain) (sym (same_shape g (shape_of words) k.same_geometry)) ∙ k.stands.stands.ends_at
 

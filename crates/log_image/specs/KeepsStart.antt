@@ -9,7 +9,7 @@ use Rattle.log_image.specs.Taken.{HasTaken}
 
 -- the words stand for a file of this size at this position, the geometry and the generation are those of the words, nothing
 -- stands after the tail in its block, and the bitmap has the blocks that the chain names
-pub record MayStart (geometry : Geometry) (words taken : List ℕ) (generation position size : ℕ) : Type 0 where
+pub record KeepsStart (geometry : Geometry) (words taken : List ℕ) (generation position size : ℕ) : Type 0 where
   pub chain : List ℕ
   pub file : List ℕ
   pub stands : StandsBy words chain file position
