@@ -27,8 +27,9 @@ KeepsPastHeader old new = (place : ℕ) → 4 ≤ place → place < words_in (sh
 
 -- from words that stand for this file at this position by this chain: the text is the report of the jobs' calls, each once, in one
 -- legal history that keeps their order; the words after it stand for the history's last file and position, in the same shape and
--- generation, with nothing after the tail and block 0 past the header as before; and the calls are served in turn, so that one says that there is no space exactly where the run's own image has none,
--- and the blocks that its chain names are those before it, with the least clear ones that the call writes
+-- generation, with nothing after the tail and block 0 past the header as before; and the calls are served in turn, so that one says
+-- that there is no space exactly where the run's own image has none, and the blocks that its chain names are those before it, with the
+-- least clear ones that the call writes
 pub record IsRunOf (words chain file : List ℕ) (position : ℕ) (jobs : List Job) (text after : List ℕ) : Type 0 where
   pub calls : List Call
   pub of_trace : OfTrace calls jobs
