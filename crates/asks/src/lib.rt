@@ -1,6 +1,6 @@
 //! Decides what one step on a shared word is: which word it is on, what the word becomes, and what is answered.
 #![tactic(auto)]
 
-pub mod ask;
+mod ask;
 
 pub use ask::{Ask, Place};

@@ -1,7 +1,7 @@
 //! Decides what one step of a seat makes of the image that several seats share, and what a crash leaves of it.
 #![tactic(auto)]
 
-pub mod world;
+mod world;
 
 pub use persistence::Choice;
 pub use world::World;

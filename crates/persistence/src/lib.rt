@@ -1,9 +1,9 @@
 //! Decides which values a crash may leave in the words of an image.
 #![tactic(auto)]
 
-pub mod cells;
+mod cells;
 pub mod laws;
-pub mod survivors;
+mod survivors;
 #[cfg(test)]
 mod tests;
 

@@ -1,15 +1,15 @@
 //! How a seat takes and gives up its pin of a generation, and which pin of all seats keeps the blocks of one.
 #![tactic(auto)]
 
-pub mod alone;
-pub mod driven;
+mod alone;
+mod driven;
 pub mod laws;
-pub mod pin;
-pub mod scan;
-pub mod steps;
+mod pin;
+mod scan;
+mod steps;
 #[cfg(test)]
 mod tests;
-pub mod unpin;
+mod unpin;
 
 pub use alone::{pin_alone, scan_alone, unpin_alone};
 pub use driven::{pin_over, scan_over};

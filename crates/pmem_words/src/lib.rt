@@ -1,21 +1,21 @@
 //! Decides what a seat keeps, and how a call on shared words is made of steps: a machine asks, and is told one answer an ask.
 #![tactic(auto)]
 
-pub mod keeps;
+mod keeps;
 mod leaving;
 mod lists;
-pub mod machine;
-pub mod memory;
-pub mod owned;
+mod machine;
+mod memory;
+mod owned;
 #[cfg(test)]
 mod owned_tests;
-pub mod plain;
-pub mod seat;
+mod plain;
+mod seat;
 #[cfg(test)]
 mod seat_tests;
 #[cfg(test)]
 mod tests;
-pub mod written;
+mod written;
 
 pub use asks::{Ask, Place};
 pub use keeps::{GiveFrom, KeptWord, Task};

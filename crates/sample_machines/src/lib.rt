@@ -1,11 +1,11 @@
 //! Small machines that show how a machine is written, composed and proved over a plain memory. Nothing else stands on them.
 #![tactic(auto)]
 
-pub mod alone;
-pub mod carry;
-pub mod lay;
-pub mod offer;
-pub mod post;
+mod alone;
+mod carry;
+mod lay;
+mod offer;
+mod post;
 #[cfg(test)]
 mod tests;
 
