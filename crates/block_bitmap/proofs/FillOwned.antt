@@ -2,30 +2,30 @@
 use Rattle.std.proofs.Common.{ℕ, zero, suc, ◌≡◌, ◌≢◌, ◌<◌, ◌==◌, ◌&&◌, ◌||◌, not, nat_lt, Bool, true, false, if◌then◌else◌, List, [], ◌∷◌, ◌++◌, length, filter, slice_set, refl, sym, ap, ◌∙◌, arith}
 use Rattle.std.specs.Prelude.{Option, Some, None}
 use Rattle.std.proofs.lemmas.Bool.{eqb-true, eq-eqb, ne_eqb, and_parts, or_left, or_right, false≢true, not-true}
-use Rattle.log_image.specs.Chains.{all_different}
+use Rattle.log_image.specs.Chains.{all_different, is_listed}
 use Rattle.pmem_words.specs.Owned.{owned_at}
 use Rattle.pmem_words.specs.declared.owned.OwnedBlock.{OwnedBlock}
 use Rattle.log_entry.specs.Fields.{field}
 use Rattle.log_entry.specs.declared.layouts.TheConstants.{HEAD_GENERATION}
-use Rattle.log_core.specs.Entries.{has, head_place}
+use Rattle.log_core.specs.Entries.{head_place}
 use Rattle.log_core.specs.Views.{MarkedWord, Stored}
 use Rattle.log_core.specs.Works.{stored_at}
 use Rattle.log_core.specs.Needs.{owned_numbers}
 use Rattle.log_core.specs.Steps.{owned_with, stored_with, stored_marked, is_head_marked}
 
 -- the block at a place is one of them
-pub has_at : (owned : List OwnedBlock) (p : ℕ) → p < length owned → has (owned_numbers owned) (owned_at owned p).block ≡ true
+pub has_at : (owned : List OwnedBlock) (p : ℕ) → p < length owned → is_listed (owned_numbers owned) (owned_at owned p).block ≡ true
 has_at [] p inside = absurd (omega (arith, inside))
-has_at (o ∷ owned) zero inside = or_left (o.block == o.block) (has (owned_numbers owned) o.block) (eq-eqb o.block o.block refl)
-has_at (o ∷ owned) (suc p) inside = or_right (o.block == (owned_at owned p).block) (has (owned_numbers owned) (owned_at owned p).block) (has_at owned p (omega (arith, inside)))
+has_at (o ∷ owned) zero inside = or_left (o.block == o.block) (is_listed (owned_numbers owned) o.block) (eq-eqb o.block o.block refl)
+has_at (o ∷ owned) (suc p) inside = or_right (o.block == (owned_at owned p).block) (is_listed (owned_numbers owned) (owned_at owned p).block) (has_at owned p (omega (arith, inside)))
 
 module _ (f : OwnedBlock → OwnedBlock) where
   -- no block of the number is there
-  none_with : (block : ℕ) (owned : List OwnedBlock) → has (owned_numbers owned) block ≡ false → owned_with block f owned ≡ owned
+  none_with : (block : ℕ) (owned : List OwnedBlock) → is_listed (owned_numbers owned) block ≡ false → owned_with block f owned ≡ owned
   none_with block [] none = refl
   none_with block (o ∷ owned) none = by (o.block == block) none (λ rest. none_with block owned rest)
     where
-      by : (here : Bool) → (here || has (owned_numbers owned) block) ≡ false → (has (owned_numbers owned) block ≡ false → owned_with block f owned ≡ owned) → (if here then f o else o) ∷ owned_with block f owned ≡ o ∷ owned
+      by : (here : Bool) → (here || is_listed (owned_numbers owned) block) ≡ false → (is_listed (owned_numbers owned) block ≡ false → owned_with block f owned ≡ owned) → (if here then f o else o) ∷ owned_with block f owned ≡ o ∷ owned
       by true e rest = cc
       by false e rest = ap (λ (list : List OwnedBlock). o ∷ list) (rest e)
 
@@ -33,12 +33,12 @@ module _ (f : OwnedBlock → OwnedBlock) where
   pub set_by_number : (owned : List OwnedBlock) (p : ℕ) → p < length owned → all_different (owned_numbers owned) ≡ true → owned_with (owned_at owned p).block f owned ≡ slice_set owned p (f (owned_at owned p))
   set_by_number [] p inside once = absurd (omega (arith, inside))
   set_by_number (o ∷ owned) zero inside once =
-      (let parts = and_parts (not (has (owned_numbers owned) o.block)) (all_different (owned_numbers owned)) once in
-      (λ i. (if eq-eqb o.block o.block refl i then f o else o) ∷ none_with o.block owned (not-true (has (owned_numbers owned) o.block) parts.0) i))
+      (let parts = and_parts (not (is_listed (owned_numbers owned) o.block)) (all_different (owned_numbers owned)) once in
+      (λ i. (if eq-eqb o.block o.block refl i then f o else o) ∷ none_with o.block owned (not-true (is_listed (owned_numbers owned) o.block) parts.0) i))
   set_by_number (o ∷ owned) (suc p) inside once =
-      (let parts = and_parts (not (has (owned_numbers owned) o.block)) (all_different (owned_numbers owned)) once in
+      (let parts = and_parts (not (is_listed (owned_numbers owned) o.block)) (all_different (owned_numbers owned)) once in
       let within : p < length owned = omega (arith, inside) in
-      let apart : o.block ≢ (owned_at owned p).block = (λ same. false≢true (sym (not-true (has (owned_numbers owned) o.block) parts.0) ∙ ap (has (owned_numbers owned)) same ∙ has_at owned p within)) in
+      let apart : o.block ≢ (owned_at owned p).block = (λ same. false≢true (sym (not-true (is_listed (owned_numbers owned) o.block) parts.0) ∙ ap (is_listed (owned_numbers owned)) same ∙ has_at owned p within)) in
       (λ i. (if ne_eqb o.block (owned_at owned p).block apart i then f o else o) ∷ set_by_number owned p within parts.1 i))
 
 -- what is stored at a word, after a store there

@@ -1,11 +1,10 @@
 -- The block that a fill is at, within a core.
 use Rattle.std.proofs.Common.{◌≡◌, ◌≢◌, ◌<◌, ◌≤◌, ◌*◌, ◌/◌, ℕ, true, false, [], length, refl, sym, ap, ◌∙◌, subst, arith}
 use Rattle.std.proofs.Math.Nat.{mul-le-mul_right}
-use Rattle.log_image.specs.Chains.{all_different}
+use Rattle.log_image.specs.Chains.{all_different, is_listed}
 use Rattle.pmem_words.specs.Seats.{Seat, q_of}
 use Rattle.pmem_words.specs.declared.machine.Turn.{Turn}
 use Rattle.pmem_words.specs.declared.machine.Turn.TheVariants.{Go, Done}
-use Rattle.log_core.specs.Entries.{has}
 use Rattle.log_core.specs.Views.{Ghost}
 use Rattle.log_core.specs.Origin.{Origin, Header, OwnedBy}
 use Rattle.log_core.specs.Cores.{Core}
@@ -63,8 +62,8 @@ module _ (first count place left word : ℕ) (s : Seat) (g : Ghost) (here : IsAt
   pub is_of : image_word s place word / words_of s ≡ owned_block_at s place
   is_of = block_of (seat_shape s) (owned_block_at s place) word here.inside
 
-  pub mine : has (owned_numbers s.blocks.owned) (image_word s place word / words_of s) ≡ true
-  mine = ap (has (owned_numbers s.blocks.owned)) is_of ∙ has_at s.blocks.owned place inside
+  pub mine : is_listed (owned_numbers s.blocks.owned) (image_word s place word / words_of s) ≡ true
+  mine = ap (is_listed (owned_numbers s.blocks.owned)) is_of ∙ has_at s.blocks.owned place inside
 
   pub stores : (f : ℕ) → all_different (owned_numbers s.blocks.owned) ≡ true → effect g.marks s (StoresWord (image_word s place word) (content_at s place word)) f ≡ unfilled s place
   stores f once = ap (owning s)

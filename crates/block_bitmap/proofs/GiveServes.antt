@@ -8,7 +8,7 @@ use Rattle.pmem_words.specs.declared.owned.OwnedBlock.{OwnedBlock}
 use Rattle.pmem_words.specs.Seats.{Seat}
 use Rattle.pmem_words.specs.declared.machine.Turn.{Turn}
 use Rattle.pmem_words.specs.declared.machine.Turn.TheVariants.{Go, Done}
-use Rattle.log_core.specs.Entries.{has}
+use Rattle.log_image.specs.Chains.{is_listed}
 use Rattle.log_core.specs.Views.{Ghost, view_of}
 use Rattle.log_core.specs.Origin.{Origin}
 use Rattle.log_core.specs.Cores.{Core}
@@ -29,11 +29,11 @@ use Rattle.block_bitmap.proofs.GivenLemmas.{small_from, word_inside}
 use Rattle.block_bitmap.proofs.GiveOverPlain.{step_emptied, step_ended}
 
 -- the bits given are of owned blocks
-has_numbers : (owned : List OwnedBlock) (block : ℕ) → has_block block owned ≡ has (owned_numbers owned) block
+has_numbers : (owned : List OwnedBlock) (block : ℕ) → has_block block owned ≡ is_listed (owned_numbers owned) block
 has_numbers [] block = refl
 has_numbers (o ∷ owned) block = ap (λ (b : Bool). (o.block == block) || b) (has_numbers owned block)
 
-of_owned : (s : Seat) (block : ℕ) → is_among (next_word s) (next_bits s) block ≡ true → has (owned_numbers s.blocks.owned) block ≡ true
+of_owned : (s : Seat) (block : ℕ) → is_among (next_word s) (next_bits s) block ≡ true → is_listed (owned_numbers s.blocks.owned) block ≡ true
 of_owned s block among =
     sym (has_numbers s.blocks.owned block) ∙ (and_parts (block / 64 == next_word s) (has_block block s.blocks.owned) (sym (among_in (next_word s) block s.blocks.owned) ∙ among)).1
 
@@ -46,14 +46,14 @@ all_of f g (b ∷ blocks) implies = and_from (not (f b) || g b) (list_all (λ (x
     by false is = refl
 
 given_owned : (s : Seat) → is_of_owned s (next_word s) (next_bits s) ≡ true
-given_owned s = all_of (λ block. is_among (next_word s) (next_bits s) block) (λ block. has (owned_numbers s.blocks.owned) block) (range_with_len (next_word s * 64) 64) (λ block among. of_owned s block among)
+given_owned s = all_of (λ block. is_among (next_word s) (next_bits s) block) (λ block. is_listed (owned_numbers s.blocks.owned) block) (range_with_len (next_word s * 64) 64) (λ block among. of_owned s block among)
 
 -- a fact of each number is one of each block
-each_block : (P : ℕ → Type 0) (owned : List OwnedBlock) → ((b : ℕ) → has (owned_numbers owned) b ≡ true → P b) → AllByRecursion (λ (o : OwnedBlock). P o.block) owned
+each_block : (P : ℕ → Type 0) (owned : List OwnedBlock) → ((b : ℕ) → is_listed (owned_numbers owned) b ≡ true → P b) → AllByRecursion (λ (o : OwnedBlock). P o.block) owned
 each_block P [] each = tt
 each_block P (o ∷ owned) each = (
-  each o.block (or_left (o.block == o.block) (has (owned_numbers owned) o.block) (eq-eqb o.block o.block refl)),
-  each_block P owned (λ b h. each b (or_right (o.block == b) (has (owned_numbers owned) b) h)),
+  each o.block (or_left (o.block == o.block) (is_listed (owned_numbers owned) o.block) (eq-eqb o.block o.block refl)),
+  each_block P owned (λ b h. each b (or_right (o.block == b) (is_listed (owned_numbers owned) b) h)),
 )
 
 module _ (o : Origin) (seat : ℕ) (start : Seat) where

@@ -4,7 +4,7 @@ use Rattle.std.proofs.lemmas.List.{length-map}
 use Rattle.log_image.specs.Image.{total}
 use Rattle.pmem_words.specs.declared.owned.OwnedBlock.{OwnedBlock}
 use Rattle.pmem_words.specs.Seats.{Seat}
-use Rattle.log_core.specs.Entries.{has}
+use Rattle.log_image.specs.Chains.{is_listed}
 use Rattle.log_core.specs.Views.{Ghost}
 use Rattle.log_core.specs.Origin.{Origin, shape, OwnedBy, Free}
 use Rattle.log_core.specs.Cores.{Core}
@@ -14,7 +14,7 @@ use Rattle.log_core.specs.Knows.{Knows}
 use Rattle.block_bitmap.proofs.FewBlocks.{few_different}
 
 module _ (o : Origin) (seat : ℕ) (c : Core) (s : Seat) (g : Ghost) (pin began : ℕ) (inv : Invariant o c) (knows : Knows o c seat s g pin began) where
-  pub low_block : (b : ℕ) → has (owned_numbers s.blocks.owned) b ≡ true → b < total (shape o)
+  pub low_block : (b : ℕ) → is_listed (owned_numbers s.blocks.owned) b ≡ true → b < total (shape o)
   low_block b mine = inv.owners.bits.inside b (λ free. (let both : OwnedBy seat ≡ Free = sym (knows.owns.owned.listed b mine) ∙ free in cc))
 
   pub few_owned : length s.blocks.owned ≤ 65535

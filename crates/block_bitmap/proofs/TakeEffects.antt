@@ -10,7 +10,7 @@ use Rattle.log_image.specs.Image.{Shape, total, is_in_data}
 use Rattle.pmem_words.specs.Owned.{is_among}
 use Rattle.pmem_words.specs.declared.owned.OwnedBlock.{OwnedBlock}
 use Rattle.pmem_words.specs.Seats.{Seat}
-use Rattle.log_core.specs.Entries.{has}
+use Rattle.log_image.specs.Chains.{is_listed}
 use Rattle.log_core.specs.Views.{MarkedWord}
 use Rattle.log_core.specs.Works.{seat_shape, words_of}
 use Rattle.log_core.specs.Needs.{is_in_area}
@@ -32,20 +32,20 @@ gained_in : (word bits found : ℕ) → gained word bits found ≡ clear_in foun
 gained_in word bits found = sym (filter_both (λ (block : ℕ). bit_at found (block % 64) == 0) (λ (block : ℕ). is_among word bits block) (range_with_len (word * 64) 64)) ∙ ap (clear_in found) (among_is word bits)
 
 -- a block of a front is of the list
-pub has_front : (n : ℕ) (blocks : List ℕ) (block : ℕ) → has (take n blocks) block ≡ true → has blocks block ≡ true
+pub has_front : (n : ℕ) (blocks : List ℕ) (block : ℕ) → is_listed (take n blocks) block ≡ true → is_listed blocks block ≡ true
 has_front zero blocks block some = cc
 has_front (suc n) [] block some = some
 has_front (suc n) (first ∷ blocks) block some = by (first == block) some (has_front n blocks block)
   where
-    by : (same : Bool) → (same || has (take n blocks) block) ≡ true → (has (take n blocks) block ≡ true → has blocks block ≡ true) → (same || has blocks block) ≡ true
+    by : (same : Bool) → (same || is_listed (take n blocks) block) ≡ true → (is_listed (take n blocks) block ≡ true → is_listed blocks block ≡ true) → (same || is_listed blocks block) ≡ true
     by true some rest = refl
     by false some rest = rest some
 
 -- blocks that are open are of the area
-pub open_in_area : (image : Shape) (area : Area) (word known block : ℕ) → has (open_blocks image area word known) block ≡ true → is_in_area image area block ≡ true
+pub open_in_area : (image : Shape) (area : Area) (word known block : ℕ) → is_listed (open_blocks image area word known) block ≡ true → is_in_area image area block ≡ true
 open_in_area image area word known block some =
-    (let outer = and_parts (bit_at known (block % 64) == 0) (has (area_in image area word) block) (sym (has_filter (λ (x : ℕ). bit_at known (x % 64) == 0) (area_in image area word) block) ∙ some) in
-    (and_parts (is_in_area image area block) (has (blocks_of_word word) block) (sym (has_filter (λ (x : ℕ). is_in_area image area x) (blocks_of_word word) block) ∙ outer.1)).0)
+    (let outer = and_parts (bit_at known (block % 64) == 0) (is_listed (area_in image area word) block) (sym (has_filter (λ (x : ℕ). bit_at known (x % 64) == 0) (area_in image area word) block) ∙ some) in
+    (and_parts (is_in_area image area block) (is_listed (blocks_of_word word) block) (sym (has_filter (λ (x : ℕ). is_in_area image area x) (blocks_of_word word) block) ∙ outer.1)).0)
 
 -- the area of a block of an area
 area_is : (image : Shape) (area : Area) (block : ℕ) → is_in_area image area block ≡ true → area_of image block ≡ area
@@ -63,20 +63,20 @@ area_is image Spare block is =
     ap (λ (b : Bool). if b then Data else if nat_le block (image.data_blocks + image.log_blocks) then Log else Spare) {x = is_in_data image block} {y = false} (Rattle.std.proofs.lemmas.Bool.and_right (nat_le 1 block) (nat_le block image.data_blocks) (lt-leb block image.data_blocks (omega (arith, above))))
     ∙ ap (λ (b : Bool). if b then Log else Spare) (lt-leb block (image.data_blocks + image.log_blocks) above))
 
--- so each block that is taken has the machine's area
-fresh_is : (image : Shape) (area : Area) (blocks : List ℕ) → ((block : ℕ) → has blocks block ≡ true → is_in_area image area block ≡ true) → map (taken_block image) blocks ≡ map (fresh area) blocks
+-- so each block that is taken is_listed the machine's area
+fresh_is : (image : Shape) (area : Area) (blocks : List ℕ) → ((block : ℕ) → is_listed blocks block ≡ true → is_in_area image area block ≡ true) → map (taken_block image) blocks ≡ map (fresh area) blocks
 fresh_is image area [] each = refl
 fresh_is image area (block ∷ blocks) each =
-    ap (λ (a : Area). record { block = block; area = a; filled = false; fenced = false } ∷ map (taken_block image) blocks) (area_is image area block (each block (Rattle.std.proofs.lemmas.Bool.or_left (block == block) (has blocks block) (eq-eqb block block refl))))
-    ∙ ap (λ (rest : List OwnedBlock). fresh area block ∷ rest) (fresh_is image area blocks (λ other some. each other (Rattle.std.proofs.lemmas.Bool.or_right (block == other) (has blocks other) some)))
+    ap (λ (a : Area). record { block = block; area = a; filled = false; fenced = false } ∷ map (taken_block image) blocks) (area_is image area block (each block (Rattle.std.proofs.lemmas.Bool.or_left (block == block) (is_listed blocks block) (eq-eqb block block refl))))
+    ∙ ap (λ (rest : List OwnedBlock). fresh area block ∷ rest) (fresh_is image area blocks (λ other some. each other (Rattle.std.proofs.lemmas.Bool.or_right (block == other) (is_listed blocks other) some)))
 
 module _ (m : Take) (s : Seat) (known : ℕ) where
   -- each wanted block is of the area
-  pub wanted_in_area : (block : ℕ) → has (wanted_at m s known) block ≡ true → is_in_area (seat_shape s) m.area block ≡ true
+  pub wanted_in_area : (block : ℕ) → is_listed (wanted_at m s known) block ≡ true → is_in_area (seat_shape s) m.area block ≡ true
   wanted_in_area block some = open_in_area (seat_shape s) m.area (word_of m s) known block (has_front m.count (open_at m s known) block some)
 
-  pub gained_in_area : (found block : ℕ) → has (gained_at m s known found) block ≡ true → is_in_area (seat_shape s) m.area block ≡ true
-  gained_in_area found block some = wanted_in_area block (and_parts (bit_at found (block % 64) == 0) (has (wanted_at m s known) block) (sym (has_filter (λ (x : ℕ). bit_at found (x % 64) == 0) (wanted_at m s known) block) ∙ some)).1
+  pub gained_in_area : (found block : ℕ) → is_listed (gained_at m s known found) block ≡ true → is_in_area (seat_shape s) m.area block ≡ true
+  gained_in_area found block some = wanted_in_area block (and_parts (bit_at found (block % 64) == 0) (is_listed (wanted_at m s known) block) (sym (has_filter (λ (x : ℕ). bit_at found (x % 64) == 0) (wanted_at m s known) block) ∙ some)).1
 
   -- the blocks of the bits that are set
   pub wanted_among : filter (λ (block : ℕ). is_among (word_of m s) (bits_of (wanted_at m s known)) block) (range_with_len (word_of m s * 64) 64) ≡ wanted_at m s known

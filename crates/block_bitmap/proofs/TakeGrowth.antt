@@ -11,7 +11,7 @@ use Rattle.pmem_words.specs.declared.keeps.Task.{Task}
 use Rattle.pmem_words.specs.declared.keeps.Task.TheVariants.{Pwrite, Append, Collect, Take as TakeTask}
 use Rattle.pmem_words.specs.declared.owned.OwnedBlock.{OwnedBlock}
 use Rattle.pmem_words.specs.Seats.{Seat}
-use Rattle.log_core.specs.Entries.{has}
+use Rattle.log_image.specs.Chains.{is_listed}
 use Rattle.log_core.specs.Works.{seat_shape}
 use Rattle.log_core.specs.Needs.{is_in_area, is_area, is_one_run, owned_numbers, owned_in, data_lacking, touched_from, lacking}
 use Rattle.block_bitmap.specs.TakeScript.{fresh, with_taken_blocks}
@@ -29,29 +29,29 @@ pub numbers_more : (area : Area) (owned : List OwnedBlock) (blocks : List ℕ) �
 numbers_more area owned blocks = map-append (λ (o : OwnedBlock). o.block) owned (map (fresh area) blocks) ∙ ap (λ (rest : List ℕ). owned_numbers owned ++ rest) (numbers_fresh area blocks)
 
 -- a test keeps a list of which each passes
-pub kept_has : (p : ℕ → Bool) (blocks : List ℕ) → ((block : ℕ) → has blocks block ≡ true → p block ≡ true) → filter p blocks ≡ blocks
+pub kept_has : (p : ℕ → Bool) (blocks : List ℕ) → ((block : ℕ) → is_listed blocks block ≡ true → p block ≡ true) → filter p blocks ≡ blocks
 kept_has p [] each = refl
 kept_has p (block ∷ blocks) each =
-    ap (λ (b : Bool). cond b (block ∷ filter p blocks) (filter p blocks)) (each block (or_left (block == block) (has blocks block) (eq-eqb block block refl)))
-    ∙ ap (λ (rest : List ℕ). block ∷ rest) (kept_has p blocks (λ other some. each other (or_right (block == other) (has blocks other) some)))
+    ap (λ (b : Bool). cond b (block ∷ filter p blocks) (filter p blocks)) (each block (or_left (block == block) (is_listed blocks block) (eq-eqb block block refl)))
+    ∙ ap (λ (rest : List ℕ). block ∷ rest) (kept_has p blocks (λ other some. each other (or_right (block == other) (is_listed blocks other) some)))
 
 -- what is owned in an area, after blocks of it were taken
-pub owned_more : (area : Area) (s : Seat) (found : List ℕ) (blocks : List ℕ) → ((block : ℕ) → has blocks block ≡ true → is_in_area (seat_shape s) area block ≡ true) → owned_in (found_as found (with_taken_blocks area blocks s)) area ≡ owned_in s area ++ blocks
+pub owned_more : (area : Area) (s : Seat) (found : List ℕ) (blocks : List ℕ) → ((block : ℕ) → is_listed blocks block ≡ true → is_in_area (seat_shape s) area block ≡ true) → owned_in (found_as found (with_taken_blocks area blocks s)) area ≡ owned_in s area ++ blocks
 owned_more area s found blocks each =
     ap (filter (λ (block : ℕ). is_in_area (seat_shape s) area block)) (numbers_more area s.blocks.owned blocks)
     ∙ filter-append (λ (block : ℕ). is_in_area (seat_shape s) area block) (owned_numbers s.blocks.owned) blocks
     ∙ ap (λ (rest : List ℕ). owned_in s area ++ rest) (kept_has (λ (block : ℕ). is_in_area (seat_shape s) area block) blocks each)
 
--- a seat that has grown grows on
-pub grows_on : (area : Area) (first s : Seat) (blocks more : List ℕ) (found : List ℕ) → HasGrown area first blocks s → ((block : ℕ) → has more block ≡ true → is_in_area (seat_shape s) area block ≡ true) →
+-- a seat that is_listed grown grows on
+pub grows_on : (area : Area) (first s : Seat) (blocks more : List ℕ) (found : List ℕ) → HasGrown area first blocks s → ((block : ℕ) → is_listed more block ≡ true → is_in_area (seat_shape s) area block ≡ true) →
     HasGrown area first (blocks ++ more) (found_as found (with_taken_blocks area more s))
 grows_on area first s blocks more found grown each = record {
   seat = ap (λ (x : Seat). found_as found (with_taken_blocks area more x)) grown.seat ∙ ap (found_as found) (taken_both area blocks more first);
-  in_area = λ block some. by block (or_cases (has blocks block) (has more block) (sym (has_both blocks more block) ∙ some));
+  in_area = λ block some. by block (or_cases (is_listed blocks block) (is_listed more block) (sym (has_both blocks more block) ∙ some));
   more = owned_more area s found more each ∙ ap (λ (owned : List ℕ). owned ++ more) grown.more ∙ append_assoc (owned_in first area) blocks more;
 }
   where
-    by : (block : ℕ) → (has blocks block ≡ true) ⊎ (has more block ≡ true) → is_in_area (seat_shape s) area block ≡ true
+    by : (block : ℕ) → (is_listed blocks block ≡ true) ⊎ (is_listed more block ≡ true) → is_in_area (seat_shape s) area block ≡ true
     by block (inl old) = grown.in_area block old
     by block (inr new) = each block new
 
@@ -124,7 +124,7 @@ same_with s found Spare blocks Collect owned = refl
 same_with s found area blocks (TakeTask wanted count) owned = refl
 same_with s found area blocks _ owned = refl
 
-pub lacking_falls : (s : Seat) (found : List ℕ) (area : Area) (blocks : List ℕ) (task : Task) → ((block : ℕ) → has blocks block ≡ true → is_in_area (seat_shape s) area block ≡ true) →
+pub lacking_falls : (s : Seat) (found : List ℕ) (area : Area) (blocks : List ℕ) (task : Task) → ((block : ℕ) → is_listed blocks block ≡ true → is_in_area (seat_shape s) area block ≡ true) →
     lacking s task area ≤ lacking (found_as found (with_taken_blocks area blocks s)) task area + length blocks
 lacking_falls s found area blocks task each =
     (let before = lacks_is s task area in

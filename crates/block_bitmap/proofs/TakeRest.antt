@@ -10,7 +10,8 @@ use Rattle.log_entry.specs.declared.shapes.Geometry.{Geometry}
 use Rattle.log_entry.specs.declared.shapes.Area.{Area}
 use Rattle.log_image.specs.Taken.{bit_of}
 use Rattle.log_core.specs.Needs.{is_in_area}
-use Rattle.block_bitmap.specs.TakeBits.{image_of, blocks_of_word, open_blocks}
+use Rattle.log_image.specs.Image.{shape_by}
+use Rattle.block_bitmap.specs.TakeBits.{blocks_of_word, open_blocks}
 use Rattle.block_bitmap.specs.TakeAlone.{free_blocks}
 use Rattle.block_bitmap.proofs.TakeRanges.{agree, none_pass, filter_both}
 use Rattle.block_bitmap.proofs.TakeWords.{area_from, area_at, some_in}
@@ -51,7 +52,7 @@ module _ (g : Geometry) (area : Area) (taken : List ℕ) where
 
   -- and those in it
   abbrev pub clear_at : ℕ → List ℕ
-  clear_at word = open_blocks (image_of g) area word (slice_index taken word)
+  clear_at word = open_blocks (shape_by g) area word (slice_index taken word)
 
   pub rest_first : rest_from (first_of g area / 64) ≡ free_blocks g area taken
   rest_first = (let from : max first (first / 64 * 64) ≡ first = omega arith in
@@ -68,15 +69,15 @@ module _ (g : Geometry) (area : Area) (taken : List ℕ) where
     hi = min end (word * 64 + 64)
 
     abbrev passes : ℕ → Bool
-    passes x = is_in_area (image_of g) area x && (bit_at (slice_index taken word) (x % 64) == 0)
+    passes x = is_in_area (shape_by g) area x && (bit_at (slice_index taken word) (x % 64) == 0)
 
     not_before : (x : ℕ) → word * 64 ≤ x → x < word * 64 + (lo - word * 64) → passes x ≡ false
-    not_before x low high = and_left (is_in_area (image_of g) area x) (bit_at (slice_index taken word) (x % 64) == 0)
-        (false_from_ne_true (is_in_area (image_of g) area x) (λ inside. (let at = (area_from g area x inside).0 in omega (arith, low, high, at))))
+    not_before x low high = and_left (is_in_area (shape_by g) area x) (bit_at (slice_index taken word) (x % 64) == 0)
+        (false_from_ne_true (is_in_area (shape_by g) area x) (λ inside. (let at = (area_from g area x inside).0 in omega (arith, low, high, at))))
 
     not_after : (x : ℕ) → word * 64 + (lo - word * 64) + (hi - lo) ≤ x → x < word * 64 + (lo - word * 64) + (hi - lo) + (word * 64 + 64 - hi) → passes x ≡ false
-    not_after x low high = and_left (is_in_area (image_of g) area x) (bit_at (slice_index taken word) (x % 64) == 0)
-        (false_from_ne_true (is_in_area (image_of g) area x) (λ inside. (let some = some_in g area in let at = (area_from g area x inside).1 in omega (arith, low, high, at, from, to, some))))
+    not_after x low high = and_left (is_in_area (shape_by g) area x) (bit_at (slice_index taken word) (x % 64) == 0)
+        (false_from_ne_true (is_in_area (shape_by g) area x) (λ inside. (let some = some_in g area in let at = (area_from g area x inside).1 in omega (arith, low, high, at, from, to, some))))
 
     same_clear : (x : ℕ) → lo ≤ x → x < lo + (hi - lo) → passes x ≡ is_clear x
     same_clear x low high =
@@ -87,7 +88,7 @@ module _ (g : Geometry) (area : Area) (taken : List ℕ) where
     clear_part : clear_at word ≡ filter is_clear (range_with_len lo (hi - lo))
     unfolding blocks_of_word
     clear_part =
-        filter_both (λ x. bit_at (slice_index taken word) (x % 64) == 0) (λ x. is_in_area (image_of g) area x) (blocks_of_word word)
+        filter_both (λ x. bit_at (slice_index taken word) (x % 64) == 0) (λ x. is_in_area (shape_by g) area x) (blocks_of_word word)
         ∙ ap (λ (n : ℕ). filter passes (range_with_len (word * 64) n)) {x = 64} {y = (lo - word * 64) + ((hi - lo) + (word * 64 + 64 - hi))} (let some = some_in g area in omega (arith, from, to, some))
         ∙ only_part passes (word * 64) (lo - word * 64) (hi - lo) (word * 64 + 64 - hi) not_before not_after
         ∙ ap (λ (a : ℕ). filter passes (range_with_len a (hi - lo))) {x = word * 64 + (lo - word * 64)} {y = lo} (omega arith)

@@ -9,7 +9,7 @@ use Rattle.std.proofs.lemmas.Nat.Bits.{bit_at_or}
 use Rattle.log_entry.specs.declared.shapes.Area.{Area}
 use Rattle.log_entry.specs.declared.calls.Call.{Call}
 use Rattle.log_entry.specs.Geometry.{first_of}
-use Rattle.log_image.specs.Chains.{all_different}
+use Rattle.log_image.specs.Chains.{all_different, is_listed}
 use Rattle.log_image.specs.Taken.{bit_of}
 use Rattle.pmem_words.specs.Owned.{is_among}
 use Rattle.pmem_words.specs.Seats.{Seat, bitmap_words}
@@ -17,7 +17,6 @@ use Rattle.pmem_words.specs.declared.machine.Turn.{Turn}
 use Rattle.pmem_words.specs.declared.machine.Turn.TheVariants.{Go, Done}
 use Rattle.asks.specs.declared.ask.Place.TheVariants.{Map}
 use Rattle.asks.specs.declared.ask.Ask.TheVariants.{SetBits}
-use Rattle.log_core.specs.Entries.{has}
 use Rattle.log_core.specs.Views.{Ghost, view_of}
 use Rattle.log_core.specs.Origin.{Origin}
 use Rattle.log_core.specs.Cores.{Core}
@@ -113,9 +112,9 @@ module _ (o : Origin) (seat : ℕ) (area : Area) (total_count : ℕ) (first : Se
       inside = inside;
       area = area;
       in_area = λ block among. wanted_in_area (at (Some known)) s known block
-          (ap (λ (blocks : List ℕ). has blocks block) (sym (wanted_among (at (Some known)) s known))
+          (ap (λ (blocks : List ℕ). is_listed blocks block) (sym (wanted_among (at (Some known)) s known))
           ∙ has_filter (λ (other : ℕ). is_among word bits other) (range_with_len (word * 64) 64) block
-          ∙ and_from (is_among word bits block) (has (range_with_len (word * 64) 64) block) among (among_range word bits block among));
+          ∙ and_from (is_among word bits block) (is_listed (range_with_len (word * 64) 64) block) among (among_range word bits block among));
       few = (let many = ap length (wanted_among (at (Some known)) s known) in let front = length-take count (open_at (at (Some known)) s known) in let lacks = stands.may.lacks in omega (arith, many, front, lacks));
     }
 

@@ -13,7 +13,8 @@ use Rattle.block_bitmap.specs.declared.take.Taken.TheVariants.{Taken as HasTaken
 use Rattle.pmem_words.specs.declared.owned.OwnedBlock.{OwnedBlock}
 use Rattle.pmem_words.specs.Seats.{Seat, q_of}
 use Rattle.log_entry.specs.declared.shapes.Area.{Area}
-use Rattle.block_bitmap.specs.TakeBits.{image_of, blocks_in, bits_of, clear_in, open_blocks}
+use Rattle.log_image.specs.Image.{shape_by}
+use Rattle.block_bitmap.specs.TakeBits.{blocks_in, bits_of, clear_in, open_blocks}
 use Rattle.block_bitmap.specs.TakeScript.{word_of, last_word, open_at, fresh, with_taken_blocks, moved_on, settled_by, settled, wanted_at, gained_at, less, with_found, seat_set, known_set, ended_or, after_at}
 use Rattle.block_bitmap.specs.TakeLists.{at_most}
 use Rattle.block_bitmap.proofs.TakeChosen.{wanted_again, clear_is}
@@ -74,9 +75,9 @@ pub none_wanted : (word least rest : ℕ) → bit_or least (bits_of (take 0 (blo
 none_wanted word least rest = or_zero least
 
 -- where the machine goes from a word, by the bits that are left to take there
-module _ (m : Take) (s : Seat) (known word bits : ℕ) (g : Geometry) (at : word ≡ word_of m s) (same : g ≡ s.geometry) (is : blocks_in word bits ≡ open_blocks (image_of g) m.area word known) where
+module _ (m : Take) (s : Seat) (known word bits : ℕ) (g : Geometry) (at : word ≡ word_of m s) (same : g ≡ s.geometry) (is : blocks_in word bits ≡ open_blocks (shape_by g) m.area word known) where
   open_are : open_at m s known ≡ blocks_in word bits
-  open_are = sym (is ∙ ap (λ (h : Geometry). open_blocks (image_of h) m.area word known) same ∙ ap (λ (w : ℕ). open_blocks (seat_shape s) m.area w known) at)
+  open_are = sym (is ∙ ap (λ (h : Geometry). open_blocks (shape_by h) m.area word known) same ∙ ap (λ (w : ℕ). open_blocks (seat_shape s) m.area w known) at)
 
   pub settled_some : 0 < bits → bits < 2 ^ 64 → settled m s known ≡ record { machine = record m { known = Some known }; seat = s; turn = Go }
   settled_some some small = ap (λ (blocks : List ℕ). settled_by blocks m s known) (open_are ∙ lowest_in word bits some small)

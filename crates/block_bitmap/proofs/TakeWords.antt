@@ -13,7 +13,8 @@ use Rattle.log_entry.specs.declared.shapes.Geometry.{Geometry}
 use Rattle.log_entry.specs.declared.shapes.Area.{Area}
 use Rattle.log_entry.specs.declared.shapes.Area.TheVariants.{Data, Log, Spare}
 use Rattle.log_core.specs.Needs.{is_in_area}
-use Rattle.block_bitmap.specs.TakeBits.{image_of, blocks_of_word, blocks_in, open_blocks}
+use Rattle.log_image.specs.Image.{shape_by}
+use Rattle.block_bitmap.specs.TakeBits.{blocks_of_word, blocks_in, open_blocks}
 use Rattle.block_bitmap.proofs.TakeRanges.{same_test, agree, filter_both}
 
 -- an area lies within the image
@@ -32,14 +33,14 @@ some_in g Log = g.some_log
 some_in g Spare = omega arith
 
 -- its blocks are those from its first on, as many as it has
-pub area_from : (g : Geometry) (area : Area) (block : ℕ) → is_in_area (image_of g) area block ≡ true → (first_of g area ≤ block) × (block < first_of g area + count_of g area)
+pub area_from : (g : Geometry) (area : Area) (block : ℕ) → is_in_area (shape_by g) area block ≡ true → (first_of g area ≤ block) × (block < first_of g area + count_of g area)
 area_from g Data block is = (let both = and_parts (nat_le 1 block) (nat_le block g.data_blocks) is in let low = leb-true 1 block both.0 in let high = leb-true block g.data_blocks both.1 in (omega (arith, low), omega (arith, high)))
 area_from g Log block is = (let both = and_parts (nat_lt g.data_blocks block) (nat_le block (g.data_blocks + g.log_blocks)) is in let low = ltb-true g.data_blocks block both.0 in let high = leb-true block (g.data_blocks + g.log_blocks) both.1 in (omega (arith, low), omega (arith, high)))
 area_from g Spare block is =
     (let both = and_parts (nat_lt (g.data_blocks + g.log_blocks) block) (nat_lt block (total_of g.data_blocks g.log_blocks g.block_bytes)) is in
     let low = ltb-true (g.data_blocks + g.log_blocks) block both.0 in let high = ltb-true block (total_of g.data_blocks g.log_blocks g.block_bytes) both.1 in (omega (arith, low), omega (arith, high)))
 
-pub area_at : (g : Geometry) (area : Area) (block : ℕ) → first_of g area ≤ block → block < first_of g area + count_of g area → is_in_area (image_of g) area block ≡ true
+pub area_at : (g : Geometry) (area : Area) (block : ℕ) → first_of g area ≤ block → block < first_of g area + count_of g area → is_in_area (shape_by g) area block ≡ true
 area_at g Data block low high = and_from (nat_le 1 block) (nat_le block g.data_blocks) (le-leb 1 block (omega (arith, low))) (le-leb block g.data_blocks (omega (arith, high)))
 area_at g Log block low high = and_from (nat_lt g.data_blocks block) (nat_le block (g.data_blocks + g.log_blocks)) (lt-ltb g.data_blocks block (omega (arith, low))) (le-leb block (g.data_blocks + g.log_blocks) (omega (arith, high)))
 area_at g Spare block low high =
@@ -88,15 +89,15 @@ module _ (word first end known x : ℕ) (low : word * 64 ≤ x) (high : x < word
 
 -- the bits of the area's blocks that are not known to be set are those of the blocks that are not known to be taken
 pub open_is : (g : Geometry) (area : Area) (word known : ℕ) → known < 2 ^ 64 →
-    blocks_in word (bit_and (2 ^ min (first_of g area + count_of g area - word * 64) 64 - 1 - (2 ^ min (first_of g area - word * 64) 64 - 1)) (2 ^ 64 - 1 - known)) ≡ open_blocks (image_of g) area word known
+    blocks_in word (bit_and (2 ^ min (first_of g area + count_of g area - word * 64) 64 - 1 - (2 ^ min (first_of g area - word * 64) 64 - 1)) (2 ^ 64 - 1 - known)) ≡ open_blocks (shape_by g) area word known
 unfolding blocks_of_word
 open_is g area word known small =
-    agree (λ x. bit_at bits (x % 64) == 1) (λ x. is_in_area (image_of g) area x && (bit_at known (x % 64) == 0)) (word * 64) 64
-    (λ x low high. same_test (bit_at bits (x % 64) == 1) (is_in_area (image_of g) area x && (bit_at known (x % 64) == 0))
-    (λ is. let set = span_from word first end known x low high small is in and_from (is_in_area (image_of g) area x) (bit_at known (x % 64) == 0) (area_at g area x set.0 set.1) (eq-eqb (bit_at known (x % 64)) 0 set.2))
-    (λ is. let both = and_parts (is_in_area (image_of g) area x) (bit_at known (x % 64) == 0) is in let between = area_from g area x both.0 in
+    agree (λ x. bit_at bits (x % 64) == 1) (λ x. is_in_area (shape_by g) area x && (bit_at known (x % 64) == 0)) (word * 64) 64
+    (λ x low high. same_test (bit_at bits (x % 64) == 1) (is_in_area (shape_by g) area x && (bit_at known (x % 64) == 0))
+    (λ is. let set = span_from word first end known x low high small is in and_from (is_in_area (shape_by g) area x) (bit_at known (x % 64) == 0) (area_at g area x set.0 set.1) (eq-eqb (bit_at known (x % 64)) 0 set.2))
+    (λ is. let both = and_parts (is_in_area (shape_by g) area x) (bit_at known (x % 64) == 0) is in let between = area_from g area x both.0 in
     span_at word first end known x low high small between.0 between.1 (eqb-true (bit_at known (x % 64)) 0 both.1)))
-    ∙ sym (filter_both (λ x. bit_at known (x % 64) == 0) (λ x. is_in_area (image_of g) area x) (blocks_of_word word))
+    ∙ sym (filter_both (λ x. bit_at known (x % 64) == 0) (λ x. is_in_area (shape_by g) area x) (blocks_of_word word))
   where
     first : ℕ
     first = first_of g area

@@ -6,7 +6,7 @@ use Rattle.log_entry.specs.declared.shapes.Area.{Area}
 use Rattle.log_entry.specs.declared.shapes.Geometry.{Geometry}
 use Rattle.log_image.specs.Taken.{bit_of}
 use Rattle.pmem_words.specs.Seats.{Seat}
-use Rattle.log_core.specs.Entries.{has}
+use Rattle.log_image.specs.Chains.{is_listed}
 use Rattle.block_bitmap.specs.declared.take.Taken.{Taken}
 use Rattle.block_bitmap.specs.declared.take.Taken.TheVariants.{Taken as HasTaken, NoSpace}
 use Rattle.block_bitmap.specs.TakeScript.{last_word}
@@ -15,7 +15,7 @@ use Rattle.block_bitmap.specs.TakeScript.{last_word}
 abbrev pub free_blocks : Geometry → Area → List ℕ → List ℕ
 free_blocks g area taken = filter (λ (block : ℕ). bit_of taken block == 0) (range_with_len (first_of g area) (count_of g area))
 
--- all are taken, or the area has no space, by how many of its blocks are clear
+-- all are taken, or the area is_listed no space, by how many of its blocks are clear
 abbrev pub outcome_by : Bool → Area → Taken
 outcome_by true area = HasTaken
 outcome_by false area = NoSpace area
@@ -26,7 +26,7 @@ outcome area count free = outcome_by (nat_le count free) area
 -- the bits of these blocks are set, and no other bit is changed
 pub record AreSet (blocks before after : List ℕ) : Type 0 where
   pub long : length after ≡ length before
-  pub bits : (block : ℕ) → bit_of after block ≡ (if has blocks block then 1 else bit_of before block)
+  pub bits : (block : ℕ) → bit_of after block ≡ (if is_listed blocks block then 1 else bit_of before block)
 
 -- the seat with this found
 abbrev pub found_as : List ℕ → Seat → Seat

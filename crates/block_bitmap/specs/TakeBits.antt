@@ -3,13 +3,8 @@ use Rattle.std.specs.Prelude.{ℕ, ◌*◌, ◌%◌, ◌^◌, ◌==◌, List, []
 use Rattle.std.specs.Int.{bit_at}
 use Rattle.std.specs.List.{range_with_len}
 use Rattle.log_entry.specs.declared.shapes.Area.{Area}
-use Rattle.log_entry.specs.declared.shapes.Geometry.{Geometry}
 use Rattle.log_image.specs.Image.{Shape}
 use Rattle.log_core.specs.Needs.{is_in_area}
-
--- the shape of an image
-abbrev pub image_of : Geometry → Shape
-image_of g = record { data_blocks = g.data_blocks; log_blocks = g.log_blocks; block_bytes = g.block_bytes }
 
 -- the blocks whose bits a word has, the least first
 unfoldable pub blocks_of_word : ℕ → List ℕ

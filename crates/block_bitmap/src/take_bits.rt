@@ -3,7 +3,8 @@
 ghost use Rattle.std.specs.Prelude.{◌≡◌, ℕ, ◌+◌, ◌-◌, ◌*◌, ◌/◌, ◌^◌, ◌<◌, ◌≤◌, length, min, take};
 ghost use Rattle.log_entry.specs.Geometry.{count_of, first_of};
 ghost use Rattle.pmem_words.specs.Seats.{owned_room};
-ghost use Rattle.block_bitmap.specs.TakeBits.{image_of, blocks_in, bits_of, open_blocks};
+ghost use Rattle.log_image.specs.Image.{shape_by};
+ghost use Rattle.block_bitmap.specs.TakeBits.{blocks_in, bits_of, open_blocks};
 ghost use Rattle.block_bitmap.specs.TakeScript.{with_taken_blocks};
 
 use log_entry::{Area, Geometry};
@@ -44,7 +45,7 @@ pub fn bits_below(word: u32, block: u32) -> u64
 /// The bits, in word `word` of the bitmap, of the area's blocks that are not known to be taken.
 #[inline]
 pub fn open_bits(geometry: &Geometry, area: Area, word: u32, known: u64) -> u64
-    ensures { blocks_in word result ≡ open_blocks (image_of geometry.now) area word known }
+    ensures { blocks_in word result ≡ open_blocks (shape_by geometry.now) area word known }
 {
     let first = geometry.first(area);
     let end = first + geometry.count(area);

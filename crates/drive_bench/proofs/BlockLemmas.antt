@@ -1,5 +1,5 @@
 -- A fill of one block leaves what it needs.
-use Rattle.std.proofs.Common.{◌≡◌, ℕ, ◌+◌, ◌*◌, ◌||◌, true, false, List, [], ◌∷◌, length, refl, ◌∙◌, arith}
+use Rattle.std.proofs.Common.{◌≡◌, ◌||◌, true, false, List, [], ◌∷◌, length, ◌∙◌, arith}
 use Rattle.std.proofs.lemmas.List.{length-map}
 use Rattle.pmem_words.specs.Owned.{owned_at, with_filled, with_fenced, fenced_all}
 use Rattle.pmem_words.specs.declared.owned.OwnedBlock.{OwnedBlock}

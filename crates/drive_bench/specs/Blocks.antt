@@ -1,5 +1,5 @@
 -- What the rounds over blocks keep.
-use Rattle.std.specs.Prelude.{ℕ, ◌+◌, ◌*◌, ◌≤◌, ◌≡◌, length}
+use Rattle.std.specs.Prelude.{◌*◌, ◌≤◌, ◌≡◌, length}
 use Rattle.log_entry.specs.Shape.{total_of}
 use Rattle.pmem_words.specs.Seats.{Seat, q_of}
 use Rattle.asks.specs.SharedWords.{SharedWords}

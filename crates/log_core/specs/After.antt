@@ -11,7 +11,7 @@ use Rattle.pmem_words.specs.Seats.{Seat}
 use Rattle.asks.specs.Asks.{answer}
 use Rattle.asks.specs.declared.ask.Ask.{Ask}
 use Rattle.persistence.specs.Memory.{found, memory_after}
-use Rattle.log_core.specs.Entries.{has}
+use Rattle.log_image.specs.Chains.{is_listed}
 use Rattle.log_core.specs.Views.{view_of, spent_view, op_in}
 use Rattle.log_core.specs.Origin.{Origin, q_of_origin, Owner, Free, Header, InChain, OwnedBy, LeftTo, LogBlock, Generation}
 use Rattle.log_core.specs.Files.{Write, end_of}
@@ -83,7 +83,7 @@ generations_after generations logs note _ f = generations
 
 -- these blocks get another owner, where an exchange won
 abbrev pub owner_if : Bool → List ℕ → Owner → Owner → ℕ → Owner
-owner_if won blocks new old block = if won && has blocks block then new else old
+owner_if won blocks new old block = if won && is_listed blocks block then new else old
 
 abbrev pub owner_after : (ℕ → Owner) → ℕ → Note → Kind → ℕ → ℕ → Owner
 owner_after owner seat note (SetsBits word bits) f block = if is_gained word bits f block then OwnedBy seat else owner block
@@ -94,9 +94,9 @@ owner_after owner seat note (ExchangesHead before next) f block =
     owner_if (f == before) (new_snapshots note.before next) InChain (owner_if (f == before) (replaced_by note.before) (LeftTo seat) (owner block) block) block
 owner_after owner seat note _ f block = owner block
 
--- and the chain has them with these words
+-- and the chain is_listed them with these words
 abbrev pub recorded_if : Bool → List ℕ → Seat → List ℕ → ℕ → List ℕ
-recorded_if won blocks s old block = if won && has blocks block then content_of s block else old
+recorded_if won blocks s old block = if won && is_listed blocks block then content_of s block else old
 
 abbrev pub recorded_after : (ℕ → List ℕ) → Note → Kind → ℕ → ℕ → List ℕ
 recorded_after recorded note (ExchangesSlot word entry) f block = recorded_if ((f == 0) && not (entry == SEAL)) (names (new_meaning note.before entry)) note.before (recorded block) block
@@ -104,7 +104,7 @@ recorded_after recorded note (ExchangesLink word other) f block = recorded_if (f
 recorded_after recorded note (ExchangesHead before next) f block = recorded_if (f == before) (new_snapshots note.before next) note.before (recorded block) block
 recorded_after recorded note _ f block = recorded block
 
--- the synced position rises to that of a sync, with the fence after which the sync has it
+-- the synced position rises to that of a sync, with the fence after which the sync is_listed it
 abbrev pub synced_to : ℕ → Option ℕ → Option ℕ → ℕ
 synced_to synced None (Some position) = max synced position
 synced_to synced _ _ = synced

@@ -3,7 +3,8 @@ use Rattle.std.specs.Prelude.{ℕ, ◌-◌, ◌<◌, ◌≤◌, ◌≡◌, ◌�
 use Rattle.log_image.specs.Image.{Shape, words_in}
 use Rattle.log_image.specs.Entries.{all_names}
 use Rattle.persistence.specs.Memory.{Cell}
-use Rattle.log_core.specs.Entries.{has, LogEntry, no_entry, entry_by, place_in}
+use Rattle.log_image.specs.Chains.{is_listed}
+use Rattle.log_core.specs.Entries.{LogEntry, no_entry, entry_by, place_in}
 use Rattle.log_core.specs.Origin.{Origin, shape, start_base, first_position, Owner, InChain, LeftTo, LogBlock, Generation}
 use Rattle.log_core.specs.Files.{Write, entries, end_of, history_map_at, history_size_at, file_at, Holds, HoldsBelow}
 use Rattle.log_core.specs.Cores.{nth_log, data_names, is_named}
@@ -19,7 +20,7 @@ IsStillTaken whose = (whose ≡ InChain) ⊎ ((seat : ℕ) × (whose ≡ LeftTo 
 -- no other words than the recorded ones are possible in these blocks
 abbrev pub AreRecorded : Shape → (ℕ → Cell) → (ℕ → List ℕ) → List ℕ → Type 0
 AreRecorded image cells recorded blocks =
-    (block k : ℕ) → has blocks block ≡ true → k < words_in image → IsCertain (cells (place_in image block k)) (slice_index (recorded block) k)
+    (block k : ℕ) → is_listed blocks block ≡ true → k < words_in image → IsCertain (cells (place_in image block k)) (slice_index (recorded block) k)
 
 -- the entries from one on are what their words say by the recorded words, and such as a log block may have
 pub record EntriesSay (image : Shape) (recorded : ℕ → List ℕ) (from : ℕ) (es : List LogEntry) : Type 0 where

@@ -1,14 +1,10 @@
 -- Entries of the log by the recorded words of blocks, and lists of blocks.
-use Rattle.std.specs.Prelude.{ℕ, ◌*◌, ◌+◌, ◌==◌, Bool, if◌then◌else◌, List, [], map}
-use Rattle.std.specs.List.{flat_map, list_any}
+use Rattle.std.specs.Prelude.{ℕ, ◌*◌, ◌+◌, ◌==◌, if◌then◌else◌, List, [], map}
+use Rattle.std.specs.List.{flat_map}
 use Rattle.log_entry.specs.Fields.{field}
 use Rattle.log_entry.specs.declared.layouts.TheConstants.{ENTRY_KIND, DIRECT, INDIRECT_BLOCK}
 use Rattle.log_image.specs.Image.{Shape, words_in}
 use Rattle.log_image.specs.Entries.{Meaning, direct_meaning, indirect_meaning, names}
-
--- whether a block is in a list
-abbrev pub has : List ℕ → ℕ → Bool
-has blocks block = list_any (λ (other : ℕ). other == block) blocks
 
 -- the place in the image of a word of a block
 abbrev pub place_in : Shape → ℕ → ℕ → ℕ

@@ -14,13 +14,13 @@ use Rattle.log_entry.specs.declared.calls.WriteRefusal.{WriteRefusal}
 use Rattle.log_image.specs.Image.{Shape, is_in_data, is_in_log}
 use Rattle.log_image.specs.Entries.{Meaning, names}
 use Rattle.log_image.specs.Maps.{block_in, entry_end}
-use Rattle.log_image.specs.Chains.{all_different}
+use Rattle.log_image.specs.Chains.{all_different, is_listed}
 use Rattle.log_image.specs.Format.{fits, is_direct, is_indirect, is_indirect_block}
 use Rattle.pmem_words.specs.Owned.{is_among}
 use Rattle.pmem_words.specs.declared.keeps.Task.TheVariants.{Sync, Collect}
 use Rattle.pmem_words.specs.declared.owned.OwnedBlock.{OwnedBlock}
 use Rattle.pmem_words.specs.Seats.{Seat}
-use Rattle.log_core.specs.Entries.{has, place_in, head_place, meaning_by}
+use Rattle.log_core.specs.Entries.{place_in, head_place, meaning_by}
 use Rattle.log_core.specs.Views.{MarkedWord, Ghost, op_in}
 use Rattle.log_core.specs.Origin.{Origin, shape}
 use Rattle.log_core.specs.Files.{Write, entries, history_map_at, file_at, accepted_reply, byte_in}
@@ -31,12 +31,12 @@ use Rattle.log_core.specs.Steps.{Kind, LoadsHead, StoresOwnPin, LoadsPinWord, Lo
 use Rattle.log_core.specs.After.{new_generation, snapshot_meanings}
 use Rattle.log_core.specs.Snapshots.{first_or, IsSnapshot}
 
--- a store of the own pin word: 0, or the generation of the head found last; a sync that has marks keeps its pin
+-- a store of the own pin word: 0, or the generation of the head found last; a sync that is_listed marks keeps its pin
 pub record MayStoreOwnPin (s : Seat) (marks : List MarkedWord) (value : ℕ) : Type 0 where
   pub value_is : (value ≡ 0) ⊎ ((s.hold.head ≢ 0) × (value ≡ field HEAD_GENERATION s.hold.head))
   pub no_marks : s.calling.job ≡ Sync → marks ≡ []
 
--- a load of a seat's pin word: a scan begins with seat 0's and goes on in order, while the seat has no pin. The head that the seat
+-- a load of a seat's pin word: a scan begins with seat 0's and goes on in order, while the seat is_listed no pin. The head that the seat
 -- put in place last outlasts a crash
 pub record MayLoadPinWord (s : Seat) (seats other : ℕ) : Type 0 where
   pub head_fenced : s.giving.head_fenced ≡ true
@@ -62,17 +62,17 @@ pub record MaySetBits (s : Seat) (word bits : ℕ) : Type 0 where
   pub in_area : (block : ℕ) → is_among word bits block ≡ true → is_in_area (seat_shape s) area block ≡ true
   pub few : length (filter (λ (block : ℕ). is_among word bits block) (range_with_len (word * 64) 64)) ≤ lacking s s.calling.job area
 
--- a scan of all seats has found each pin 0 or above this generation
+-- a scan of all seats is_listed found each pin 0 or above this generation
 pub record IsClearScan (s : Seat) (seats generation : ℕ) : Type 0 where
   pub whole : length s.giving.pins_seen ≡ seats
   pub each : (seat : ℕ) → seat < seats → (slice_index s.giving.pins_seen seat ≡ 0) ⊎ (generation < slice_index s.giving.pins_seen seat)
 
--- blocks of one list are given back, and where a chain has named them, after a scan that found no pin that may need them
+-- blocks of one list are given back, and where a chain is_listed named them, after a scan that found no pin that may need them
 pub data AreGivenBack (s : Seat) (seats word bits : ℕ) : Type 0 where
-  OfOwned : ((block : ℕ) → is_among word bits block ≡ true → has (owned_numbers s.blocks.owned) block ≡ true) → AreGivenBack s seats word bits
-  OfReplaced : ((block : ℕ) → is_among word bits block ≡ true → has s.giving.replaced block ≡ true)
+  OfOwned : ((block : ℕ) → is_among word bits block ≡ true → is_listed (owned_numbers s.blocks.owned) block ≡ true) → AreGivenBack s seats word bits
+  OfReplaced : ((block : ℕ) → is_among word bits block ≡ true → is_listed s.giving.replaced block ≡ true)
       → s.giving.head_fenced ≡ true → IsClearScan s seats s.giving.replaced_generation → AreGivenBack s seats word bits
-  OfLimbo : ((block : ℕ) → is_among word bits block ≡ true → has s.giving.limbo block ≡ true)
+  OfLimbo : ((block : ℕ) → is_among word bits block ≡ true → is_listed s.giving.limbo block ≡ true)
       → IsClearScan s seats s.giving.limbo_generation → AreGivenBack s seats word bits
 
 -- a clearing of bits: of a bitmap word that there is, of 64 bits
@@ -83,7 +83,7 @@ pub record MayClearBits (s : Seat) (seats word bits : ℕ) : Type 0 where
 
 -- a store: of a word of an owned block
 pub record MayStoreWord (s : Seat) (word value : ℕ) : Type 0 where
-  pub owned : has (owned_numbers s.blocks.owned) (word / words_of s) ≡ true
+  pub owned : is_listed (owned_numbers s.blocks.owned) (word / words_of s) ≡ true
   pub small : value < 2 ^ 64
 
 -- the block is owned, and no other value than its content is possible in its words
@@ -103,7 +103,7 @@ is_log_entry_by content image word =
     else is_indirect word && is_in_data image (field INDIRECT_BLOCK word) && is_indirect_block image (content (field INDIRECT_BLOCK word)))
     && fits image (longest_of image.block_bytes) (meaning_by content word)
 
--- the view stands at its chain's tail: its pin is valid, it is ready, and its call has put in no entry
+-- the view stands at its chain's tail: its pin is valid, it is ready, and its call is_listed put in no entry
 pub record IsAtTail (s : Seat) : Type 0 where
   pub valid : s.hold.valid ≡ true
   pub ready : s.walk.ready ≡ true
@@ -121,8 +121,8 @@ pub record MayCommit (o : Origin) (history : List Write) (s : Seat) (word entry 
   pub is_write : is_write op (accepted_reply op s.walk.size) ≡ true
   pub allowed : refusal_at s.geometry.block_bytes s.walk.position s.walk.size op ≡ None
   pub form : is_log_entry_by (λ block. content_of s block) (seat_shape s) entry ≡ true
-  pub owned : (block : ℕ) → has (names (new_meaning s entry)) block ≡ true → is_fenced s.blocks.owned block ≡ true
-  pub in_data : (block : ℕ) → has (names (new_meaning s entry)) block ≡ true → is_in_data (seat_shape s) block ≡ true
+  pub owned : (block : ℕ) → is_listed (names (new_meaning s entry)) block ≡ true → is_fenced s.blocks.owned block ≡ true
+  pub in_data : (block : ℕ) → is_listed (names (new_meaning s entry)) block ≡ true → is_in_data (seat_shape s) block ≡ true
   pub once : all_different (names (new_meaning s entry)) ≡ true
   pub size_is : max s.walk.size (entry_end (seat_shape s) (new_meaning s entry)) ≡ length (file_after (file_at o history s.walk.position) op (accepted_reply op s.walk.size))
   pub holds : (virt block at : ℕ) → block_in (new_meaning s entry) virt ≡ Some block → at < s.geometry.block_bytes →
@@ -160,7 +160,7 @@ abbrev pub AreApart : List Meaning → Type 0
 AreApart [] = Unit {0}
 AreApart (meaning ∷ rest) = ((virt : ℕ) → names_virt meaning virt ≡ true → list_any (λ (other : Meaning). names_virt other virt) rest ≡ false) × AreApart rest
 
--- an exchange of the head, in a collection that has won none and left nothing from an earlier one: from the pinned word to the next
+-- an exchange of the head, in a collection that is_listed won none and left nothing from an earlier one: from the pinned word to the next
 -- generation. Its new blocks are of the log or spare area, owned and fenced, none twice, and hold the map and the size at the view's
 -- position, which is past the old snapshot's; they lead to the tail's block, which begins there. What it replaces is what the
 -- pinned generation names and the next does not
@@ -178,13 +178,13 @@ pub record MayExchangeHead (o : Origin) (c : Core) (g : Ghost) (s : Seat) (befor
   pub cut : (log_at c.logs s.walk.position).base ≡ s.walk.position
   pub cut_block : (log_at c.logs s.walk.position).block ≡ s.walk.tail_block
   pub cut_slot : (s.walk.tail_slot ≡ 3) × (s.walk.tail_base ≡ s.walk.position)
-  pub owned : (block : ℕ) → has (new_snapshots s next) block ≡ true → is_fenced s.blocks.owned block ≡ true
-  pub in_log : (block : ℕ) → has (new_snapshots s next) block ≡ true → is_in_log (seat_shape s) block ≡ true
+  pub owned : (block : ℕ) → is_listed (new_snapshots s next) block ≡ true → is_fenced s.blocks.owned block ≡ true
+  pub in_log : (block : ℕ) → is_listed (new_snapshots s next) block ≡ true → is_in_log (seat_shape s) block ≡ true
   pub once : all_different (new_snapshots s next) ≡ true
   pub snapshot : IsSnapshot (seat_shape s) (λ block. content_of s block) s.walk.position (length (file_at o c.history s.walk.position)) (new_snapshots s next) s.walk.tail_block
       (history_map_at o (entries o c.history) s.walk.position)
   pub apart : AreApart (snapshot_meanings (λ block. content_of s block) (new_snapshots s next))
-  pub replaced : (block : ℕ) → has (replaced_by s) block
+  pub replaced : (block : ℕ) → is_listed (replaced_by s) block
       ≡ (is_named o c.logs (entries o c.history) (generation_at o c.generations s.hold.generation) block
       && not (is_named o c.logs (entries o c.history) (new_generation s c.logs next) block))
 
@@ -201,10 +201,10 @@ abbrev pub walked_trail : Origin → Core → Seat → List TrailWord
 walked_trail o c s =
     trail_before (place_in (shape o) s.walk.tail_block (tail_index s)) (trail (shape o) (drop (generation_at o c.generations s.hold.generation).cut c.logs))
 
--- a mark: of a word of an owned block, in a call that is no sync; of the head that the call has put in place; in a sync with a valid
+-- a mark: of a word of an owned block, in a call that is no sync; of the head that the call is_listed put in place; in a sync with a valid
 -- pin of the head, and of a used slot or link of its chain up to its tail
 pub data MayMark (walked : List TrailWord) (g : Ghost) (s : Seat) (word : ℕ) : Type 0 where
-  OfOwned : has (owned_numbers s.blocks.owned) (word / words_of s) ≡ true → s.calling.job ≢ Sync → MayMark walked g s word
+  OfOwned : is_listed (owned_numbers s.blocks.owned) (word / words_of s) ≡ true → s.calling.job ≢ Sync → MayMark walked g s word
   OfNewHead : word ≡ head_place → g.call.put ≢ None → MayMark walked g s word
   OfHead : word ≡ head_place → s.calling.job ≡ Sync → s.hold.valid ≡ true → MayMark walked g s word
   OfTrail : list_any (λ (t : TrailWord). t.place == word) walked ≡ true → s.calling.job ≡ Sync → s.hold.valid ≡ true → MayMark walked g s word
@@ -238,7 +238,7 @@ May o c g s NoKind = ⊥
 
 -- a mark of a word of an owned block, in a call that is no sync
 pub record IsOwnMark (s : Seat) (word : ℕ) : Type 0 where
-  pub owned : has (owned_numbers s.blocks.owned) (word / words_of s) ≡ true
+  pub owned : is_listed (owned_numbers s.blocks.owned) (word / words_of s) ≡ true
   pub no_sync : s.calling.job ≢ Sync
 
 -- the kinds that are proved to keep the invariant, by the state at the ask; no other is a step yet: bits are cleared of owned blocks

@@ -1,4 +1,4 @@
--- How many blocks of an area a call lacks, and whether it has found that there are no more.
+-- How many blocks of an area a call lacks, and whether it is_listed found that there are no more.
 use Rattle.std.specs.Prelude.{ℕ, ◌+◌, ◌-◌, ◌/◌, ◌%◌, ◌==◌, ◌&&◌, ◌||◌, not, nat_lt, nat_le, Bool, true, false, if◌then◌else◌, List, [], ◌∷◌, length, map, filter, slice_index}
 use Rattle.std.specs.Int.{bit_at}
 use Rattle.std.specs.List.{range_with_len, list_any, list_all}
@@ -11,7 +11,7 @@ use Rattle.pmem_words.specs.declared.keeps.Task.{Task}
 use Rattle.pmem_words.specs.declared.keeps.Task.TheVariants.{Pwrite, Append, Collect, Take}
 use Rattle.pmem_words.specs.declared.owned.OwnedBlock.{OwnedBlock}
 use Rattle.pmem_words.specs.Seats.{Seat}
-use Rattle.log_core.specs.Entries.{has}
+use Rattle.log_image.specs.Chains.{is_listed}
 use Rattle.log_core.specs.Works.{seat_shape}
 
 -- the blocks of an area
@@ -35,7 +35,7 @@ owned_in s area = filter (λ (block : ℕ). is_in_area (seat_shape s) area block
 
 -- the blocks are those of one run: from one of them on, as many in a row are theirs
 abbrev pub is_one_run : List ℕ → Bool
-is_one_run blocks = list_any (λ (first : ℕ). list_all (λ (block : ℕ). has blocks block) (range_with_len first (length blocks))) blocks
+is_one_run blocks = list_any (λ (first : ℕ). list_all (λ (block : ℕ). is_listed blocks block) (range_with_len first (length blocks))) blocks
 
 -- the virtual blocks that a write of so many bytes touches; none without bytes
 abbrev pub touched_from : ℕ → ℕ → List ℕ → ℕ
@@ -49,7 +49,7 @@ data_lacking touched owned =
     else if (length owned == touched) && nat_lt 0 touched && not (is_one_run owned) then 1
     else 0
 
--- how many blocks of an area the seat lacks for its task: data blocks for a write, a log block where it has none, the blocks of
+-- how many blocks of an area the seat lacks for its task: data blocks for a write, a log block where it is_listed none, the blocks of
 -- the largest snapshot and a log block for a collection; and what a machine that is driven alone was told to take
 abbrev pub lacking : Seat → Task → Area → ℕ
 lacking s (Pwrite offset) Data = data_lacking (touched_from s.geometry.block_bytes offset s.calling.bytes) (owned_in s Data)
@@ -66,6 +66,6 @@ is_found_taken s area =
     list_all (λ (block : ℕ). not (is_in_area (seat_shape s) area block) || (bit_at (slice_index s.blocks.found (block / 64)) (block % 64) == 1))
     (range_with_len 1 (total (seat_shape s) - 1))
 
--- the pass over an area has found each of its blocks taken, and the seat still lacks some
+-- the pass over an area is_listed found each of its blocks taken, and the seat still lacks some
 abbrev pub is_pass_found : Seat → Area → Bool
 is_pass_found s area = nat_lt 0 (lacking s s.calling.job area) && is_found_taken s area

@@ -3,15 +3,15 @@ use Rattle.std.specs.Prelude.{ℕ, zero, suc, ◌==◌, Bool, true, false, if◌
 use Rattle.std.specs.List.{range_with_len}
 use Rattle.log_entry.specs.declared.layouts.TheConstants.{EMPTY, SEAL}
 use Rattle.log_entry.specs.declared.shapes.Geometry.{Geometry}
-use Rattle.log_image.specs.Image.{Shape, words_in, block_words}
+use Rattle.log_image.specs.Image.{Shape, shape_by, words_in, block_words}
 use Rattle.log_image.specs.Header.{generation_of}
 use Rattle.log_image.specs.Entries.{Meaning, all_names}
 use Rattle.log_image.specs.Blocks.{base_of, slots_of}
-use Rattle.log_image.specs.Chains.{snapshots_of, logs_of, snapshot_base, snapshot_size}
+use Rattle.log_image.specs.Chains.{snapshots_of, logs_of, snapshot_base, snapshot_size, is_listed}
 use Rattle.log_image.specs.Positions.{snapshot_entries, log_words, position_of}
 use Rattle.log_image.specs.Taken.{named_blocks}
 use Rattle.persistence.specs.Memory.{Memory}
-use Rattle.log_core.specs.Entries.{has, LogEntry, entry_by}
+use Rattle.log_core.specs.Entries.{LogEntry, entry_by}
 use Rattle.log_core.specs.Views.{View, new_view}
 
 -- a start: the shape of the image, how many seats there may be and how many are made at first, the image's words and the bitmap of
@@ -26,7 +26,7 @@ pub record Origin : Type 0 where
   pub file : List ℕ
 
 abbrev pub shape : Origin → Shape
-shape o = record { data_blocks = o.geometry.data_blocks; log_blocks = o.geometry.log_blocks; block_bytes = o.geometry.block_bytes }
+shape o = shape_by o.geometry
 
 -- the 64-bit words of a block
 abbrev pub q_of_origin : Origin → ℕ
@@ -45,7 +45,7 @@ start_base o = snapshot_base o.words (shape o) o.chain
 abbrev pub start_size : Origin → ℕ
 start_size o = snapshot_size o.words (shape o) o.chain
 
--- who has a block: nobody, the header, the present chain, the seat that took it, or the seat whose collection replaced it
+-- who is_listed a block: nobody, the header, the present chain, the seat that took it, or the seat whose collection replaced it
 pub data Owner : Type 0 where
   Free : Owner
   Header : Owner
@@ -111,7 +111,7 @@ owner_by false true = Header
 owner_by false false = Free
 
 abbrev pub first_owner : Origin → ℕ → Owner
-first_owner o block = owner_by (has (named_blocks o.words (shape o) o.chain) block) (block == 0)
+first_owner o block = owner_by (is_listed (named_blocks o.words (shape o) o.chain) block) (block == 0)
 
 abbrev pub first_memory : Origin → Memory
 first_memory o = record {

@@ -5,7 +5,8 @@ use Rattle.pmem_words.specs.Owned.{owned_at}
 use Rattle.pmem_words.specs.declared.owned.OwnedBlock.{OwnedBlock}
 use Rattle.pmem_words.specs.Seats.{Seat}
 use Rattle.persistence.specs.Memory.{Replaced, PendingMark, Cell, index_at, pending_of}
-use Rattle.log_core.specs.Entries.{has, place_in}
+use Rattle.log_image.specs.Chains.{is_listed}
+use Rattle.log_core.specs.Entries.{place_in}
 use Rattle.log_core.specs.Views.{View, view_of, Ghost, Stored}
 use Rattle.log_core.specs.Works.{seat_shape, words_of, owned_block, content_word, MayCountFilled}
 use Rattle.log_core.specs.Needs.{owned_numbers}
@@ -24,11 +25,11 @@ IsMarkedNow cells past pending seat word =
 
 -- a word stored in an owned block is the present one; where it was marked since, no later fence of the seat leaves an earlier value
 pub record StoredHolds (cells : ℕ → Cell) (past : List Replaced) (pending : List PendingMark) (seat q : ℕ) (owned : List ℕ) (stored : Stored) : Type 0 where
-  pub mine : has owned (stored.word / q) ≡ true
+  pub mine : is_listed owned (stored.word / q) ≡ true
   pub present : (cells stored.word).present ≡ stored.value
   pub marked : stored.marked ≡ true → IsMarkedNow cells past pending seat stored.word
 
--- the owned blocks: their contents are of whole blocks, and each has its area; the stored words are as stored; each word of a filled
+-- the owned blocks: their contents are of whole blocks, and each is_listed its area; the stored words are as stored; each word of a filled
 -- block was stored and marked; and only its content is possible in a fenced one
 pub record OwnedHold (cells : ℕ → Cell) (past : List Replaced) (pending : List PendingMark) (seat : ℕ) (g : Ghost) (s : Seat) : Type 0 where
   pub contents : length s.blocks.contents ≡ length s.blocks.owned * words_of s

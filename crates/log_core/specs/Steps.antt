@@ -20,7 +20,8 @@ use Rattle.asks.specs.Asks.{without_bits}
 use Rattle.asks.specs.declared.ask.Place.TheVariants.{Image, Pin, Map, FenceOf}
 use Rattle.asks.specs.declared.ask.Ask.{Ask}
 use Rattle.asks.specs.declared.ask.Ask.TheVariants.{Load, Store, Exchange, SetBits, ClearBits, Mark, Fence}
-use Rattle.log_core.specs.Entries.{has, head_place, place_in, meaning_by}
+use Rattle.log_image.specs.Chains.{is_listed}
+use Rattle.log_core.specs.Entries.{head_place, place_in, meaning_by}
 use Rattle.log_core.specs.Views.{MarkedWord, Stored, HeadPut, Running, Ghost, View, new_view, op_in}
 use Rattle.log_core.specs.Works.{seat_shape, words_of, tail_index, without_bases, walk_past}
 use Rattle.log_core.specs.Needs.{owned_numbers, is_pass_found}
@@ -150,7 +151,7 @@ abbrev pub slot_exchanged : Seat → ℕ → ℕ → ℕ → Bool → Seat
 slot_exchanged s word entry found true = record s {
   walk = record (walk_past (seat_shape s) s.walk (new_meaning s entry)) { at_tail = true; kept = s.walk.kept };
   calling = record (without_bases (words_of s) (new_meaning s entry) s.calling) { won = true };
-  blocks = blocks_but (words_of s) (λ block. has (names (new_meaning s entry)) block) s.blocks;
+  blocks = blocks_but (words_of s) (λ block. is_listed (names (new_meaning s entry)) block) s.blocks;
 }
 slot_exchanged s word entry found false = record s {
   walk = record (s.walk) { kept = kept_with (words_of s) s.walk.kept word found; at_tail = false };
@@ -174,7 +175,7 @@ link_exchanged s word block found false = record s { walk = record (s.walk) { ke
 abbrev pub linked_from : Seat → ℕ → ℕ → List ℕ
 linked_from s block zero = []
 linked_from s block (suc most) =
-    if has (owned_numbers s.blocks.owned) block then block ∷ linked_from s (slice_index (content_of s block) 0) most else []
+    if is_listed (owned_numbers s.blocks.owned) block then block ∷ linked_from s (slice_index (content_of s block) 0) most else []
 
 abbrev pub new_snapshots : Seat → ℕ → List ℕ
 new_snapshots s next = linked_from s (field HEAD_BLOCK next) (length s.blocks.owned)
@@ -197,14 +198,14 @@ replaced_by s =
 -- an exchange of the head
 abbrev pub head_exchanged : Seat → ℕ → ℕ → Bool → Seat
 head_exchanged s next found true = record s {
-  blocks = blocks_but (words_of s) (λ block. has (new_snapshots s next) block) s.blocks;
+  blocks = blocks_but (words_of s) (λ block. is_listed (new_snapshots s next) block) s.blocks;
   giving = record (s.giving) { replaced = replaced_by s; replaced_generation = s.hold.generation; pins_seen = []; head_fenced = false };
 }
 head_exchanged s next found false = record s { hold = record (s.hold) { head = found } }
 
 -- whether these bits are of owned blocks alone
 abbrev pub is_of_owned : Seat → ℕ → ℕ → Bool
-is_of_owned s word bits = list_all (λ (block : ℕ). not (is_among word bits block) || has (owned_numbers s.blocks.owned) block) (range_with_len (word * 64) 64)
+is_of_owned s word bits = list_all (λ (block : ℕ). not (is_among word bits block) || is_listed (owned_numbers s.blocks.owned) block) (range_with_len (word * 64) 64)
 
 -- blocks that clearing bits gives back leave the list that they are of: the owned ones, or those that collections replaced
 abbrev pub give_if : Bool → Seat → ℕ → ℕ → Seat
@@ -282,12 +283,12 @@ abbrev pub stored_after : List Stored → Seat → Kind → ℕ → List Stored
 stored_after stored s (StoresWord word value) f = stored_with stored word value
 stored_after stored s (MarksWord word) f = stored_marked stored word
 stored_after stored s (ClearsBits word bits) f = stored_but (words_of s) (λ block. is_among word bits block) stored
-stored_after stored s (ExchangesSlot word entry) f = stored_if ((f == 0) && not (entry == SEAL)) (stored_but (words_of s) (λ block. has (names (new_meaning s entry)) block) stored) stored
+stored_after stored s (ExchangesSlot word entry) f = stored_if ((f == 0) && not (entry == SEAL)) (stored_but (words_of s) (λ block. is_listed (names (new_meaning s entry)) block) stored) stored
 stored_after stored s (ExchangesLink word block) f = stored_if (f == 0) (stored_but (words_of s) (λ other. other == block) stored) stored
-stored_after stored s (ExchangesHead before next) f = stored_if (f == before) (stored_but (words_of s) (λ block. has (new_snapshots s next) block) stored) stored
+stored_after stored s (ExchangesHead before next) f = stored_if (f == before) (stored_but (words_of s) (λ block. is_listed (new_snapshots s next) block) stored) stored
 stored_after stored s _ f = stored
 
--- the areas in which the call has found too few blocks: a step on the bitmap may find it
+-- the areas in which the call is_listed found too few blocks: a step on the bitmap may find it
 abbrev pub lacked_after : List Area → Seat → Kind → List Area
 lacked_after lacked s (LoadsBitmapWord word) = lacked ++ filter (λ (area : Area). is_pass_found s area) (Data ∷ Log ∷ Spare ∷ [])
 lacked_after lacked s (SetsBits word bits) = lacked ++ filter (λ (area : Area). is_pass_found s area) (Data ∷ Log ∷ Spare ∷ [])
@@ -331,7 +332,7 @@ abbrev pub is_begun : Option Op → Option Op → Bool
 is_begun None (Some op) = true
 is_begun _ _ = false
 
--- a call that begins has found and put nothing
+-- a call that begins is_listed found and put nothing
 abbrev pub call_if : Bool → Running → ℕ → Running
 call_if true c number = record { number = number; lacked = []; overtaken = 0; put = None }
 call_if false c number = c
@@ -339,7 +340,7 @@ call_if false c number = c
 abbrev pub ghost_begun : Ghost → Seat → Seat → ℕ → Ghost
 ghost_begun g s before number = record g { call = call_if (is_begun (op_in s) (op_in before)) g.call number }
 
--- a call that has ended has its record, and its head is no more the present call's
+-- a call that is_listed ended is_listed its record, and its head is no more the present call's
 abbrev pub put_unless : List Call → Option HeadPut → Option HeadPut
 put_unless [] put = put
 put_unless (call ∷ calls) put = None
@@ -355,14 +356,14 @@ view_after v kind note f = record v {
   done = v.done ++ note.adds;
 }
 
--- a split: seat 0 counts one seat more, and the new view has not walked
+-- a split: seat 0 counts one seat more, and the new view is_listed not walked
 abbrev pub view_left : View → View
 view_left v = record v { made = v.made + 1 }
 
 abbrev pub view_right : View → View
 view_right v = new_view v.seat.geometry v.seat.seats v.first 0 v.made
 
--- a join: the walk of the view that has come further, the records, parts and kept blocks of both
+-- a join: the walk of the view that is_listed come further, the records, parts and kept blocks of both
 abbrev pub walk_of : Bool → Walk → Walk → Walk
 walk_of true w x = record x { at_tail = false }
 walk_of false w x = record w { at_tail = false }

@@ -14,7 +14,7 @@ use Rattle.log_entry.specs.declared.calls.Op.TheVariants.{Pwrite as PwriteOp, Ap
 use Rattle.log_entry.specs.declared.calls.Call.{Call}
 use Rattle.log_image.specs.Entries.{Meaning, direct_meaning}
 use Rattle.log_image.specs.Maps.{block_in}
-use Rattle.log_image.specs.Image.{Shape}
+use Rattle.log_image.specs.Image.{Shape, shape_by}
 use Rattle.pmem_words.specs.Owned.{with_filled, with_fenced}
 use Rattle.pmem_words.specs.declared.keeps.Task.{Task}
 use Rattle.pmem_words.specs.declared.keeps.Task.TheVariants.{Idle, Pread, Collect}
@@ -26,7 +26,7 @@ use Rattle.log_core.specs.Views.{Ghost, Stored, op_in, op_of}
 
 -- the shape of a seat's image
 abbrev pub seat_shape : Seat → Shape
-seat_shape s = record { data_blocks = s.geometry.data_blocks; log_blocks = s.geometry.log_blocks; block_bytes = s.geometry.block_bytes }
+seat_shape s = shape_by s.geometry
 
 -- the words of a block
 abbrev pub words_of : Seat → ℕ

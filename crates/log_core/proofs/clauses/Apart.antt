@@ -4,7 +4,8 @@ use Rattle.std.proofs.lemmas.Bool.{eq-eqb}
 use Rattle.std.proofs.lemmas.Nat.{div-mul-add}
 use Rattle.std.proofs.lemmas.List.Folds.{list_any-append}
 use Rattle.persistence.specs.Memory.{Memory, cell}
-use Rattle.log_core.specs.Entries.{has, place_in, LogEntry}
+use Rattle.log_image.specs.Chains.{is_listed}
+use Rattle.log_core.specs.Entries.{place_in, LogEntry}
 use Rattle.log_core.specs.Origin.{Origin, shape, q_of_origin, OwnedBy, LogBlock, Generation}
 use Rattle.log_core.specs.Files.{entries}
 use Rattle.log_core.specs.Cores.{Core, nth_log, log_blocks, chain_names, data_names, is_named}
@@ -22,18 +23,18 @@ either_right true b e = refl
 either_right false b e = e
 
 -- a block is among more
-pub has_left : (first second : List ℕ) (block : ℕ) → has first block ≡ true → has (first ++ second) block ≡ true
-has_left first second block e = list_any-append (λ (other : ℕ). other == block) first second ∙ either_left (has first block) (has second block) e
+pub has_left : (first second : List ℕ) (block : ℕ) → is_listed first block ≡ true → is_listed (first ++ second) block ≡ true
+has_left first second block e = list_any-append (λ (other : ℕ). other == block) first second ∙ either_left (is_listed first block) (is_listed second block) e
 
-pub has_right : (first second : List ℕ) (block : ℕ) → has second block ≡ true → has (first ++ second) block ≡ true
-has_right first second block e = list_any-append (λ (other : ℕ). other == block) first second ∙ either_right (has first block) (has second block) e
+pub has_right : (first second : List ℕ) (block : ℕ) → is_listed second block ≡ true → is_listed (first ++ second) block ≡ true
+has_right first second block e = list_any-append (λ (other : ℕ). other == block) first second ∙ either_right (is_listed first block) (is_listed second block) e
 
 -- a log block of a chain is among the chain's
-pub has_log : (logs : List LogBlock) (cut number : ℕ) → cut ≤ number → number < length logs → has (log_blocks (drop cut logs)) (nth_log logs number).block ≡ true
+pub has_log : (logs : List LogBlock) (cut number : ℕ) → cut ≤ number → number < length logs → is_listed (log_blocks (drop cut logs)) (nth_log logs number).block ≡ true
 has_log [] cut number low inside = absurd (omega (arith, inside))
-has_log (log ∷ logs) zero zero low inside = either_left (log.block == log.block) (has (log_blocks logs) log.block) (eq-eqb log.block log.block refl)
+has_log (log ∷ logs) zero zero low inside = either_left (log.block == log.block) (is_listed (log_blocks logs) log.block) (eq-eqb log.block log.block refl)
 has_log (log ∷ logs) zero (suc number) low inside =
-    either_right (log.block == (nth_log logs number).block) (has (log_blocks logs) (nth_log logs number).block) (has_log logs zero number (omega arith) (omega (arith, inside)))
+    either_right (log.block == (nth_log logs number).block) (is_listed (log_blocks logs) (nth_log logs number).block) (has_log logs zero number (omega arith) (omega (arith, inside)))
 has_log (log ∷ logs) (suc cut) zero low inside = absurd (omega (arith, low))
 has_log (log ∷ logs) (suc cut) (suc number) low inside = has_log logs cut number (omega (arith, low)) (omega (arith, inside))
 
@@ -48,8 +49,8 @@ module _ (o : Origin) (logs : List LogBlock) (g : Generation) where
       has_left (chain_names logs g) (data_names o es g) (nth_log logs number).block (has_right g.snapshots (log_blocks (drop g.cut logs)) (nth_log logs number).block (has_log logs g.cut number low inside))
 
 -- the blocks of a generation's snapshot, and those that it names in the data area
-pub data_is_named : (o : Origin) (logs : List LogBlock) (es : List LogEntry) (g : Generation) (block : ℕ) → has (g.snapshots ++ data_names o es g) block ≡ true → is_named o logs es g block ≡ true
-data_is_named o logs es g block listed = either_of (has g.snapshots block) (has (data_names o es g) block) (sym (list_any-append (λ (other : ℕ). other == block) g.snapshots (data_names o es g)) ∙ listed)
+pub data_is_named : (o : Origin) (logs : List LogBlock) (es : List LogEntry) (g : Generation) (block : ℕ) → is_listed (g.snapshots ++ data_names o es g) block ≡ true → is_named o logs es g block ≡ true
+data_is_named o logs es g block listed = either_of (is_listed g.snapshots block) (is_listed (data_names o es g) block) (sym (list_any-append (λ (other : ℕ). other == block) g.snapshots (data_names o es g)) ∙ listed)
     (λ snapshot. has_left (chain_names logs g) (data_names o es g) block (has_left g.snapshots (log_blocks (drop g.cut logs)) block snapshot))
     (λ named. has_right (chain_names logs g) (data_names o es g) block named)
 

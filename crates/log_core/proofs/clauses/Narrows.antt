@@ -1,10 +1,11 @@
--- A cell that has the same values, of which fewer are possible: what is said of the one is so of the other.
+-- A cell that is_listed the same values, of which fewer are possible: what is said of the one is so of the other.
 use Rattle.std.proofs.Common.{◌≡◌, ◌<◌, ◌≤◌, ◌+◌, ◌∷◌, ◌++◌, ℕ, true, List, [], length, ◌∙◌, ap, arith, slice_index}
 use Rattle.log_image.specs.Image.{Shape, words_in}
 use Rattle.persistence.specs.Memory.{Memory, Cell, cell}
 use Rattle.persistence.specs.Survivors.{value_at}
 use Rattle.persistence.proofs.ValueLemmas.{index_at-most}
-use Rattle.log_core.specs.Entries.{has, head_place, place_in}
+use Rattle.log_image.specs.Chains.{is_listed}
+use Rattle.log_core.specs.Entries.{head_place, place_in}
 use Rattle.log_core.specs.Origin.{Origin, LogBlock, Generation}
 use Rattle.log_core.specs.Certain.{IsCertain, IsGrowing}
 use Rattle.log_core.specs.Contents.{AreRecorded}
@@ -12,7 +13,7 @@ use Rattle.log_core.specs.Order.{HeadsInOrder, LogStands}
 use Rattle.log_core.specs.Pins.{WasHead}
 use Rattle.log_core.specs.Synced.{IsSyncedIn}
 
--- the second cell has the first one's values, and its floor is no lower
+-- the second cell is_listed the first one's values, and its floor is no lower
 pub record Narrows (a b : Cell) : Type 0 where
   pub present : b.present ≡ a.present
   pub past : b.past ≡ a.past
@@ -74,7 +75,7 @@ heads_narrow o before after generations logs narrows heads =
 
 -- recorded blocks, where their words are
 pub recorded_narrow : (image : Shape) (before after : ℕ → Cell) (recorded : ℕ → List ℕ) (blocks : List ℕ) →
-    ((block k : ℕ) → has blocks block ≡ true → k < words_in image → Narrows (before (place_in image block k)) (after (place_in image block k))) →
+    ((block k : ℕ) → is_listed blocks block ≡ true → k < words_in image → Narrows (before (place_in image block k)) (after (place_in image block k))) →
     AreRecorded image before recorded blocks → AreRecorded image after recorded blocks
 recorded_narrow image before after recorded blocks narrows holds block k listed inside =
     certain_narrows (before (place_in image block k)) (after (place_in image block k)) (slice_index (recorded block) k) (narrows block k listed inside) (holds block k listed inside)

@@ -12,7 +12,8 @@ use Rattle.persistence.specs.Survivors.{value_at}
 use Rattle.persistence.proofs.ValueLemmas.{index_at-most}
 use Rattle.log_entry.specs.Fields.{field}
 use Rattle.log_entry.specs.declared.layouts.TheConstants.{HEAD_GENERATION}
-use Rattle.log_core.specs.Entries.{has, place_in, head_place}
+use Rattle.log_image.specs.Chains.{is_listed}
+use Rattle.log_core.specs.Entries.{place_in, head_place}
 use Rattle.log_core.specs.Views.{View, Stored, view_of, spent_view}
 use Rattle.log_core.specs.Origin.{Origin, shape, q_of_origin, first_generation, Owner, OwnedBy}
 use Rattle.log_core.specs.Files.{entries}
@@ -36,12 +37,12 @@ use Rattle.log_core.proofs.clauses.MarkedNow.{marked_now_narrows}
 use Rattle.log_core.proofs.clauses.Apart.{header_cells, block_cells, named_apart, named_cells}
 
 -- an owned block is among the owned
-pub owned_listed : (owned : List OwnedBlock) (place : ℕ) → place < length owned → has (owned_numbers owned) (owned_at owned place).block ≡ true
+pub owned_listed : (owned : List OwnedBlock) (place : ℕ) → place < length owned → is_listed (owned_numbers owned) (owned_at owned place).block ≡ true
 owned_listed [] place inside = absurd (omega (arith, inside))
-owned_listed (b ∷ owned) zero inside = ap (λ (found : Bool). found || has (owned_numbers owned) b.block) (eq-eqb b.block b.block refl)
+owned_listed (b ∷ owned) zero inside = ap (λ (found : Bool). found || is_listed (owned_numbers owned) b.block) (eq-eqb b.block b.block refl)
 owned_listed (b ∷ owned) (suc place) inside = later (b.block == (owned_at owned place).block) (owned_listed owned place (omega (arith, inside)))
   where
-    later : (first : Bool) → has (owned_numbers owned) (owned_at owned place).block ≡ true → (first || has (owned_numbers owned) (owned_at owned place).block) ≡ true
+    later : (first : Bool) → is_listed (owned_numbers owned) (owned_at owned place).block ≡ true → (first || is_listed (owned_numbers owned) (owned_at owned place).block) ≡ true
     later true e = refl
     later false e = e
 
@@ -117,7 +118,7 @@ module _ (o : Origin) (c : Core) (n : ℕ) (m : Memory) (inv : Invariant o c) (l
   }
 
   -- a word of another seat's block
-  mine_cells : (k word : ℕ) → k ≢ n → has (owned_numbers (view_of c.views k).seat.blocks.owned) (word / q_of_origin o) ≡ true → Narrows (cell c.memory word) (cell m word)
+  mine_cells : (k word : ℕ) → k ≢ n → is_listed (owned_numbers (view_of c.views k).seat.blocks.owned) (word / q_of_origin o) ≡ true → Narrows (cell c.memory word) (cell m word)
   mine_cells k word other owned = leaves.cells word (λ mine. (others_apart n k other).other (sym ((inv.owners.seats k).owned.listed (word / q_of_origin o) owned) ∙ mine))
 
   -- a mark of the present value stays one

@@ -4,7 +4,7 @@ use Rattle.std.proofs.Math.Nat.{mul-le-mul_right, lt-div-mul-add}
 use Rattle.log_image.specs.Image.{total}
 use Rattle.pmem_words.specs.Seats.{Seat}
 use Rattle.persistence.specs.Memory.{Memory, PendingMark, cell, pending_of}
-use Rattle.log_core.specs.Entries.{has}
+use Rattle.log_image.specs.Chains.{is_listed}
 use Rattle.log_core.specs.Views.{Ghost, view_of}
 use Rattle.log_core.specs.Origin.{Origin, shape, q_of_origin, OwnedBy, Free}
 use Rattle.log_core.specs.Cores.{Core}
@@ -31,7 +31,7 @@ module _ (o : Origin) (c : Core) (n : ℕ) (s : Seat) (g : Ghost) (pin began : �
   pub same_words : words_of s ≡ q_of_origin o
   same_words = ap Rattle.pmem_words.specs.Seats.q_of geometry
 
-  module _ (word : ℕ) (owned : has (owned_numbers s.blocks.owned) (word / words_of s) ≡ true) where
+  module _ (word : ℕ) (owned : is_listed (owned_numbers s.blocks.owned) (word / words_of s) ≡ true) where
     pub word_owner : c.owner (word / q_of_origin o) ≡ OwnedBy n
     word_owner = subst (λ (q : ℕ). c.owner (word / q) ≡ OwnedBy n) same_words (f.owns.owned.listed (word / words_of s) owned)
 

@@ -8,7 +8,8 @@ use Rattle.pmem_words.specs.Owned.{owned_at, contents_but, owned_but}
 use Rattle.pmem_words.specs.declared.owned.OwnedBlock.{OwnedBlock}
 use Rattle.pmem_words.specs.Seats.{Seat, Blocks}
 use Rattle.persistence.specs.Memory.{Replaced, PendingMark, Cell}
-use Rattle.log_core.specs.Entries.{has, place_in}
+use Rattle.log_image.specs.Chains.{is_listed}
+use Rattle.log_core.specs.Entries.{place_in}
 use Rattle.log_core.specs.Views.{Ghost, Stored}
 use Rattle.log_core.specs.Works.{seat_shape, words_of, owned_block, stored_at}
 use Rattle.log_core.specs.Needs.{owned_numbers}
@@ -119,9 +120,9 @@ module _ (cells : ℕ → Cell) (past : List Replaced) (pending : List PendingMa
   stored_of_left = rw stores (each_left (StoredHolds cells past pending n (words_of s) (owned_numbers s.blocks.owned)) (StoredHolds cells past pending n (words_of s) (owned_numbers (blocks_left s f found).owned))
       (λ (r : Stored). not (f (r.word / words_of s)))
       (λ stored stays holds. record {
-        mine = ap (λ (l : List ℕ). has l (stored.word / words_of s)) (numbers_but f s.blocks.owned)
+        mine = ap (λ (l : List ℕ). is_listed l (stored.word / words_of s)) (numbers_but f s.blocks.owned)
             ∙ (has_filter (λ (block : ℕ). not (f block)) (owned_numbers s.blocks.owned) (stored.word / words_of s)
-            ∙ and_from (not (f (stored.word / words_of s))) (has (owned_numbers s.blocks.owned) (stored.word / words_of s)) stays holds.mine);
+            ∙ and_from (not (f (stored.word / words_of s))) (is_listed (owned_numbers s.blocks.owned) (stored.word / words_of s)) stays holds.mine);
         present = holds.present;
         marked = holds.marked;
       }) g.stored old.stored)

@@ -6,7 +6,8 @@ use Rattle.pmem_words.specs.Owned.{owned_at}
 use Rattle.pmem_words.specs.declared.owned.OwnedBlock.{OwnedBlock}
 use Rattle.pmem_words.specs.Seats.{Seat, Blocks}
 use Rattle.persistence.specs.Memory.{PendingMark, Replaced, Cell}
-use Rattle.log_core.specs.Entries.{place_in, has}
+use Rattle.log_core.specs.Entries.{place_in}
+use Rattle.log_image.specs.Chains.{is_listed}
 use Rattle.log_core.specs.Views.{Ghost, Stored}
 use Rattle.log_core.specs.Works.{seat_shape, words_of, owned_block, content_word, stored_at, MayCountFilled}
 use Rattle.log_core.specs.Needs.{owned_numbers}
@@ -61,7 +62,7 @@ module _ (before after : ℕ → Cell) (past : List Replaced) (pending left : Li
 
   stays : (r : Stored) → StoredHolds before past pending seat (words_of s) (owned_numbers s.blocks.owned) r → StoredHolds after past left seat (words_of s) (owned_numbers t.blocks.owned) r
   stays r holds = record {
-    mine = ap (λ (list : List ℕ). has list (r.word / words_of s)) numbers ∙ holds.mine;
+    mine = ap (λ (list : List ℕ). is_listed list (r.word / words_of s)) numbers ∙ holds.mine;
     present = (narrows r.word).present ∙ holds.present;
     marked = λ marked. inl (present r.word (holds.marked marked));
   }

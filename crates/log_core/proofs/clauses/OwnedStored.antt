@@ -7,7 +7,8 @@ use Rattle.pmem_words.specs.Owned.{owned_at}
 use Rattle.pmem_words.specs.declared.owned.OwnedBlock.{OwnedBlock}
 use Rattle.pmem_words.specs.Seats.{Seat}
 use Rattle.persistence.specs.Memory.{PendingMark, Replaced, Cell, index_at, pending_of}
-use Rattle.log_core.specs.Entries.{has, place_in}
+use Rattle.log_image.specs.Chains.{is_listed}
+use Rattle.log_core.specs.Entries.{place_in}
 use Rattle.log_core.specs.Views.{Ghost, Stored}
 use Rattle.log_core.specs.Works.{seat_shape, words_of, owned_block, content_word, stored_at, MayCountFilled}
 use Rattle.log_core.specs.Needs.{owned_numbers}
@@ -57,7 +58,7 @@ stored_numbers s word = numbers_map (λ o. unfilled_if (word / words_of s) o) (�
 module _ (before after : ℕ → Cell) (past later : List Replaced) (pending : List PendingMark) (seat word value : ℕ) (g : Ghost) (s : Seat) (held : OwnedHold before past pending seat g s)
     (others : (k : ℕ) → k ≢ word → Narrows (before k) (after k)) (here : (after word).present ≡ value)
     (times : (k : ℕ) → AllByRecursion (λ (note : PendingMark). index_at later note.time k ≡ index_at past note.time k) (pending_of seat pending))
-    (mine : has (owned_numbers s.blocks.owned) (word / words_of s) ≡ true) where
+    (mine : is_listed (owned_numbers s.blocks.owned) (word / words_of s) ≡ true) where
   abbrev block : ℕ
   block = word / words_of s
 
@@ -82,7 +83,7 @@ module _ (before after : ℕ → Cell) (past later : List Replaced) (pending : L
 
   stays : (r : Stored) → StoredHolds before past pending seat (words_of s) (owned_numbers s.blocks.owned) r → not (r.word == word) ≡ true → StoredHolds after later pending seat (words_of s) (owned_numbers t.blocks.owned) r
   stays r holds kept = (let narrows = others r.word (λ same. (let e = eq-eqb r.word word same in cc)) in record {
-    mine = ap (λ (list : List ℕ). has list (r.word / words_of s)) numbers ∙ holds.mine;
+    mine = ap (λ (list : List ℕ). is_listed list (r.word / words_of s)) numbers ∙ holds.mine;
     present = narrows.present ∙ holds.present;
     marked = λ marked. marked_now_narrows before after past later pending pending seat r.word narrows refl (times r.word) (holds.marked marked);
   })
@@ -91,7 +92,7 @@ module _ (before after : ℕ → Cell) (past later : List Replaced) (pending : L
   stored_holds = each_push (StoredHolds after later pending seat (words_of s) (owned_numbers t.blocks.owned)) (filter (λ (r : Stored). not (r.word == word)) g.stored) (record { word = word; value = value; marked = false })
       (each_filter (StoredHolds after later pending seat (words_of s) (owned_numbers t.blocks.owned)) (λ (r : Stored). not (r.word == word)) g.stored
       (each_weaker (StoredHolds before past pending seat (words_of s) (owned_numbers s.blocks.owned)) (λ (r : Stored). not (r.word == word) ≡ true → StoredHolds after later pending seat (words_of s) (owned_numbers t.blocks.owned) r) g.stored stays held.stored))
-      (record { mine = ap (λ (list : List ℕ). has list block) numbers ∙ mine; present = here; marked = λ marked. cc })
+      (record { mine = ap (λ (list : List ℕ). is_listed list block) numbers ∙ mine; present = here; marked = λ marked. cc })
 
   module _ (h : Ghost) (kept : h.stored ≡ stored_with g.stored word value) where
     filled_holds : (place : ℕ) → place < length t.blocks.owned → (owned_at t.blocks.owned place).filled ≡ true → MayCountFilled h t place

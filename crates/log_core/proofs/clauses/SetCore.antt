@@ -1,12 +1,13 @@
 -- The invariant stays where a step of one seat replaces its view, and changes the memory and the owners: the others are left what they
--- know, and what has to hold of the new view does.
+-- know, and what is_listed to hold of the new view does.
 use Rattle.std.proofs.Common.{◌≡◌, ◌≢◌, ◌<◌, ◌≤◌, ◌+◌, ◌-◌, ℕ, true, nat_lt, List, [], length, refl, sym, ◌∙◌, ap, subst, arith, inl, inr, ⊎_elim, ◌⊎◌, slice_set, slice_index}
 use Rattle.std.specs.List.{AllByRecursion}
 use Rattle.std.proofs.lemmas.List.{length-set}
 use Rattle.log_entry.specs.declared.calls.Call.{Call}
 use Rattle.pmem_words.specs.Seats.{Seat}
 use Rattle.persistence.specs.Memory.{Memory, PendingMark, cell}
-use Rattle.log_core.specs.Entries.{has, head_place}
+use Rattle.log_image.specs.Chains.{is_listed}
+use Rattle.log_core.specs.Entries.{head_place}
 use Rattle.log_core.specs.Views.{View, Ghost, view_of, spent_view}
 use Rattle.log_core.specs.Origin.{Origin, shape, q_of_origin, first_generation, Owner, OwnedBy, LeftTo}
 use Rattle.log_core.specs.Files.{entries, end_of}
@@ -189,8 +190,8 @@ module _ (o : Origin) (c : Core) (n : ℕ) (s : Seat) (g : Ghost) (m : Memory) (
   seats_once = record {
     once = λ seat. parts_set c.views n w seat refl here ∙ (inv.records.seats_once.once seat ∙ ap (λ (k : ℕ). one_if (nat_lt seat k)) (sym count));
     writes = subst (λ (k : ℕ). AllByRecursion (λ (write : Rattle.log_core.specs.Files.Write). write.seat < k) c.history) (sym count) inv.records.seats_once.writes;
-    records = all_set (λ (v : View). AllByRecursion (λ (call : Call). has v.parts call.seat ≡ true) v.done) c.views n w
-        (all_at (λ (v : View). AllByRecursion (λ (call : Call). has v.parts call.seat ≡ true) v.done) c.views n here inv.records.seats_once.records) inv.records.seats_once.records;
+    records = all_set (λ (v : View). AllByRecursion (λ (call : Call). is_listed v.parts call.seat ≡ true) v.done) c.views n w
+        (all_at (λ (v : View). AllByRecursion (λ (call : Call). is_listed v.parts call.seat ≡ true) v.done) c.views n here inv.records.seats_once.records) inv.records.seats_once.records;
   }
 
   records : Records o m views c.history c.generations (λ seat. slice_index began seat)

@@ -11,7 +11,7 @@ use Rattle.pmem_words.specs.Owned.{owned_at}
 use Rattle.pmem_words.specs.declared.owned.OwnedBlock.{OwnedBlock}
 use Rattle.pmem_words.specs.Seats.{Seat, Blocks}
 use Rattle.persistence.specs.Memory.{Replaced, PendingMark, Cell}
-use Rattle.log_core.specs.Entries.{has}
+use Rattle.log_image.specs.Chains.{is_listed}
 use Rattle.log_core.specs.Views.{Ghost}
 use Rattle.log_core.specs.Works.{seat_shape, words_of}
 use Rattle.log_core.specs.Needs.{owned_numbers}
@@ -56,9 +56,9 @@ module _ (cells : ℕ → Cell) (past : List Replaced) (pending : List PendingMa
   stored_taken : AllByRecursion (StoredHolds cells past pending n (words_of s) (owned_numbers (blocks_taken s blocks found).owned)) h.stored
   stored_taken = rw same (each_weaker (StoredHolds cells past pending n (words_of s) (owned_numbers s.blocks.owned)) (StoredHolds cells past pending n (words_of s) (owned_numbers (blocks_taken s blocks found).owned)) g.stored
       (λ stored holds. record {
-        mine = ap (λ (l : List ℕ). has l (stored.word / words_of s)) (numbers_taken (seat_shape s) s.blocks.owned blocks)
+        mine = ap (λ (l : List ℕ). is_listed l (stored.word / words_of s)) (numbers_taken (seat_shape s) s.blocks.owned blocks)
             ∙ (list_any-append (λ (other : ℕ). other == stored.word / words_of s) (owned_numbers s.blocks.owned) blocks
-            ∙ or_left (has (owned_numbers s.blocks.owned) (stored.word / words_of s)) (has blocks (stored.word / words_of s)) holds.mine);
+            ∙ or_left (is_listed (owned_numbers s.blocks.owned) (stored.word / words_of s)) (is_listed blocks (stored.word / words_of s)) holds.mine);
         present = holds.present;
         marked = holds.marked;
       }) old.stored)

@@ -1,4 +1,4 @@
--- Who has each block after bits of the bitmap are set: a seat has the blocks gained.
+-- Who is_listed each block after bits of the bitmap are set: a seat is_listed the blocks gained.
 use Rattle.std.proofs.Common.{◌≡◌, ◌≢◌, ◌⊎◌, ℕ, ◌<◌, ◌++◌, ◌==◌, ◌||◌, Bool, true, false, if◌then◌else◌, List, length, map, refl, sym, ◌∙◌, arith, inl, inr, subst, slice_index, slice_set, bit_or}
 use Rattle.std.proofs.lemmas.Bool.{false≢true, or_cases, or_left, or_right, and_parts, false_from_ne_true}
 use Rattle.std.proofs.lemmas.List.Folds.{list_any-append}
@@ -7,7 +7,7 @@ use Rattle.log_image.specs.Taken.{bit_of}
 use Rattle.log_image.proofs.NameLemmas.{different_join}
 use Rattle.pmem_words.specs.Owned.{is_among}
 use Rattle.pmem_words.specs.declared.owned.OwnedBlock.{OwnedBlock}
-use Rattle.log_core.specs.Entries.{has}
+use Rattle.log_image.specs.Chains.{is_listed}
 use Rattle.log_core.specs.Origin.{Owner, Free, Header, InChain, OwnedBy, LeftTo}
 use Rattle.log_core.specs.Needs.{owned_numbers}
 use Rattle.log_core.specs.Steps.{is_gained, gained, taken_block}
@@ -15,7 +15,7 @@ use Rattle.log_core.specs.Owners.{bit_for, BitsFit, IsListOf}
 use Rattle.log_core.proofs.clauses.BitWords.{taken_set, gained_clear}
 use Rattle.log_core.proofs.BlockLists.{has_gained, gained_once, numbers_taken}
 
--- a clear bit is that of a block that nobody has
+-- a clear bit is that of a block that nobody is_listed
 free_from_bit : (whose : Owner) → bit_for whose ≡ 0 → whose ≡ Free
 free_from_bit Free e = refl
 free_from_bit Header e = cc
@@ -29,7 +29,7 @@ not_header n e = cc
 not_free : (n : ℕ) → OwnedBy n ≡ Free → ⊥
 not_free n e = cc
 
--- who has each block then: a seat sets bits of a word, of which some were set
+-- who is_listed each block then: a seat sets bits of a word, of which some were set
 abbrev pub owner_set : (ℕ → Owner) → ℕ → ℕ → ℕ → ℕ → ℕ → Owner
 owner_set owner n word bits found block = if is_gained word bits found block then OwnedBy n else owner block
 
@@ -84,22 +84,22 @@ module _ (image : Shape) (taken : List ℕ) (owner : ℕ → Owner) (n word bits
   pub set_list : (areas : Shape) (owned : List OwnedBlock) → IsListOf owner (owned_numbers owned) (OwnedBy n) →
       IsListOf whose (owned_numbers (owned ++ map (taken_block areas) (gained word bits (slice_index taken word)))) (OwnedBy n)
   set_list areas owned list = subst (λ (blocks : List ℕ). IsListOf whose blocks (OwnedBy n)) (sym (numbers_taken areas owned (gained word bits (slice_index taken word)))) (record {
-    listed = λ block some. listed_is block (gains block) refl (or_cases (has (owned_numbers owned) block) (has (gained word bits (slice_index taken word)) block) (sym (joined block) ∙ some));
+    listed = λ block some. listed_is block (gains block) refl (or_cases (is_listed (owned_numbers owned) block) (is_listed (gained word bits (slice_index taken word)) block) (sym (joined block) ∙ some));
     all = λ block is. joined block ∙ all_is block (gains block) refl is;
     once = different_join (owned_numbers owned) (gained word bits (slice_index taken word)) list.once (gained_once word bits (slice_index taken word)) apart;
   })
     where
-      joined : (block : ℕ) → has (owned_numbers owned ++ gained word bits (slice_index taken word)) block ≡ (has (owned_numbers owned) block || has (gained word bits (slice_index taken word)) block)
+      joined : (block : ℕ) → is_listed (owned_numbers owned ++ gained word bits (slice_index taken word)) block ≡ (is_listed (owned_numbers owned) block || is_listed (gained word bits (slice_index taken word)) block)
       joined block = list_any-append (λ (other : ℕ). other == block) (owned_numbers owned) (gained word bits (slice_index taken word))
 
-      listed_is : (block : ℕ) (is : Bool) → gains block ≡ is → (has (owned_numbers owned) block ≡ true) ⊎ (has (gained word bits (slice_index taken word)) block ≡ true) → (if is then OwnedBy n else owner block) ≡ OwnedBy n
+      listed_is : (block : ℕ) (is : Bool) → gains block ≡ is → (is_listed (owned_numbers owned) block ≡ true) ⊎ (is_listed (gained word bits (slice_index taken word)) block ≡ true) → (if is then OwnedBy n else owner block) ≡ OwnedBy n
       listed_is block true e some = refl
       listed_is block false e (inl before) = list.listed block before
       listed_is block false e (inr new) = absurd (false≢true (sym e ∙ (sym (has_gained word bits (slice_index taken word) block) ∙ new)))
 
-      all_is : (block : ℕ) (is : Bool) → gains block ≡ is → (if is then OwnedBy n else owner block) ≡ OwnedBy n → (has (owned_numbers owned) block || has (gained word bits (slice_index taken word)) block) ≡ true
-      all_is block true e is = or_right (has (owned_numbers owned) block) (has (gained word bits (slice_index taken word)) block) (has_gained word bits (slice_index taken word) block ∙ e)
-      all_is block false e is = or_left (has (owned_numbers owned) block) (has (gained word bits (slice_index taken word)) block) (list.all block is)
+      all_is : (block : ℕ) (is : Bool) → gains block ≡ is → (if is then OwnedBy n else owner block) ≡ OwnedBy n → (is_listed (owned_numbers owned) block || is_listed (gained word bits (slice_index taken word)) block) ≡ true
+      all_is block true e is = or_right (is_listed (owned_numbers owned) block) (is_listed (gained word bits (slice_index taken word)) block) (has_gained word bits (slice_index taken word) block ∙ e)
+      all_is block false e is = or_left (is_listed (owned_numbers owned) block) (is_listed (gained word bits (slice_index taken word)) block) (list.all block is)
 
-      apart : (block : ℕ) → has (owned_numbers owned) block ≡ true → has (gained word bits (slice_index taken word)) block ≡ false
+      apart : (block : ℕ) → is_listed (owned_numbers owned) block ≡ true → is_listed (gained word bits (slice_index taken word)) block ≡ false
       apart block before = has_gained word bits (slice_index taken word) block ∙ false_from_ne_true (gains block) (λ is. not_free n (sym (list.listed block before) ∙ was_free block is))

@@ -1,4 +1,4 @@
--- A clearing of bits of owned blocks gives these back: nobody has them then, and nothing is known of their words.
+-- A clearing of bits of owned blocks gives these back: nobody is_listed them then, and nothing is known of their words.
 use Rattle.std.proofs.Common.{◌≡◌, ◌≢◌, ℕ, ◌*◌, ◌<◌, ◌||◌, not, Bool, true, false, List, [], length, refl, sym, subst, slice_index}
 use Rattle.std.specs.List.{range_with_len}
 use Rattle.std.proofs.lemmas.List.{length-set}
@@ -9,7 +9,7 @@ use Rattle.asks.specs.Asks.{without_bits}
 use Rattle.asks.specs.declared.ask.Place.TheVariants.{Map}
 use Rattle.asks.specs.declared.ask.Ask.TheVariants.{ClearBits}
 use Rattle.persistence.specs.Memory.{Memory, cell, memory_after}
-use Rattle.log_core.specs.Entries.{has}
+use Rattle.log_image.specs.Chains.{is_listed}
 use Rattle.log_core.specs.Views.{Ghost, Stored, view_of}
 use Rattle.log_core.specs.Origin.{Origin, shape, Owner}
 use Rattle.log_core.specs.Cores.{Core}
@@ -33,9 +33,9 @@ other_true true b either is = either
 other_true false b either is = cc
 
 -- where bits are of owned blocks alone, each block among them is owned
-pub all_owned : (s : Seat) (word bits : ℕ) → is_of_owned s word bits ≡ true → (block : ℕ) → is_among word bits block ≡ true → has (owned_numbers s.blocks.owned) block ≡ true
-all_owned s word bits all block among = other_true (is_among word bits block) (has (owned_numbers s.blocks.owned) block)
-    (test_in (λ (other : ℕ). not (is_among word bits other) || has (owned_numbers s.blocks.owned) other) (range_with_len (word * 64) 64) block all (among_range word bits block among)) among
+pub all_owned : (s : Seat) (word bits : ℕ) → is_of_owned s word bits ≡ true → (block : ℕ) → is_among word bits block ≡ true → is_listed (owned_numbers s.blocks.owned) block ≡ true
+all_owned s word bits all block among = other_true (is_among word bits block) (is_listed (owned_numbers s.blocks.owned) block)
+    (test_in (λ (other : ℕ). not (is_among word bits other) || is_listed (owned_numbers s.blocks.owned) other) (range_with_len (word * 64) 64) block all (among_range word bits block among)) among
 
 module _ (o : Origin) (c : Core) (n : ℕ) (s : Seat) (g : Ghost) (pin began word bits : ℕ) (inv : Invariant o c) (f : Knows o c n s g pin began) (unspent : (view_of c.views n).parts ≢ []) (may : MayClearBits s o.seats word bits)
     (of_owned : is_of_owned s word bits ≡ true) where
@@ -60,7 +60,7 @@ module _ (o : Origin) (c : Core) (n : ℕ) (s : Seat) (g : Ghost) (pin began wor
   inside : word < length c.memory.now.taken
   inside = word_inside o c n s g pin began inv f unspent word may.inside
 
-  mine : (block : ℕ) → is_among word bits block ≡ true → has (owned_numbers s.blocks.owned) block ≡ true
+  mine : (block : ℕ) → is_among word bits block ≡ true → is_listed (owned_numbers s.blocks.owned) block ≡ true
   mine = all_owned s word bits of_owned
 
   pub clears_leaves : Leaves o c n left

@@ -2,7 +2,7 @@
 use Rattle.std.proofs.Common.{◌≡◌, ◌≢◌, ◌⊎◌, ◌≤◌, ◌<◌, ℕ, zero, suc, Bool, true, false, ◌&&◌, ◌||◌, ◌==◌, nat_lt, not, List, [], ◌∷◌, length, slice_index, refl, subst, inl, inr, arith}
 use Rattle.std.proofs.lemmas.Bool.{false≢true, and_parts, or_cases, cases_eq, eqb-true, ltb-true}
 use Rattle.persistence.specs.Memory.{Cell}
-use Rattle.log_core.specs.Entries.{has}
+use Rattle.log_image.specs.Chains.{is_listed}
 use Rattle.log_core.specs.Certain.{IsCertain, IsGrowing}
 
 abbrev pub all_below : ℕ → (ℕ → Bool) → Bool
@@ -34,11 +34,11 @@ abbrev pub all_in : (ℕ → Bool) → List ℕ → Bool
 all_in f [] = true
 all_in f (x ∷ xs) = f x && all_in f xs
 
-pub in_all : (f : ℕ → Bool) (xs : List ℕ) (b : ℕ) → all_in f xs ≡ true → has xs b ≡ true → f b ≡ true
+pub in_all : (f : ℕ → Bool) (xs : List ℕ) (b : ℕ) → all_in f xs ≡ true → is_listed xs b ≡ true → f b ≡ true
 in_all f [] b all member = absurd (false≢true member)
 in_all f (x ∷ xs) b all member = go (x == b) refl member (in_all f xs b (and_parts (f x) (all_in f xs) all).1)
   where
-    go : (c : Bool) → (x == b) ≡ c → (c || has xs b) ≡ true → (has xs b ≡ true → f b ≡ true) → f b ≡ true
+    go : (c : Bool) → (x == b) ≡ c → (c || is_listed xs b) ≡ true → (is_listed xs b ≡ true → f b ≡ true) → f b ≡ true
     go true same either rest = subst (λ (y : ℕ). f y ≡ true) (eqb-true x b same) (and_parts (f x) (all_in f xs) all).0
     go false other either rest = rest either
 

@@ -3,7 +3,7 @@ use Rattle.std.proofs.Common.{◌≡◌, ◌<◌, ◌+◌, ◌*◌, ℕ, zero, s
 use Rattle.std.proofs.lemmas.Bool.{false≢true}
 use Rattle.pmem_words.specs.Owned.{owned_at}
 use Rattle.persistence.specs.Memory.{cell}
-use Rattle.log_core.specs.Entries.{has}
+use Rattle.log_image.specs.Chains.{is_listed}
 use Rattle.log_core.specs.Views.{View, view_of}
 use Rattle.log_core.specs.Works.{owned_block, content_word}
 use Rattle.log_core.specs.Needs.{owned_numbers}
@@ -17,7 +17,7 @@ use Rattle.log_core.proofs.row_checks.RowsTaken.{all_among}
 
 pub bit_past_the_word : BitPastTheWord
 bit_past_the_word = (
-  OfOwned (all_among past_the_word (λ b. has (owned_numbers (view_of collected.views 1).seat.blocks.owned) b) refl),
+  OfOwned (all_among past_the_word (λ b. is_listed (owned_numbers (view_of collected.views 1).seat.blocks.owned) b) refl),
   refl,
   refl,
   λ owners. (let bit = owners.bits.bits 1 (omega arith) in omega (arith, bit)),

@@ -3,7 +3,7 @@ use Rattle.std.proofs.Common.{◌≡◌, ◌⊎◌, ◌≤◌, ◌<◌, ◌||◌
 use Rattle.std.proofs.lemmas.Bool.{false≢true, true≢false}
 use Rattle.pmem_words.specs.Owned.{is_among}
 use Rattle.pmem_words.specs.Seats.{Seat}
-use Rattle.log_core.specs.Entries.{has}
+use Rattle.log_image.specs.Chains.{is_listed}
 use Rattle.log_core.specs.Views.{View, view_of}
 use Rattle.log_core.specs.Origin.{Origin, Generation}
 use Rattle.log_core.specs.Cores.{IsKept, IsPinned}
@@ -48,11 +48,11 @@ each_clear (suc (suc seat)) less = absurd (omega (arith, less))
 pub bits_cleared : BitsCleared
 bits_cleared = (
   refl,
-  record { inside = omega arith; small = omega arith; given = OfReplaced (all_among 8 (λ block. has (view_of scan_clear.views 0).seat.giving.replaced block) refl) refl (record { whole = refl; each = each_clear }) },
+  record { inside = omega arith; small = omega arith; given = OfReplaced (all_among 8 (λ block. is_listed (view_of scan_clear.views 0).seat.giving.replaced block) refl) refl (record { whole = refl; each = each_clear }) },
   refl,
   refl,
   refl,
-  record { inside = omega arith; small = omega arith; given = OfOwned (all_among 4 (λ block. has (owned_numbers (view_of collected.views 1).seat.blocks.owned) block) refl) },
+  record { inside = omega arith; small = omega arith; given = OfOwned (all_among 4 (λ block. is_listed (owned_numbers (view_of collected.views 1).seat.blocks.owned) block) refl) },
   refl,
   refl,
   refl,
@@ -60,14 +60,14 @@ bits_cleared = (
 )
 
 -- a block that is neither owned nor kept from earlier, and may not be given back of the replaced ones
-none_given : (s : Seat) (bits block : ℕ) → is_among 0 bits block ≡ true → has (owned_numbers s.blocks.owned) block ≡ false → has s.giving.limbo block ≡ false
-    → (has s.giving.replaced block ≡ true → s.giving.head_fenced ≡ true → IsClearScan s 2 s.giving.replaced_generation → ⊥) → AreGivenBack s 2 0 bits → ⊥
+none_given : (s : Seat) (bits block : ℕ) → is_among 0 bits block ≡ true → is_listed (owned_numbers s.blocks.owned) block ≡ false → is_listed s.giving.limbo block ≡ false
+    → (is_listed s.giving.replaced block ≡ true → s.giving.head_fenced ≡ true → IsClearScan s 2 s.giving.replaced_generation → ⊥) → AreGivenBack s 2 0 bits → ⊥
 none_given s bits block among owned limbo replaced (OfOwned all) = false≢true (sym owned ∙ all block among)
 none_given s bits block among owned limbo replaced (OfReplaced all sure scan) = replaced (all block among) sure scan
 none_given s bits block among owned limbo replaced (OfLimbo all scan) = false≢true (sym limbo ∙ all block among)
 
-no_clear : (s : Seat) (bits block : ℕ) → is_among 0 bits block ≡ true → has (owned_numbers s.blocks.owned) block ≡ false → has s.giving.limbo block ≡ false
-    → (has s.giving.replaced block ≡ true → s.giving.head_fenced ≡ true → IsClearScan s 2 s.giving.replaced_generation → ⊥) → MayClearBits s 2 0 bits → ⊥
+no_clear : (s : Seat) (bits block : ℕ) → is_among 0 bits block ≡ true → is_listed (owned_numbers s.blocks.owned) block ≡ false → is_listed s.giving.limbo block ≡ false
+    → (is_listed s.giving.replaced block ≡ true → s.giving.head_fenced ≡ true → IsClearScan s 2 s.giving.replaced_generation → ⊥) → MayClearBits s 2 0 bits → ⊥
 no_clear s bits block among owned limbo replaced may = none_given s bits block among owned limbo replaced may.given
 
 held_by : (pin : ℕ) → pin ≡ 1 → (pin ≡ 0) ⊎ (1 < pin) → ⊥

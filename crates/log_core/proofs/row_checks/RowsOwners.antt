@@ -4,7 +4,7 @@ use Rattle.std.proofs.lemmas.Bool.{false≢true, eqb-true, ltb-true, cases_lt}
 use Rattle.std.proofs.lemmas.Bool.Decides.{nat_tests}
 use Rattle.log_image.specs.Image.{is_in_data, is_in_log}
 use Rattle.log_image.specs.Taken.{bit_of}
-use Rattle.log_core.specs.Entries.{has}
+use Rattle.log_image.specs.Chains.{is_listed}
 use Rattle.log_core.specs.Origin.{Owner, Free, Header, InChain, OwnedBy, LeftTo}
 use Rattle.log_core.specs.Files.{entries}
 use Rattle.log_core.specs.Order.{nth_generation}
@@ -16,7 +16,7 @@ use Rattle.log_core.specs.worked_rows.Rows.{collected}
 use Rattle.log_core.specs.worked_rows.Accepted.{OwnersStand}
 use Rattle.log_core.proofs.row_checks.RowChecks.{all_below, below_all, below_same, in_all, implied}
 
--- no block past the bitmap's first word has an owner
+-- no block past the bitmap's first word is_listed an owner
 far_free : (block : ℕ) → 64 ≤ block → collected.owner block ≡ Free
 far_free block above =
     let five : (5 == block) ≡ false = grind (arith, nat_tests, above) in
@@ -92,11 +92,11 @@ left_of seat (OwnedBy n) same = absurd (false≢true same)
 few_seats : (block seat : ℕ) → seat_of (collected.owner block) ≡ seat → seat < 2
 few_seats block seat same = (let less = ltb-true (seat_of (collected.owner block)) 2 (by_owner (λ w b. nat_lt (seat_of w) 2) refl (λ b. refl) block) in omega (arith, less, same))
 
-owned_list : (seat : ℕ) (blocks : List ℕ) → all_below 64 (λ b. not (is_owned seat (collected.owner b)) || has blocks b) ≡ true → (block : ℕ) → collected.owner block ≡ OwnedBy seat → is_owned seat (OwnedBy seat) ≡ true → has blocks block ≡ true
-owned_list seat blocks all block same itself = implied (is_owned seat (collected.owner block)) (has blocks block) (by_owner (λ w b. not (is_owned seat w) || has blocks b) all (λ b. refl) block) (ap (λ (w : Owner). is_owned seat w) same ∙ itself)
+owned_list : (seat : ℕ) (blocks : List ℕ) → all_below 64 (λ b. not (is_owned seat (collected.owner b)) || is_listed blocks b) ≡ true → (block : ℕ) → collected.owner block ≡ OwnedBy seat → is_owned seat (OwnedBy seat) ≡ true → is_listed blocks block ≡ true
+owned_list seat blocks all block same itself = implied (is_owned seat (collected.owner block)) (is_listed blocks block) (by_owner (λ w b. not (is_owned seat w) || is_listed blocks b) all (λ b. refl) block) (ap (λ (w : Owner). is_owned seat w) same ∙ itself)
 
-left_list : (seat : ℕ) (blocks : List ℕ) → all_below 64 (λ b. not (is_left seat (collected.owner b)) || has blocks b) ≡ true → (block : ℕ) → collected.owner block ≡ LeftTo seat → is_left seat (LeftTo seat) ≡ true → has blocks block ≡ true
-left_list seat blocks all block same itself = implied (is_left seat (collected.owner block)) (has blocks block) (by_owner (λ w b. not (is_left seat w) || has blocks b) all (λ b. refl) block) (ap (λ (w : Owner). is_left seat w) same ∙ itself)
+left_list : (seat : ℕ) (blocks : List ℕ) → all_below 64 (λ b. not (is_left seat (collected.owner b)) || is_listed blocks b) ≡ true → (block : ℕ) → collected.owner block ≡ LeftTo seat → is_left seat (LeftTo seat) ≡ true → is_listed blocks block ≡ true
+left_list seat blocks all block same itself = implied (is_left seat (collected.owner block)) (is_listed blocks block) (by_owner (λ w b. not (is_left seat w) || is_listed blocks b) all (λ b. refl) block) (ap (λ (w : Owner). is_left seat w) same ∙ itself)
 
 seats_own : (seat : ℕ) → SeatOwns collected.owner seat (view_of collected.views seat).seat
 seats_own zero = record {

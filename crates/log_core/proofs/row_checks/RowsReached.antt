@@ -14,7 +14,7 @@ use Rattle.log_entry.specs.declared.calls.Op.{Op}
 use Rattle.pmem_words.specs.declared.keeps.Task.TheVariants.{Pwrite, Sync}
 use Rattle.asks.specs.declared.ask.Ask.TheVariants.{Load, Store, SetBits, ClearBits, Mark, Fence}
 use Rattle.asks.specs.declared.ask.Place.TheVariants.{Image, Map}
-use Rattle.log_core.specs.Entries.{has}
+use Rattle.log_image.specs.Chains.{is_listed}
 use Rattle.log_core.specs.Views.{view_of, op_in}
 use Rattle.log_core.specs.Works.{SetsWord, CountsFilled, MaySetWord, state_after_work, seat_shape, stored_at, content_word}
 use Rattle.log_core.specs.Needs.{owned_numbers, is_in_area}
@@ -107,7 +107,7 @@ fenced_reached = reach marked_reached (step_allowed image_a own_marked 0 1 Fence
 
 given_reached : IsReached image_a own_given
 given_reached = reach fenced_reached (step_allowed image_a own_fenced 0 1 (ClearBits (Map 0) 2) [] (omega arith) (one_part 0) tt refl
-    (record { inside = omega arith; small = omega arith; given = Rattle.log_core.specs.May.AreGivenBack.OfOwned (all_among 2 (λ block. has (owned_numbers (seat_zero own_fenced).blocks.owned) block) refl) }) refl refl)
+    (record { inside = omega arith; small = omega arith; given = Rattle.log_core.specs.May.AreGivenBack.OfOwned (all_among 2 (λ block. is_listed (owned_numbers (seat_zero own_fenced).blocks.owned) block) refl) }) refl refl)
 
 pub block_runs : BlockRuns
 block_runs = (

@@ -6,7 +6,7 @@ use Rattle.log_image.specs.Entries.{direct_meaning}
 use Rattle.log_image.proofs.HoldingLemmas.{names_none}
 use Rattle.pmem_words.specs.Maps.{map_at as mapped_at}
 use Rattle.persistence.specs.Memory.{cell}
-use Rattle.log_core.specs.Entries.{has}
+use Rattle.log_image.specs.Chains.{is_listed}
 use Rattle.log_core.specs.Views.{view_of}
 use Rattle.log_core.specs.Files.{entries, history_map_at}
 use Rattle.log_core.specs.Cores.{is_named, generation_at}
@@ -139,7 +139,7 @@ owned_stands (suc zero) = record {
 owned_stands (suc (suc seat)) = record { contents = refl; areas = tt; stored = tt; filled = λ place less. absurd (omega (arith, less)); fenced = λ place word less. absurd (omega (arith, less)) }
 
 -- the second generation does not name block 3
-not_named : (block later : ℕ) → has (3 ∷ []) block ≡ true → 1 < later → later ≤ 2 → is_named image_a collected.logs (entries image_a collected.history) (generation_at image_a collected.generations later) block ≡ false
+not_named : (block later : ℕ) → is_listed (3 ∷ []) block ≡ true → 1 < later → later ≤ 2 → is_named image_a collected.logs (entries image_a collected.history) (generation_at image_a collected.generations later) block ≡ false
 not_named block zero member from upto = absurd (omega (arith, from))
 not_named block (suc zero) member from upto = absurd (omega (arith, from))
 not_named block (suc (suc zero)) member from upto =

@@ -6,12 +6,12 @@ use Rattle.log_entry.specs.Shape.{longest_of}
 use Rattle.log_entry.specs.declared.layouts.TheConstants.{INDIRECT_BLOCK}
 use Rattle.log_image.specs.Image.{Shape, words_in, block_words, is_in_data}
 use Rattle.log_image.specs.Entries.{meaning}
-use Rattle.log_image.specs.Chains.{logs_of}
+use Rattle.log_image.specs.Chains.{logs_of, is_listed}
 use Rattle.log_image.specs.Format.{is_log_entry, is_direct, is_indirect, is_indirect_block, fits}
 use Rattle.log_image.specs.Positions.{log_words}
 use Rattle.log_image.proofs.NameLemmas.{all_good}
 use Rattle.persistence.specs.Memory.{cell}
-use Rattle.log_core.specs.Entries.{has, place_in, LogEntry, no_entry, entry_by}
+use Rattle.log_core.specs.Entries.{place_in, LogEntry, no_entry, entry_by}
 use Rattle.log_core.specs.Views.{View}
 use Rattle.log_core.specs.Origin.{Origin, shape, first_recorded, first_logs, first_memory, first_owner, first_entries, start_base, start_generation}
 use Rattle.log_core.specs.Files.{entries}
@@ -51,7 +51,7 @@ module _ (o : Origin) (s : Facts o) where
   }
 
   long_block : (block : ℕ) → is_named o (first_logs o) (entries o []) (start_generation o) block ≡ true → length (first_recorded o block) ≡ words_in (shape o)
-  long_block block inside = block_long o s block (named_inside o s block (sym (ap (λ (l : List ℕ). has l block) (named_is o s)) ∙ inside)).1
+  long_block block inside = block_long o s block (named_inside o s block (sym (ap (λ (l : List ℕ). is_listed l block) (named_is o s)) ∙ inside)).1
 
   recorded_words : (names : List ℕ) → AreRecorded (shape o) (λ word. cell (first_memory o) word) (first_recorded o) names
   recorded_words names block k inside before = certain_at o (place_in (shape o) block k) (get_or (first_recorded o block) k 0) (word_of o s block k before)

@@ -1,4 +1,4 @@
--- Who has each block at a start.
+-- Who is_listed each block at a start.
 use Rattle.std.proofs.Common.{◌≡◌, ◌≢◌, ◌⊎◌, ℕ, zero, suc, ◌+◌, ◌-◌, ◌<◌, ◌==◌, ◌||◌, Bool, true, false, List, [], ◌∷◌, ◌++◌, drop, map, refl, sym, ap, ◌∙◌, arith, inl, inr, if◌then◌else◌, append-nil}
 use Rattle.std.specs.Prelude.{nat_le, nat_lt}
 use Rattle.std.proofs.lemmas.Bool.{false≢true, eqb-true, or_cases, and_parts, leb-true, ltb-true, false_from_ne_true}
@@ -6,11 +6,11 @@ use Rattle.std.proofs.lemmas.List.Folds.{list_any-append}
 use Rattle.std.proofs.lemmas.Grind.{flat_map-append}
 use Rattle.log_image.specs.Image.{Shape, total, is_in_data, is_in_log, block_words}
 use Rattle.log_image.specs.Entries.{meaning, names, all_names}
-use Rattle.log_image.specs.Chains.{snapshots_of}
+use Rattle.log_image.specs.Chains.{snapshots_of, is_listed}
 use Rattle.log_image.specs.Positions.{log_words, log_entries, entries_of}
 use Rattle.log_image.specs.Taken.{named_blocks}
 use Rattle.log_image.proofs.NameLemmas.{test_in, names_in_data, not_data, different_join}
-use Rattle.log_core.specs.Entries.{has, LogEntry, entry_by, entry_names}
+use Rattle.log_core.specs.Entries.{LogEntry, entry_by, entry_names}
 use Rattle.log_core.specs.Views.{View}
 use Rattle.log_core.specs.Origin.{Origin, shape, Free, Header, InChain, OwnedBy, LeftTo, owner_by, first_owner, first_recorded, first_logs, start_base, first_generation, first_entries, first_snapshot, first_views, start_generation, log_block}
 use Rattle.log_core.specs.Files.{entries}
@@ -95,60 +95,60 @@ module _ (o : Origin) (s : Facts o) where
   pub named_is : generation_blocks o (first_logs o) (entries o []) (start_generation o) ≡ named_blocks o.words (shape o) o.chain
   named_is = ap (λ (l : List ℕ). l ++ data_names o (entries o []) (start_generation o)) chain_is ∙ ap (λ (l : List ℕ). o.chain ++ l) data_is
 
-  chain_area : (block : ℕ) → has o.chain block ≡ true → is_in_log (shape o) block ≡ true
+  chain_area : (block : ℕ) → is_listed o.chain block ≡ true → is_in_log (shape o) block ≡ true
   chain_area block inside = test_in (is_in_log (shape o)) o.chain block s.stands.format.areas inside
 
-  data_area : (block : ℕ) → has (all_names (entries_of o.words (shape o) o.chain)) block ≡ true → is_in_data (shape o) block ≡ true
+  data_area : (block : ℕ) → is_listed (all_names (entries_of o.words (shape o) o.chain)) block ≡ true → is_in_data (shape o) block ≡ true
   data_area block inside = test_in (is_in_data (shape o)) (all_names (entries_of o.words (shape o) o.chain)) block (names_in_data o.words (shape o) o.chain s.stands.format) inside
 
   -- a block that the chain names is in the image, and not the header
-  pub named_inside : (block : ℕ) → has (named_blocks o.words (shape o) o.chain) block ≡ true → (0 < block) × (block < total (shape o))
-  named_inside block inside = go (or_cases (has o.chain block) (has (all_names (entries_of o.words (shape o) o.chain)) block)
+  pub named_inside : (block : ℕ) → is_listed (named_blocks o.words (shape o) o.chain) block ≡ true → (0 < block) × (block < total (shape o))
+  named_inside block inside = go (or_cases (is_listed o.chain block) (is_listed (all_names (entries_of o.words (shape o) o.chain)) block)
       (sym (list_any-append (λ (other : ℕ). other == block) o.chain (all_names (entries_of o.words (shape o) o.chain))) ∙ inside))
     where
-      go : (has o.chain block ≡ true) ⊎ (has (all_names (entries_of o.words (shape o) o.chain)) block ≡ true) → (0 < block) × (block < total (shape o))
+      go : (is_listed o.chain block ≡ true) ⊎ (is_listed (all_names (entries_of o.words (shape o) o.chain)) block ≡ true) → (0 < block) × (block < total (shape o))
       go (inl chain) = (log_positive (shape o) block (chain_area block chain), log_inside (shape o) block (chain_area block chain))
       go (inr names) = data_inside (shape o) block (data_area block names)
 
   start_bits : BitsFit (shape o) o.taken (first_owner o)
   start_bits = record {
-    bits = λ block inside. s.bitmap.bits block inside ∙ bit_by (has (named_blocks o.words (shape o) o.chain) block) (block == 0);
-    inside = λ block some. go block (not_free (has (named_blocks o.words (shape o) o.chain) block) (block == 0) some);
-    header = zero_is (has (named_blocks o.words (shape o) o.chain) 0) refl;
-    only = λ block is. eqb-true block 0 (header_by (has (named_blocks o.words (shape o) o.chain) block) (block == 0) is);
+    bits = λ block inside. s.bitmap.bits block inside ∙ bit_by (is_listed (named_blocks o.words (shape o) o.chain) block) (block == 0);
+    inside = λ block some. go block (not_free (is_listed (named_blocks o.words (shape o) o.chain) block) (block == 0) some);
+    header = zero_is (is_listed (named_blocks o.words (shape o) o.chain) 0) refl;
+    only = λ block is. eqb-true block 0 (header_by (is_listed (named_blocks o.words (shape o) o.chain) block) (block == 0) is);
   }
     where
-      go : (block : ℕ) → (has (named_blocks o.words (shape o) o.chain) block ≡ true) ⊎ ((block == 0) ≡ true) → block < total (shape o)
+      go : (block : ℕ) → (is_listed (named_blocks o.words (shape o) o.chain) block ≡ true) ⊎ ((block == 0) ≡ true) → block < total (shape o)
       go block (inl named) = (named_inside block named).1
       go block (inr header) = omega (arith, eqb-true block 0 header)
 
-      zero_is : (named : Bool) → has (named_blocks o.words (shape o) o.chain) 0 ≡ named → owner_by (has (named_blocks o.words (shape o) o.chain) 0) true ≡ Header
+      zero_is : (named : Bool) → is_listed (named_blocks o.words (shape o) o.chain) 0 ≡ named → owner_by (is_listed (named_blocks o.words (shape o) o.chain) 0) true ≡ Header
       zero_is true is = absurd (omega (arith, (named_inside 0 is).0))
       zero_is false is = rw is refl
 
   pub start_owns : ChainOwns (is_named o (first_logs o) (entries o []) (start_generation o)) (first_owner o)
   start_owns = record {
-    named = λ block is. ap (λ (l : List ℕ). has l block) named_is ∙ chain_by (has (named_blocks o.words (shape o) o.chain) block) (block == 0) is;
-    all = λ block is. by_chain (has (named_blocks o.words (shape o) o.chain) block) (block == 0) (sym (ap (λ (l : List ℕ). has l block) named_is) ∙ is);
+    named = λ block is. ap (λ (l : List ℕ). is_listed l block) named_is ∙ chain_by (is_listed (named_blocks o.words (shape o) o.chain) block) (block == 0) is;
+    all = λ block is. by_chain (is_listed (named_blocks o.words (shape o) o.chain) block) (block == 0) (sym (ap (λ (l : List ℕ). is_listed l block) named_is) ∙ is);
   }
 
-  -- a seat has no block
+  -- a seat is_listed no block
   owns_none : (number : ℕ) → IsListOf (first_owner o) [] (OwnedBy number)
   owns_none number = record {
     listed = λ block inside. absurd (false≢true inside);
-    all = λ block is. absurd (not_owned (has (named_blocks o.words (shape o) o.chain) block) (block == 0) number is);
+    all = λ block is. absurd (not_owned (is_listed (named_blocks o.words (shape o) o.chain) block) (block == 0) number is);
     once = refl;
   }
 
   left_none : (number : ℕ) → IsListOf (first_owner o) [] (LeftTo number)
   left_none number = record {
     listed = λ block inside. absurd (false≢true inside);
-    all = λ block is. absurd (not_left (has (named_blocks o.words (shape o) o.chain) block) (block == 0) number is);
+    all = λ block is. absurd (not_left (is_listed (named_blocks o.words (shape o) o.chain) block) (block == 0) number is);
     once = refl;
   }
 
-  apart : (block : ℕ) → has o.chain block ≡ true → has (all_names (entries_of o.words (shape o) o.chain)) block ≡ false
-  apart block chain = false_from_ne_true (has (all_names (entries_of o.words (shape o) o.chain)) block) (λ named. not_data (shape o) block block (data_area block named) (chain_area block chain) refl)
+  apart : (block : ℕ) → is_listed o.chain block ≡ true → is_listed (all_names (entries_of o.words (shape o) o.chain)) block ≡ false
+  apart block chain = false_from_ne_true (is_listed (all_names (entries_of o.words (shape o) o.chain)) block) (λ named. not_data (shape o) block block (data_area block named) (chain_area block chain) refl)
 
   start_names : NamesOnce (shape o) (chain_names (first_logs o) (start_generation o)) (data_names o (entries o []) (start_generation o))
   start_names = rw (chain_is, data_is) (record {

@@ -9,7 +9,8 @@ use Rattle.std.proofs.lemmas.Bool.Decides.{nat_tests}
 use Rattle.log_entry.specs.declared.shapes.Geometry.{Geometry}
 use Rattle.log_entry.specs.declared.calls.Call.{Call}
 use Rattle.pmem_words.specs.declared.keeps.Task.TheVariants.{Idle, Pread, Sync}
-use Rattle.log_core.specs.Entries.{has, head_place}
+use Rattle.log_image.specs.Chains.{is_listed}
+use Rattle.log_core.specs.Entries.{head_place}
 use Rattle.pmem_words.specs.Seats.{Hold, new_seat, no_hold, no_giving, unwalked, bitmap_words}
 use Rattle.log_image.proofs.HoldingLemmas.{zeros_after}
 use Rattle.pmem_words.proofs.MapLaws.{length_unmapped}
@@ -145,7 +146,7 @@ start_givings o some = record {
 abbrev fresh : Geometry → ℕ → ℕ → ℕ → ℕ → List ℕ → View
 fresh g seats position made number parts = record { seat = new_seat g number seats position; ghost = no_ghost; first = position; made = made; done = []; parts = parts }
 
--- a seat that has made no step reads nothing
+-- a seat that is_listed made no step reads nothing
 not_reading : (offset count : ℕ) → Idle ≡ Pread offset count → ⊥
 not_reading offset count same = cc
 
@@ -190,7 +191,7 @@ start_once o = record {
     from_zero : (count seat : ℕ) → one_if (nat_le 0 seat && nat_lt seat (0 + count)) ≡ one_if (nat_lt seat count)
     from_zero count seat = grind (arith, nat_tests)
 
-    none_recorded : (numbers : List ℕ) → AllByRecursion (λ (v : View). AllByRecursion (λ (call : Call). has v.parts call.seat ≡ true) v.done) (map (view_at o) numbers)
+    none_recorded : (numbers : List ℕ) → AllByRecursion (λ (v : View). AllByRecursion (λ (call : Call). is_listed v.parts call.seat ≡ true) v.done) (map (view_at o) numbers)
     none_recorded [] = tt
     none_recorded (number ∷ numbers) = (tt, none_recorded numbers)
 
