@@ -6,6 +6,7 @@ pub mod MarksWord
 pub mod Fences
 pub mod Begun
 pub mod LoadsHead
+pub mod LoadsImageWord
 pub mod StoresOwnPin
 pub mod LoadsPinWord
 pub mod Worked

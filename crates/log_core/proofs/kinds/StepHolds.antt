@@ -16,7 +16,7 @@ use Rattle.log_core.specs.Files.{end_of}
 use Rattle.log_core.specs.Cores.{Core}
 use Rattle.log_core.specs.Owners.{BitsFit}
 use Rattle.log_core.specs.Works.{ended}
-use Rattle.log_core.specs.Steps.{Note, Kind, LoadsHead, StoresOwnPin, LoadsPinWord, LoadsBitmapWord, SetsBits, ClearsBits, StoresWord, MarksWord, Fences, is_begun, is_of_owned, ghost_begun, ghost_ended, view_after}
+use Rattle.log_core.specs.Steps.{Note, Kind, LoadsHead, LoadsImageWord, StoresOwnPin, LoadsPinWord, LoadsBitmapWord, SetsBits, ClearsBits, StoresWord, MarksWord, Fences, is_begun, is_of_owned, ghost_begun, ghost_ended, view_after}
 use Rattle.log_core.specs.After.{stepped, began_if, owner_after, synced_to, synced_after}
 use Rattle.log_core.specs.May.{IsOwnMark}
 use Rattle.log_core.specs.Runs.{MayNumber, MayStep, ghost_at, effect_at, ghost_left, is_offered_work}
@@ -27,6 +27,7 @@ use Rattle.log_core.proofs.clauses.SetCore.{set_core}
 use Rattle.log_core.proofs.Facts.{facts_of, pins_known}
 use Rattle.log_core.proofs.kinds.Worked.{FactsAt, works_hold, later_hold}
 use Rattle.log_core.proofs.kinds.LoadsHead.{load_facts}
+use Rattle.log_core.proofs.kinds.LoadsImageWord.{image_facts}
 use Rattle.log_core.proofs.kinds.StoresOwnPin.{store_facts}
 use Rattle.log_core.proofs.kinds.LoadsPinWord.{seen_facts}
 use Rattle.log_core.proofs.kinds.LoadsBitmapWord.{map_leaves, map_bits, map_facts}
@@ -119,6 +120,15 @@ module _ (o : Origin) (c : Core) (n : ℕ) (inv : Invariant o c) (here : n < len
       subst (λ (words : List ℕ). Invariant o (record c { memory = record (c.memory) { now = record (c.memory.now) { words = words } }; views = slice_set c.views n (view_after mine LoadsHead note f); began = began }))
       (sym (set-get_or c.memory.now.words head_place 0))
       (pins_hold LoadsHead f c.memory.now.pins refl (λ k other. refl) step before later no_record facts))
+
+  -- a load of a word of the pinned chain
+  pub image_word_holds : (word : ℕ) → Keeps (LoadsImageWord word) (slice_index c.memory.now.words word) (Invariant o (stepped o c n (Load (Image word)) note (LoadsImageWord word) (slice_index c.memory.now.words word)))
+  image_word_holds word step before later no_record =
+      (let f = slice_index c.memory.now.words word in
+      let facts = image_facts o c n note.before (ghost_at mine note) (slice_index c.memory.now.pins n) (slice_index began n) word inv (at_ask (LoadsImageWord word) f step before later no_record) unspent step.may (began_lows n) in
+      subst (λ (words : List ℕ). Invariant o (record c { memory = record (c.memory) { now = record (c.memory.now) { words = words } }; views = slice_set c.views n (view_after mine (LoadsImageWord word) note f); began = began }))
+      (sym (set-get_or c.memory.now.words word 0))
+      (pins_hold (LoadsImageWord word) f c.memory.now.pins refl (λ k other. refl) step before later no_record facts))
 
   -- a store of the own pin word
   pub pin_holds : (value found : ℕ) → Keeps (StoresOwnPin value) 0 (Invariant o (stepped o c n (Store (Pin n) value) note (StoresOwnPin value) found))
