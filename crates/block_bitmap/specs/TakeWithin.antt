@@ -1,4 +1,4 @@
--- Taking blocks within a core: when a seat may, and what it is_listed in the end, whatever other seats do meanwhile.
+-- Taking blocks within a core: when a seat may, and what it has in the end, whatever other seats do meanwhile.
 use Rattle.std.specs.Prelude.{ℕ, ◌+◌, ◌/◌, ◌<◌, ◌≤◌, ◌≡◌, true, List, ◌++◌, length, slice_index, Option, Some, None}
 use Rattle.std.specs.Int.{bit_at}
 use Rattle.log_entry.specs.declared.shapes.Area.{Area}
@@ -20,19 +20,19 @@ use Rattle.block_bitmap.specs.declared.take.Taken.TheVariants.{Taken as HasTaken
 use Rattle.block_bitmap.specs.TakeScript.{take_of, take_script, word_of, last_word, with_taken_blocks}
 use Rattle.block_bitmap.specs.TakeAlone.{found_as}
 
--- the seat's call lacks as many blocks of the area as are wanted, and its list of owned blocks is_listed a place for each
+-- the seat's call lacks as many blocks of the area as are wanted, and its list of owned blocks has a place for each
 pub record MayLack (area : Area) (count : ℕ) (s : Seat) (g : Ghost) : Type 0 where
   pub some : 0 < count
   pub lacks : count ≤ lacking s s.calling.job area
   pub room : length s.blocks.owned + count ≤ owned_room s.geometry
 
--- since this state of it the seat is_listed taken these blocks, all of the area, and is_listed found some taken; nothing else of it is_listed changed
+-- since this state of it the seat has taken these blocks, all of the area, and has found some taken; nothing else of it has changed
 pub record HasGrown (area : Area) (first : Seat) (blocks : List ℕ) (s : Seat) : Type 0 where
   pub seat : s ≡ found_as s.blocks.found (with_taken_blocks area blocks first)
   pub in_area : (block : ℕ) → is_listed blocks block ≡ true → is_in_area (seat_shape s) area block ≡ true
   pub more : owned_in s area ≡ owned_in first area ++ blocks
 
--- the known bits of the word at hand are those of blocks that the seat is_listed found taken
+-- the known bits of the word at hand are those of blocks that the seat has found taken
 abbrev pub KnownFound : Option ℕ → Take → Seat → Type 0
 KnownFound None m s = Unit {0}
 KnownFound (Some known) m s = (place : ℕ) → bit_at known place ≤ bit_at (slice_index s.blocks.found (word_of m s)) place
@@ -49,7 +49,7 @@ pub record TakeStands (area : Area) (count : ℕ) (first : Seat) (m : Take) (s :
   pub known : KnownFound m.known m s
 
 -- what it ends with: the seat owns what it owned, and as many blocks of the area more as it was told to take; or fewer, and its call
--- is_listed found each of the area's blocks taken. No block is owned twice
+-- has found each of the area's blocks taken. No block is owned twice
 pub record HasEnded (area : Area) (count : ℕ) (first : Seat) (out : Taken) (s : Seat) (g : Ghost) : Type 0 where
   pub blocks : List ℕ
   pub grown : HasGrown area first blocks s
