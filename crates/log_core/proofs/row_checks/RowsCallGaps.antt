@@ -1,5 +1,5 @@
 -- What one clause alone refuses of computations and of views: tables, bases, tails, tasks and numbers.
-use Rattle.std.proofs.Common.{◌≡◌, ◌≤◌, refl, ap, arith}
+use Rattle.std.proofs.Common.{refl, ap, arith}
 use Rattle.std.proofs.lemmas.Bool.{false≢true, true≢false}
 use Rattle.log_core.specs.worked_rows.CallGaps.{TableOfAnother, BaseFromBefore, BasesDropped, BaseLeftOver, FirstBaseShort, TailNotWalked, HeadOfNoCollection, SyncOfNoSync, CallOfNoNumber}
 use Rattle.log_core.proofs.row_checks.RowTells.{some_not_none, none_not_some, is_op, is_put, is_sync, is_collect, said}

@@ -1,5 +1,5 @@
 -- What one clause alone refuses of cores: ends, parts, seats made, generations found, the synced position, and writes of the history.
-use Rattle.std.proofs.Common.{◌≡◌, ◌≤◌, ℕ, zero, suc, List, length, refl, ap, arith}
+use Rattle.std.proofs.Common.{ℕ, zero, suc, List, length, refl, ap, arith}
 use Rattle.std.proofs.lemmas.Bool.{false≢true}
 use Rattle.log_entry.specs.declared.calls.Call.{Call}
 use Rattle.persistence.specs.Memory.{cell}
