@@ -1,5 +1,5 @@
 -- Each step that is offered keeps the invariant.
-use Rattle.std.proofs.Common.{◌≡◌, ◌≢◌, ◌<◌, ℕ, Bool, true, false, List, [], ◌∷◌, ◌++◌, length, refl, sym, ◌∙◌, ap, subst, arith, ⊎_elim, slice_index, slice_set, Option, Some, None, append-nil}
+use Rattle.std.proofs.Common.{◌≡◌, ◌≢◌, ◌<◌, ◌≤◌, ℕ, zero, suc, Bool, true, false, List, [], ◌∷◌, ◌++◌, length, refl, sym, ◌∙◌, ap, subst, arith, ⊎_elim, slice_index, slice_set, Option, Some, None, append-nil}
 use Rattle.std.specs.List.{list_all}
 use Rattle.std.proofs.lemmas.List.{get_or-set_same, get_or-set_other, length-set, set-get_or}
 use Rattle.log_entry.specs.declared.calls.Op.{Op}
@@ -45,6 +45,18 @@ began_other : (b : Bool) (began : List ℕ) (n end k : ℕ) → k ≢ n → slic
 began_other true began n end k other = get_or-set_other began n k end 0 other
 began_other false began n end k other = refl
 
+-- no call has begun past the end
+set_low : (began : List ℕ) (n end k : ℕ) → slice_index began k ≤ end → slice_index (slice_set began n end) k ≤ end
+set_low [] n end k low = low
+set_low (b ∷ began) zero end zero low = omega arith
+set_low (b ∷ began) zero end (suc k) low = low
+set_low (b ∷ began) (suc n) end zero low = low
+set_low (b ∷ began) (suc n) end (suc k) low = set_low began n end k low
+
+began_low : (b : Bool) (began : List ℕ) (n end k : ℕ) → slice_index began k ≤ end → slice_index (began_if b began n end) k ≤ end
+began_low true began n end k low = set_low began n end k low
+began_low false began n end k low = low
+
 -- a step of a kind, whose parts are given
 module _ (o : Origin) (c : Core) (n : ℕ) (inv : Invariant o c) (here : n < length c.views) (unspent : (view_of c.views n).parts ≢ []) (note : Note) where
   abbrev mine : View
@@ -58,6 +70,9 @@ module _ (o : Origin) (c : Core) (n : ℕ) (inv : Invariant o c) (here : n < len
 
   began_others : (k : ℕ) → k ≢ n → slice_index began k ≡ slice_index c.began k
   began_others = began_other (is_begun (op_in mine.seat) (op_in note.before)) c.began n (end_of o c.history)
+
+  began_lows : (k : ℕ) → slice_index began k ≤ end_of o c.history
+  began_lows k = began_low (is_begun (op_in mine.seat) (op_in note.before)) c.began n (end_of o c.history) k (inv.records.begun k)
 
   ended_none : (adds : List Call) (last : Seat) → adds ≡ [] → ended adds last ≡ last
   ended_none [] last e = refl
@@ -94,7 +109,7 @@ module _ (o : Origin) (c : Core) (n : ℕ) (inv : Invariant o c) (here : n < len
         Knows o (moved c m owner) n (effect_at mine note kind f) (ghost_left mine note kind f) (slice_index m.now.pins n) (slice_index began n) →
         Invariant o (record c { memory = m; views = slice_set c.views n (view_after mine kind note f); owner = owner; began = began })
     kind_holds m owner leaves changes bits facts = subst (λ (w : View). Invariant o (record c { memory = m; views = slice_set c.views n w; owner = owner; began = began })) (sym view_is)
-        (set_core o c n note.seat (ghost_left mine note kind f) m owner began inv here unspent leaves changes bits (at_end (moved c m owner) (slice_index m.now.pins n) facts) began_fits began_others)
+        (set_core o c n note.seat (ghost_left mine note kind f) m owner began inv here unspent leaves changes bits (at_end (moved c m owner) (slice_index m.now.pins n) facts) began_fits began_others began_lows)
 
   -- the premises of a step of a kind
   abbrev Keeps : Kind → ℕ → Type 0 → Type 0

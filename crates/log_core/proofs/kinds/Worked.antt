@@ -8,7 +8,7 @@ use Rattle.log_core.specs.Views.{View, Ghost, view_of, op_in, op_of}
 use Rattle.log_core.specs.Origin.{Origin}
 use Rattle.log_core.specs.Files.{end_of}
 use Rattle.log_core.specs.Cores.{Core}
-use Rattle.log_core.specs.Works.{Work, Begins, KeepsTable, StartsFromLog, StartsFromSnapshot, ReadsRun, NextSnapshot, EndsReading, TakesEntry, TakesSeal, Follows, Forgets, OpensBase, AddsBaseWord, Lays, SetsWord, CountsFilled, NotesNamed, KeepsReplaced, NotesHeld, state_after_work, state_after_all_work, MayBegin, MayWorkAll, is_going_on}
+use Rattle.log_core.specs.Works.{Work, Begins, KeepsTable, StartsFromLog, StartsFromSnapshot, ReadsRun, NextSnapshot, EndsReading, TakesEntry, TakesSeal, Follows, Forgets, OpensBase, AddsBaseWord, DropsBases, Lays, SetsWord, CountsFilled, NotesNamed, KeepsReplaced, NotesHeld, state_after_work, state_after_all_work, MayBegin, MayWorkAll, is_going_on}
 use Rattle.log_core.specs.Steps.{is_begun, ghost_begun}
 use Rattle.log_core.specs.After.{began_if}
 use Rattle.log_core.specs.Runs.{MayNumber, is_offered_work}
@@ -61,6 +61,7 @@ runs_on g s (TakesSeal ∷ works) offered may some = cc
 runs_on g s (Follows ∷ works) offered may some = cc
 runs_on g s (OpensBase virt ∷ works) offered may some = cc
 runs_on g s (AddsBaseWord ∷ works) offered may some = cc
+runs_on g s (DropsBases ∷ works) offered may some = cc
 runs_on g s (Lays bytes ∷ works) offered may some = cc
 runs_on g s (SetsWord place word value ∷ works) offered may some = runs_on g (state_after_work s (SetsWord place word value)) works offered may.1 some
 runs_on g s (CountsFilled place ∷ works) offered may some = runs_on g (state_after_work s (CountsFilled place)) works offered may.1 some
@@ -112,6 +113,7 @@ module _ (o : Origin) (c : Core) (n pin number : ℕ) where
   works_hold s (Follows ∷ works) offered may facts start higher = cc
   works_hold s (OpensBase virt ∷ works) offered may facts start higher = cc
   works_hold s (AddsBaseWord ∷ works) offered may facts start higher = cc
+  works_hold s (DropsBases ∷ works) offered may facts start higher = cc
   works_hold s (Lays bytes ∷ works) offered may facts start higher = cc
   works_hold s (SetsWord place word value ∷ works) offered may facts start higher =
       works_hold (state_after_work s (SetsWord place word value)) works offered may.1
@@ -140,6 +142,7 @@ module _ (o : Origin) (c : Core) (n pin began : ℕ) (g : Ghost) where
   later_hold s (Follows ∷ works) offered going may facts = cc
   later_hold s (OpensBase virt ∷ works) offered going may facts = cc
   later_hold s (AddsBaseWord ∷ works) offered going may facts = cc
+  later_hold s (DropsBases ∷ works) offered going may facts = cc
   later_hold s (Lays bytes ∷ works) offered going may facts = cc
   later_hold s (SetsWord place word value ∷ works) offered going may facts =
       later_hold (state_after_work s (SetsWord place word value)) works offered going may.1 (set_word_facts o c n s g pin began place word value facts may.0)
