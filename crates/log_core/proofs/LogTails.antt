@@ -1,5 +1,5 @@
 -- Log blocks by their bases: these rise; and a walk whose tail is found 0 is at the end.
-use Rattle.std.proofs.Common.{◌≡◌, ◌≢◌, ◌⊎◌, inl, inr, ◌<◌, ◌≤◌, ◌+◌, ◌-◌, ◌==◌, ◌||◌, nat_lt, ℕ, zero, suc, Bool, true, false, if◌then◌else◌, List, [], ◌∷◌, length, refl, sym, ◌∙◌, ap, subst, arith, slice_index}
+use Rattle.std.proofs.Common.{◌≡◌, ◌≢◌, inl, inr, ◌<◌, ◌≤◌, ◌+◌, ◌==◌, ◌||◌, nat_lt, ℕ, zero, suc, Bool, true, false, if◌then◌else◌, List, [], ◌∷◌, length, refl, sym, ◌∙◌, ap, subst, arith, slice_index}
 use Rattle.std.proofs.lemmas.Bool.{ltb-true, ltb-false, ne_eqb, or_from}
 use Rattle.log_entry.specs.declared.layouts.TheConstants.{EMPTY, SEAL}
 use Rattle.log_image.specs.Image.{words_in}
@@ -24,7 +24,10 @@ log_found (log ∷ logs) base some = go (log.base == base) some (log_found logs 
     go : (same : Bool) → (if same then log else log_at logs base).block ≢ 0 → ((log_at logs base).block ≢ 0 → (number_at logs base < length logs) × (nth_log logs (number_at logs base) ≡ log_at logs base)) →
         ((if same then 0 else 1 + number_at logs base) < suc (length logs)) × (nth_log (log ∷ logs) (if same then 0 else 1 + number_at logs base) ≡ (if same then log else log_at logs base))
     go true some rest = (omega arith, refl)
-    go false some rest = (let r = rest some in (let low = r.0 in omega (arith, low), r.1))
+    go false some rest = (let r = rest some in (
+      (let low = r.0 in omega (arith, low)),
+      subst (λ (k : ℕ). nth_log (log ∷ logs) k ≡ log_at logs base) (let e : suc (number_at logs base) ≡ 1 + number_at logs base = omega arith in e) r.1,
+    ))
 
 -- used slots have no more entries than they are; where each is one, none is a seal; and the first is one, where it is neither empty nor a seal
 pub entries_short : (slots : List ℕ) → length (entry_words slots) ≤ length slots
@@ -110,9 +113,9 @@ module _ (o : Origin) (c : Core) (inv : Invariant o c) where
         last : length (entry_words (nth number).slots) ≡ length (nth number).slots → length (nth number).slots ≡ k → (b : Bool) → nat_lt (number + 1) (length c.logs) ≡ b → number + 1 ≡ length c.logs
         last used same false e = (let late = ltb-false (number + 1) (length c.logs) e in omega (arith, late, inside))
         last used same true e =
-            (let open : is_full (shape o) (nth number).slots ≡ false = or_from (is_sealed (nth number).slots) (length (nth number).slots + 3 == words_in (shape o))
+            (let more : is_full (shape o) (nth number).slots ≡ false = or_from (is_sealed (nth number).slots) (length (nth number).slots + 3 == words_in (shape o))
             (unsealed (nth number).slots used) (ne_eqb (length (nth number).slots + 3) (words_in (shape o)) (λ full. omega (arith, full, same, within))) in
-            let both : false ≡ true = sym open ∙ inv.order.log.full number (ltb-true (number + 1) (length c.logs) e) in cc)
+            let both : false ≡ true = sym more ∙ inv.order.log.full number (ltb-true (number + 1) (length c.logs) e) in cc)
 
     -- so is a block's link that is found 0
     pub empty_link : (cell c.memory (place_in (shape o) (nth number).block 0)).present ≡ 0 → (nth number).base + entries_used (nth number) ≡ end_of o c.history

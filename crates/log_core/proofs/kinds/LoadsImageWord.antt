@@ -1,18 +1,16 @@
 -- A load of a word of the pinned chain: it is kept as it was found, and where it is the empty tail the view is at the end.
 use Rattle.std.proofs.Common.{◌≡◌, ◌≢◌, ◌<◌, ◌≤◌, ◌+◌, ◌-◌, ◌*◌, ◌/◌, ◌%◌, ◌==◌, ◌&&◌, ◌||◌, ℕ, Bool, true, false, if◌then◌else◌, List, [], ◌∷◌, ◌++◌, length, refl, sym, ◌∙◌, ap, subst, arith, inl, inr, slice_index}
-use Rattle.std.specs.List.{AllByRecursion}
 use Rattle.std.proofs.lemmas.Bool.{eqb-true, and_parts, or_from, cases_Bool}
 use Rattle.std.proofs.Math.Nat.{mod-add-div}
 use Rattle.log_entry.specs.declared.calls.Call.{Call}
 use Rattle.log_image.specs.Image.{Shape, words_in, total, shape_by}
-use Rattle.pmem_words.specs.declared.keeps.KeptWord.{KeptWord}
 use Rattle.pmem_words.specs.Seats.{Seat}
 use Rattle.persistence.specs.Memory.{cell}
 use Rattle.log_core.specs.Entries.{place_in}
 use Rattle.log_core.specs.Views.{Ghost, view_of}
-use Rattle.log_core.specs.Origin.{Origin, shape, q_of_origin, first_generation, Owner, Free, LogBlock}
+use Rattle.log_core.specs.Origin.{Origin, shape, first_generation, Owner, Free, LogBlock}
 use Rattle.log_core.specs.Files.{entries, end_of}
-use Rattle.log_core.specs.Cores.{Core, current, generation_at, is_named, nth_log, log_at, number_at, entries_used, is_full}
+use Rattle.log_core.specs.Cores.{Core, generation_at, is_named, nth_log, log_at, number_at, entries_used}
 use Rattle.log_core.specs.Works.{seat_shape, words_of, tail_index}
 use Rattle.log_core.specs.Steps.{kept_with, is_tail_found}
 use Rattle.log_core.specs.Order.{nth_generation}
@@ -80,7 +78,7 @@ module _ (o : Origin) (c : Core) (n : ℕ) (s : Seat) (g : Ghost) (pin began wor
       (Rattle.std.proofs.Common.drop (generation_at o c.generations s.hold.generation).cut c.logs) (record { block = word / words_of s; slot = word % words_of s; word = value })
   kept_word = record {
     named = may.named;
-    inside = subst (λ (q : ℕ). word % q < words_in (shape o)) (sym same_words) (let wide = inv.sizes.image.wide in Rattle.std.proofs.Math.Nat.mod-lt word (words_in (shape o)) (omega (arith, wide)));
+    inside = subst (λ (q : ℕ). word % q < words_in (shape o)) (sym same_words) (let wide = inv.sizes.image.wide in Rattle.std.proofs.Math.Nat.mod-lt word (omega (arith, wide)));
     word_is = inl (subst (λ (q : ℕ). value ≡ slice_index c.memory.now.words (word / q * words_in (shape o) + word % q)) (sym same_words)
         (ap (λ (at : ℕ). slice_index c.memory.now.words at) (sym (place_again (words_in (shape o)) word))));
   }
@@ -134,18 +132,18 @@ module _ (o : Origin) (c : Core) (n : ℕ) (s : Seat) (g : Ghost) (pin began wor
       let last = empty_link o c inv place (number_at c.logs s.walk.tail_base) kept late there.0 empty in
       let used : entries_used (nth_log c.logs (number_at c.logs s.walk.tail_base)) ≡ entries_used (log_at c.logs s.walk.tail_base) = ap (λ (log : LogBlock). entries_used log) there.1 in
       omega (arith, ends, last, used, number_base)))
-      (λ open.
-      (let inside = walked.inside open in
+      (λ unclosed.
+      (let inside = walked.inside unclosed in
       let upto = walked.upto in
       let from = walked.from in
-      let index : tail_index s ≡ s.walk.tail_slot = at_slot open in
+      let index : tail_index s ≡ s.walk.tail_slot = at_slot unclosed in
       let slot : s.walk.tail_slot - 3 + 3 ≡ s.walk.tail_slot = omega (arith, from) in
       let empty : (cell c.memory (place_in (shape o) (nth_log c.logs (number_at c.logs s.walk.tail_base)).block (s.walk.tail_slot - 3 + 3))).present ≡ 0 =
       ap (λ (block : ℕ). slice_index c.memory.now.words (place_in (shape o) block (s.walk.tail_slot - 3 + 3))) number_block
       ∙ (ap (λ (k : ℕ). slice_index c.memory.now.words (place_in (shape o) s.walk.tail_block k)) (slot ∙ sym index) ∙ (ap (λ (at : ℕ). slice_index c.memory.now.words at) (sym parts.2) ∙ parts.1)) in
       let used : entries_used (nth_log c.logs (number_at c.logs s.walk.tail_base)) ≡ entries_used (log_at c.logs s.walk.tail_base) = ap (λ (log : LogBlock). entries_used log) there.1 in
       let few = inside.1 in
-      let last = empty_slot o c inv place (number_at c.logs s.walk.tail_base) kept late there.0 (s.walk.tail_slot - 3) (omega (arith, upto, from, open)) (omega (arith, few, used)) empty in
+      let last = empty_slot o c inv place (number_at c.logs s.walk.tail_base) kept late there.0 (s.walk.tail_slot - 3) (omega (arith, upto, from, unclosed)) (omega (arith, few, used)) empty in
       let position = inside.0 in
       omega (arith, position, last, number_base))))
     where
@@ -153,7 +151,7 @@ module _ (o : Origin) (c : Core) (n : ℕ) (s : Seat) (g : Ghost) (pin began wor
       at_link closed = rw (Rattle.std.proofs.lemmas.Bool.eq-eqb s.walk.tail_slot (words_of s) (closed ∙ sym same_words)) refl
 
       at_slot : s.walk.tail_slot ≢ words_in (shape o) → tail_index s ≡ s.walk.tail_slot
-      at_slot open = rw (Rattle.std.proofs.lemmas.Bool.ne_eqb s.walk.tail_slot (words_of s) (λ e. open (e ∙ same_words))) refl
+      at_slot unclosed = rw (Rattle.std.proofs.lemmas.Bool.ne_eqb s.walk.tail_slot (words_of s) (λ e. unclosed (e ∙ same_words))) refl
 
   -- while a snapshot is read no tail is found
   not_found : s.walk.reading ≡ true → found ≡ false
