@@ -1,6 +1,9 @@
 -- Each kind of step keeps the invariant.
 pub mod CountsFilled
 pub mod SetsWord
+pub mod DropsBases
+pub mod NotesNamed
+pub mod NotesHeld
 pub mod StoresWord
 pub mod MarksWord
 pub mod Fences
