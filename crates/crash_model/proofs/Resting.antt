@@ -7,11 +7,12 @@ use Rattle.std.proofs.lemmas.List.FromFn.{get_or-map-range_with_len, length-map-
 use Rattle.log_entry.specs.declared.shapes.Geometry.{Geometry}
 use Rattle.log_image.specs.KeepsStart.{KeepsStart}
 use Rattle.pmem_words.specs.declared.keeps.Task.{Task}
+use Rattle.pmem_words.specs.declared.keeps.Task.TheVariants.{Collect}
 use Rattle.pmem_words.specs.Seats.{Seat, new_seat}
 use Rattle.pmem_words.specs.declared.TheConstants.{SEATS}
 use Rattle.persistence.specs.Memory.{Memory, PendingMark, cell, pending_of}
 use Rattle.persistence.specs.Cells.{CellsNow, fresh_memory}
-use Rattle.log_core.specs.Views.{View, Ghost, view_of, spent_view, new_view, no_geometry, op_in}
+use Rattle.log_core.specs.Views.{View, Ghost, view_of, spent_view, new_view, no_geometry, op_in, op_of}
 use Rattle.log_core.specs.Origin.{Origin, first_position, first_views, made_by}
 use Rattle.log_core.specs.Files.{end_of}
 use Rattle.log_core.specs.Cores.{Core, first_core}
@@ -83,13 +84,16 @@ false_unless : (b : Bool) → (b ≡ true → ⊥) → b ≡ false
 false_unless false never = refl
 false_unless true never = absurd (never refl)
 
+collect_runs : (task : Task) (bytes : List ℕ) → task ≡ Collect → op_of task bytes ≡ None → ⊥
+collect_runs task bytes is none = (let never : op_of Collect bytes ≡ None = subst (λ (t : Task). op_of t bytes ≡ None) is none in cc)
+
 -- where no call runs, the seat has won no exchange of a slot, and put no head in place
 module _ (w : WorldNow) (o : Origin) (c : Core) (seat : ℕ) (g : Ghost) (known : IsKnown w o c seat g) where
   pub not_won_known : op_in (seat_of w seat) ≡ None → (seat_of w seat).calling.won ≡ false
-  not_won_known none = false_unless (seat_of w seat).calling.won (λ won. known.knows.calls.won_runs won none)
+  not_won_known none = false_unless (seat_of w seat).calling.won (λ won. known.knows.calls.task.won_runs won none)
 
   pub no_head_known : op_in (seat_of w seat) ≡ None → g.call.put ≡ None
-  no_head_known none = none_unless g.call.put (λ some. known.knows.calls.put_runs some none)
+  no_head_known none = none_unless g.call.put (λ some. collect_runs (seat_of w seat).calling.job (seat_of w seat).calling.bytes (known.knows.calls.task.put_collects some) none)
 
   -- what contracts see of marks is in the memory
   pub no_marks_known : HasNoMarks w seat → g.marks ≡ []

@@ -4,6 +4,7 @@ pub mod Facts
 pub mod BlockLists
 pub mod BitmapFacts
 pub mod clauses
+pub mod LogTails
 pub mod kinds
 pub mod machines
 pub mod starts

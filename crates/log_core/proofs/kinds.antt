@@ -1,11 +1,15 @@
 -- Each kind of step keeps the invariant.
 pub mod CountsFilled
 pub mod SetsWord
+pub mod DropsBases
+pub mod NotesNamed
+pub mod NotesHeld
 pub mod StoresWord
 pub mod MarksWord
 pub mod Fences
 pub mod Begun
 pub mod LoadsHead
+pub mod LoadsImageWord
 pub mod StoresOwnPin
 pub mod LoadsPinWord
 pub mod Worked

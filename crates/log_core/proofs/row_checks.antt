@@ -10,6 +10,8 @@ pub mod RowsWorks
 pub mod RowsRefused
 pub mod RowsWrong
 pub mod RowsGaps
+pub mod RowsCallGaps
+pub mod RowsCoreGaps
 pub mod RowsClauses
 pub mod RowsMay
 pub mod RowsOrder

@@ -1,13 +1,14 @@
--- The invariant of a core: nine clauses, each over the parts that it reads, and that the parts fit one another.
+-- The invariant of a core: ten clauses, each over the parts that it reads, and that the parts fit one another.
 use Rattle.std.specs.Prelude.{ℕ, ◌+◌, ◌≤◌, ◌≡◌, ◌≢◌, Bool, List, []}
 use Rattle.std.specs.List.{AllByRecursion}
 use Rattle.persistence.specs.Memory.{Memory, cell}
 use Rattle.log_core.specs.Entries.{LogEntry, head_place}
 use Rattle.log_core.specs.Views.{View, view_of}
-use Rattle.log_core.specs.Origin.{Origin, shape, q_of_origin, first_generation, Owner, LogBlock, Generation}
+use Rattle.log_core.specs.Origin.{Origin, shape, q_of_origin, first_position, first_generation, Owner, LogBlock, Generation}
 use Rattle.log_core.specs.Files.{Write, entries, end_of}
 use Rattle.log_core.specs.Cores.{Core, generation_at, current, chain_names, data_names, is_named, IsKept, head_floor}
 use Rattle.log_core.specs.Sizes.{Sizes}
+use Rattle.log_core.specs.Writes.{HistoryHolds}
 use Rattle.log_core.specs.Order.{nth_generation, HeadsInOrder, GenerationsRise, LogInOrder, ChainsStand}
 use Rattle.log_core.specs.Owners.{BitsFit, ChainOwns, SeatsOwn, NamesOnce}
 use Rattle.log_core.specs.Contents.{GenerationHolds}
@@ -78,17 +79,20 @@ pub record Records (o : Origin) (memory : Memory) (views : List View) (history :
   pub records : (seat : ℕ) → AllByRecursion (RecordHolds o history generations) (view_of views seat).done
   pub never_fall : (seat part : ℕ) → NeverFall part 0 0 (view_of views seat).done
   pub calls : (seat : ℕ) → CallHolds o history (view_of views seat)
+  pub begun : (seat : ℕ) → began seat ≤ end_of o history
   pub tails : (seat : ℕ) → TailHolds (view_of views seat) (began seat)
   pub marks : (seat : ℕ) → MarksFit (λ word. cell memory word) memory.past memory.pending seat (view_of views seat)
 
--- synced: no crash takes back an entry up to the synced position, nor what leads to it
+-- synced: no crash takes back an entry up to the synced position, nor what leads to it; the start's entries are among them
 pub record Syncs (o : Origin) (memory : Memory) (views : List View) (history : List Write) (generations : List Generation) (logs : List LogBlock) (synced : ℕ) : Type 0 where
+  pub from_first : first_position o ≤ synced
   pub to_end : synced ≤ end_of o history
   pub words : IsSynced (shape o) (λ word. cell memory word) generations logs (head_floor memory) synced
   pub views_hold : SyncsHold (q_of_origin o) (names_by o logs (entries o history) generations) (λ word. cell memory word) memory.past memory.pending synced views
 
 pub record Invariant (o : Origin) (c : Core) : Type 0 where
   pub sizes : Sizes o c.memory c.views c.began
+  pub writes : HistoryHolds o c.history
   pub order : Order o c.memory c.history c.generations c.logs (λ place. KeptIn o c place)
   pub owners : Owners o c.memory.now.taken c.views c.history c.generations c.logs c.owner (λ place. KeptIn o c place)
   pub contents : Contents o c.memory c.history c.recorded c.owner c.generations c.logs (λ place. KeptIn o c place)

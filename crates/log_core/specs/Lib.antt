@@ -19,6 +19,7 @@ pub mod Contents
 pub mod Pins
 pub mod Walks
 pub mod Owned
+pub mod Writes
 pub mod Giving
 pub mod Records
 pub mod Synced

@@ -245,6 +245,7 @@ pub record IsOwnMark (s : Seat) (word : ℕ) : Type 0 where
 -- alone, words are marked of owned blocks alone, and no sync marks or fences
 abbrev pub IsOfferedKind : Seat → Kind → Type 0
 IsOfferedKind s LoadsHead = Unit {0}
+IsOfferedKind s (LoadsImageWord word) = Unit {0}
 IsOfferedKind s (StoresOwnPin value) = Unit {0}
 IsOfferedKind s (LoadsPinWord other) = Unit {0}
 IsOfferedKind s (LoadsBitmapWord word) = Unit {0}
@@ -253,7 +254,6 @@ IsOfferedKind s (ClearsBits word bits) = is_of_owned s word bits ≡ true
 IsOfferedKind s (StoresWord word value) = Unit {0}
 IsOfferedKind s (MarksWord word) = IsOwnMark s word
 IsOfferedKind s Fences = s.calling.job ≢ Sync
-IsOfferedKind s (LoadsImageWord word) = ⊥
 IsOfferedKind s (ExchangesSlot word entry) = ⊥
 IsOfferedKind s (ExchangesLink word block) = ⊥
 IsOfferedKind s (ExchangesHead before next) = ⊥

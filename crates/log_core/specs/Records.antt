@@ -8,12 +8,13 @@ use Rattle.log_entry.specs.declared.calls.CollectRefusal.TheVariants.{Nothing, O
 use Rattle.log_entry.specs.declared.calls.Reply.{Reply}
 use Rattle.log_entry.specs.declared.calls.Reply.TheVariants.{Collected, NotCollected}
 use Rattle.log_entry.specs.declared.calls.Call.{Call}
-use Rattle.pmem_words.specs.declared.keeps.Task.TheVariants.{Pread}
-use Rattle.pmem_words.specs.Seats.{Seat}
+use Rattle.log_entry.specs.declared.calls.Op.{Op}
+use Rattle.pmem_words.specs.declared.keeps.Task.TheVariants.{Pread, Sync, Collect}
+use Rattle.pmem_words.specs.Seats.{Seat, Calling}
 use Rattle.persistence.specs.Memory.{Replaced, PendingMark, Cell, index_at, pending_of}
 use Rattle.persistence.specs.Survivors.{value_at}
 use Rattle.log_image.specs.Chains.{is_listed}
-use Rattle.log_core.specs.Views.{MarkedWord, HeadPut, View, op_in}
+use Rattle.log_core.specs.Views.{MarkedWord, HeadPut, View, view_of, op_in, op_of}
 use Rattle.log_core.specs.Origin.{Origin, first_position, first_generation, Generation}
 use Rattle.log_core.specs.Files.{Write, write_at, call_of, file_at, end_of}
 use Rattle.log_core.specs.Works.{words_of, laid_bytes}
@@ -54,9 +55,10 @@ abbrev pub parts_with : List View → ℕ → ℕ
 parts_with [] seat = 0
 parts_with (v ∷ views) seat = count_in v.parts seat + parts_with views seat
 
--- each seat made is a part of exactly one view, and each write and each record is of such a seat
+-- each seat made is a part of exactly one view, its own one unless that is spent; and each write and each record is of such a seat
 pub record SeatsOnce (history : List Write) (views : List View) : Type 0 where
   pub once : (seat : ℕ) → parts_with views seat ≡ one_if (nat_lt seat (length views))
+  pub own : (seat : ℕ) → (view_of views seat).parts ≢ [] → is_listed (view_of views seat).parts seat ≡ true
   pub writes : AllByRecursion (λ (w : Write). w.seat < length views) history
   pub records : AllByRecursion (λ (v : View). AllByRecursion (λ (call : Call). is_listed v.parts call.seat ≡ true) v.done) views
 
@@ -81,12 +83,16 @@ collected_by generation (v ∷ views) = collected_in generation v.done + putting
 abbrev pub CollectedOnce : ℕ → ℕ → List View → Type 0
 CollectedOnce first current views = (generation : ℕ) → first < generation → generation ≤ current → collected_by generation views ≡ 1
 
--- the call that put a head in place is at the position of its generation's snapshot, and has taken in nothing since
+-- the call that put a head in place is at the position of its generation's snapshot, and has taken in nothing since; and there is
+-- the generation that a call found at the head instead of its own
+pub record HeadFits (o : Origin) (generations : List Generation) (position overtaken : ℕ) (put : Option HeadPut) : Type 0 where
+  pub own : (head : HeadPut) → put ≡ Some head →
+      (first_generation o < head.generation) × (head.generation < first_generation o + length generations) × (head.base ≡ position)
+      × (head.base ≡ (nth_generation generations (head.generation - first_generation o)).base)
+  pub found : overtaken < first_generation o + length generations
+
 abbrev pub PutFits : Origin → List Generation → View → Type 0
-PutFits o generations v =
-    (put : HeadPut) → v.ghost.call.put ≡ Some put →
-    (first_generation o < put.generation) × (put.generation < first_generation o + length generations) × (put.base ≡ v.seat.walk.position)
-    × (put.base ≡ (nth_generation generations (put.generation - first_generation o)).base)
+PutFits o generations v = HeadFits o generations v.seat.walk.position v.ghost.call.overtaken v.ghost.call.put
 
 -- what a collection's reply says of the generations: the one that it put in place, with its snapshot's position; that it stands at a
 -- snapshot's position; one that was put in place by another; or that there is the greatest
@@ -107,7 +113,8 @@ before_call call = if is_write call.op call.reply then call.position - 1 else ca
 -- a record is of a position that there is, has the reply that comes there, and says what is so of the generations
 pub record RecordHolds (o : Origin) (history : List Write) (generations : List Generation) (call : Call) : Type 0 where
   pub to_end : call.position ≤ end_of o history
-  pub from_first : is_write call.op call.reply ≡ true → first_position o < call.position
+  pub from_first : first_position o ≤ call.position
+  pub write_after : is_write call.op call.reply ≡ true → first_position o < call.position
   pub answers : Answers o.geometry.block_bytes (before_call call) (file_at o history (before_call call)) call.op call.reply
   pub of_generations : SaysOfGenerations o generations call.position call.reply
 
@@ -118,28 +125,51 @@ NeverFall seat position number (call ∷ calls) =
     (call.seat ≡ seat → (position ≤ call.position) × (number < call.number))
     × NeverFall seat (if call.seat == seat then call.position else position) (if call.seat == seat then call.number else number) calls
 
--- what a running call has: the bytes that a read has laid and the bases of a write are those of the file at its position; and while a
--- snapshot is read nothing is laid, put in or synced
+-- the bases of a call: the last one alone may lack words, none is from before the start's position, and while the call runs their bytes
+-- are the file's
+pub record BasesHold (o : Origin) (history : List Write) (first q position : ℕ) (c : Calling) : Type 0 where
+  pub most : length c.base_words ≤ length c.bases * q
+  pub whole : (length c.bases - 1) * q ≤ length c.base_words
+  pub from_first : c.bases ≢ [] → first ≤ position
+  pub bytes : op_of c.job c.bytes ≢ None → (place at : ℕ) → place < length c.bases → at < o.geometry.block_bytes →
+      place * o.geometry.block_bytes + at < 8 * length c.base_words →
+      slice_index (word_bytes c.base_words) (place * o.geometry.block_bytes + at)
+      ≡ slice_index (file_at o history position) (slice_index c.bases place * o.geometry.block_bytes + at)
+
+-- a seat's records have no greater number than its present call, and while that one runs smaller ones; it has a number above 0 then
+pub record NumbersFit (seat number : ℕ) (op : Option Op) (done : List Call) : Type 0 where
+  pub most : AllByRecursion (λ (call : Call). call.seat ≡ seat → call.number ≤ number) done
+  pub runs : op ≢ None → AllByRecursion (λ (call : Call). call.seat ≡ seat → call.number < number) done
+  pub some : op ≢ None → 0 < number
+
+-- a running call alone has put in an entry, a collection alone a head, and a sync alone has a position that it will answer
+pub record TaskFits (put : Option HeadPut) (c : Calling) : Type 0 where
+  pub won_runs : c.won ≡ true → op_of c.job c.bytes ≢ None
+  pub put_collects : put ≢ None → c.job ≡ Collect
+  pub synced_syncs : c.sync_to ≢ None → c.job ≡ Sync
+
+-- what a running call has: the bytes that a read has laid are those of the file at its position, and so are the bases of a
+-- write; and while a snapshot is read nothing is laid, put in or synced
 pub record CallHolds (o : Origin) (history : List Write) (v : View) : Type 0 where
   pub laid : (offset count : ℕ) → v.seat.calling.job ≡ Pread offset count →
       v.seat.calling.bytes ≡ read (file_at o history v.seat.walk.position) offset (length v.seat.calling.bytes)
-  pub base_words : length v.seat.calling.base_words ≤ length v.seat.calling.bases * words_of v.seat
-  pub bases : (place at : ℕ) → place < length v.seat.calling.bases → at < o.geometry.block_bytes →
-      place * o.geometry.block_bytes + at < 8 * length v.seat.calling.base_words →
-      slice_index (word_bytes v.seat.calling.base_words) (place * o.geometry.block_bytes + at)
-      ≡ slice_index (file_at o history v.seat.walk.position) (slice_index v.seat.calling.bases place * o.geometry.block_bytes + at)
+  pub bases : BasesHold o history v.first (words_of v.seat) v.seat.walk.position v.seat.calling
   pub reading : v.seat.walk.reading ≡ true →
       (v.seat.walk.at_tail ≡ false) × (laid_bytes v.seat.calling.job v.seat.calling.bytes ≡ []) × (v.seat.calling.won ≡ false)
-      × (v.seat.calling.sync_to ≡ None) × (v.ghost.call.put ≡ None) × (v.seat.calling.bases ≡ [])
-  pub numbers : AllByRecursion (λ (call : Call). call.seat ≡ v.seat.number → call.number ≤ v.ghost.call.number) v.done
-  pub runs : op_in v.seat ≢ None → AllByRecursion (λ (call : Call). call.seat ≡ v.seat.number → call.number < v.ghost.call.number) v.done
-  pub won_runs : v.seat.calling.won ≡ true → op_in v.seat ≢ None
-  pub put_runs : v.ghost.call.put ≢ None → op_in v.seat ≢ None
+      × (v.seat.calling.sync_to ≡ None) × (v.ghost.call.put ≡ None) × (op_in v.seat ≢ None → v.seat.calling.bases ≡ [])
+  pub numbers : NumbersFit v.seat.number v.ghost.call.number (op_in v.seat) v.done
+  pub task : TaskFits v.ghost.call.put v.seat.calling
 
--- where a view is at its tail, no record of its parts is later, nor is the end at its call's first step
-pub record TailHolds (v : View) (began : ℕ) : Type 0 where
-  pub begun : v.seat.walk.at_tail ≡ true → began ≤ v.seat.walk.position
-  pub records : v.seat.walk.at_tail ≡ true → AllByRecursion (λ (call : Call). call.position ≤ v.seat.walk.position) v.done
+-- a view that is at its tail: it has walked, not to before the start's position; and no record of its parts is later, nor is the end
+-- at its call's first step
+pub record StandsAtTail (first began position block : ℕ) (done : List Call) : Type 0 where
+  pub walked : block ≢ 0
+  pub from_first : first ≤ position
+  pub begun : began ≤ position
+  pub records : AllByRecursion (λ (call : Call). call.position ≤ position) done
+
+abbrev pub TailHolds : View → ℕ → Type 0
+TailHolds v began = v.seat.walk.at_tail ≡ true → StandsAtTail v.first began v.seat.walk.position v.seat.walk.tail_block v.done
 
 -- the memory's marks of a seat are those that its view has, each of the value found
 abbrev pub mark_of : (ℕ → Cell) → List Replaced → PendingMark → MarkedWord

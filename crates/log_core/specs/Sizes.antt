@@ -39,7 +39,8 @@ pub record SeatFits (o : Origin) (place : ℕ) (v : View) : Type 0 where
   pub named : length v.seat.blocks.named ≡ bitmap_words o.geometry
   pub map : length v.seat.walk.map ≡ 65536
 
--- there is a view for each seat made, and the end at a call's first step for each. A spent view holds nothing
+-- there is a view for each seat made, and the end at a call's first step for each. No view counts more seats than are made, and a spent
+-- one holds nothing
 pub record Sizes (o : Origin) (memory : Memory) (views : List View) (began : List ℕ) : Type 0 where
   pub seats : HasSeats o
   pub image : HasImage o
@@ -48,5 +49,6 @@ pub record Sizes (o : Origin) (memory : Memory) (views : List View) (began : Lis
   pub few : length views ≤ o.seats
   pub begun : length began ≡ length views
   pub made : (view_of views 0).parts ≢ [] → (view_of views 0).made ≡ length views
+  pub few_made : (number : ℕ) → (view_of views number).made ≤ length views
   pub spent : (number : ℕ) → (view_of views number).parts ≡ [] → view_of views number ≡ spent_view
   pub each : (number : ℕ) → number < length views → (view_of views number).parts ≢ [] → SeatFits o number (view_of views number)

@@ -133,9 +133,10 @@ pub data Work : Type 0 where
   Follows : Work
   -- the kept words are given up
   Forgets : Work
-  -- the present content of a partly touched virtual block: begun, and a word more
+  -- the present content of a partly touched virtual block: begun, and a word more; and all such content is given up
   OpensBase : ℕ → Work
   AddsBaseWord : Work
+  DropsBases : Work
   -- bytes of a read
   Lays : List ℕ → Work
   -- the content of an owned block: a word of it; and that each word is stored and marked
@@ -254,6 +255,7 @@ state_after_work s Follows = record s { walk = record (s.walk) { tail_block = ke
 state_after_work s Forgets = record s { walk = record (s.walk) { kept = [] } }
 state_after_work s (OpensBase virt) = record s { calling = record (s.calling) { bases = s.calling.bases ++ virt ∷ [] } }
 state_after_work s AddsBaseWord = record s { calling = record (s.calling) { base_words = s.calling.base_words ++ word_of_block s (base_block s) (base_slot s) ∷ [] } }
+state_after_work s DropsBases = record s { calling = record (s.calling) { bases = []; base_words = [] } }
 state_after_work s (Lays bytes) = record s { calling = record (s.calling) { bytes = s.calling.bytes ++ bytes } }
 state_after_work s (SetsWord place word value) = record s {
   blocks = record (s.blocks) {
@@ -322,18 +324,23 @@ pub record HasFoundLink (g : Ghost) (s : Seat) : Type 0 where
   pub at_end : s.walk.tail_slot ≡ words_of s
   pub linked : kept_word s s.walk.tail_block 0 ≢ 0
 
+-- the words of mapped blocks may be taken for the file's: the pin is valid, the table is that of its chain, and the view is at the
+-- chain's tail
+pub record MayReadFile (s : Seat) : Type 0 where
+  pub valid : s.hold.valid ≡ true
+  pub own_table : s.walk.ready ≡ true
+  pub at_tail : s.walk.at_tail ≡ true
+
 -- a base may be begun: fewer than two are, the last one is whole, and it is none of them
 pub record MayOpenBase (s : Seat) (virt : ℕ) : Type 0 where
-  pub valid : s.hold.valid ≡ true
-  pub ready : s.walk.ready ≡ true
+  pub reads : MayReadFile s
   pub few : length s.calling.bases < 2
   pub whole : length s.calling.base_words ≡ length s.calling.bases * words_of s
   pub other : (place : ℕ) → place < length s.calling.bases → slice_index s.calling.bases place ≢ virt
 
 -- the next word of a base is known: it is kept, or its virtual block is not mapped
 pub record MayAddBaseWord (s : Seat) : Type 0 where
-  pub valid : s.hold.valid ≡ true
-  pub ready : s.walk.ready ≡ true
+  pub reads : MayReadFile s
   pub begun : 0 < length s.calling.bases
   pub inside : base_slot s < words_of s
   pub known : (block : ℕ) → base_block s ≡ Some block → kept_at s.walk.kept block (base_slot s) ≢ None
@@ -349,8 +356,7 @@ IsByteAt s place byte = IsByteIn s (map_at s.walk.map (place / s.geometry.block_
 
 -- bytes of a read may be laid: the next ones that it asks, inside the file
 pub record MayLay (s : Seat) (bytes : List ℕ) : Type 0 where
-  pub valid : s.hold.valid ≡ true
-  pub at_tail : s.walk.at_tail ≡ true
+  pub reads : MayReadFile s
   pub offset : ℕ
   pub count : ℕ
   pub job : s.calling.job ≡ Pread offset count
@@ -414,6 +420,7 @@ MayWork g s Follows = HasFoundLink g s
 MayWork g s Forgets = Unit {0}
 MayWork g s (OpensBase virt) = MayOpenBase s virt
 MayWork g s AddsBaseWord = MayAddBaseWord s
+MayWork g s DropsBases = Unit {0}
 MayWork g s (Lays bytes) = MayLay s bytes
 MayWork g s (SetsWord place word value) = MaySetWord s place word value
 MayWork g s (CountsFilled place) = MayCountFilled g s place

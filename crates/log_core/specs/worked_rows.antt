@@ -3,5 +3,7 @@ pub mod Samples
 pub mod Rows
 pub mod Refused
 pub mod Gaps
+pub mod CallGaps
+pub mod CoreGaps
 pub mod Offered
 pub mod Accepted

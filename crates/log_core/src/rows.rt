@@ -4,6 +4,8 @@ ghost use Rattle.log_core.specs.worked_rows.Rows.{JustMade, PinsInThreeSteps, Sc
 ghost use Rattle.log_core.specs.worked_rows.Offered.{FilledNoMore, BitmapMayBeRead, OfferedKinds, NotOffered, BlockRuns};
 ghost use Rattle.log_core.specs.worked_rows.Refused.{OtherEntryPossible, HeadSkips, LogHasMore, BitWithoutOwner, BlockOnTwoLists, ChainBlockFree, OtherContentPossible, PinOfAnother, ViewOfAnother, StoredNotPresent, ReplacedStillNamed, RecordOfNoWrite, SyncedMayBeLost, NamedTwice, SnapshotNamesMore, WriteOfNoSeat};
 ghost use Rattle.log_core.specs.worked_rows.Gaps.{BitPastTheWord, MarkOfOwnedBlock, FloorAhead, SpentViewHolds};
+ghost use Rattle.log_core.specs.worked_rows.CallGaps.{TableOfAnother, BaseFromBefore, BasesDropped, BaseLeftOver, FirstBaseShort, TailNotWalked, HeadOfNoCollection, SyncOfNoSync, CallOfNoNumber};
+ghost use Rattle.log_core.specs.worked_rows.CoreGaps.{BegunPastEnd, PartsOfAnother, MadeMore, OvertakenByNone, SyncedBeforeStart, WriteOfAnotherSize, EntryOfAnotherSize};
 ghost use Rattle.log_core.specs.worked_rows.Accepted.{PinMayBeStored, WordMayBeLoaded, WordMayBeMarked, EntryMayBePut, OrderStands, PinsStand, ViewsStand, OwnedStands, GivingsStand, RecordsStand, SyncsStand, ContentsStand, OwnersStand, PinRuns, WriteFits, ViewsJoin, ViewsSplit, LateWrite, LateSync, LateWalk, RunsMayBePut, CollectionsInTurn};
 
 /// Worked states and steps of small images: what each comes to.
@@ -62,6 +64,26 @@ pub fn law_refused()
     ensures mark_of_owned_block { MarkOfOwnedBlock }
     ensures floor_ahead { FloorAhead }
     ensures spent_view_holds { SpentViewHolds }
+{}
+
+/// Wrong computations, views and cores that one clause alone refuses, and what a step would make of each.
+pub fn law_gaps()
+    ensures table_of_another { TableOfAnother }
+    ensures base_from_before { BaseFromBefore }
+    ensures bases_dropped { BasesDropped }
+    ensures base_left_over { BaseLeftOver }
+    ensures first_base_short { FirstBaseShort }
+    ensures tail_not_walked { TailNotWalked }
+    ensures head_of_no_collection { HeadOfNoCollection }
+    ensures sync_of_no_sync { SyncOfNoSync }
+    ensures call_of_no_number { CallOfNoNumber }
+    ensures begun_past_end { BegunPastEnd }
+    ensures parts_of_another { PartsOfAnother }
+    ensures made_more { MadeMore }
+    ensures overtaken_by_none { OvertakenByNone }
+    ensures synced_before_start { SyncedBeforeStart }
+    ensures write_of_another_size { WriteOfAnotherSize }
+    ensures entry_of_another_size { EntryOfAnotherSize }
 {}
 
 /// Conditions of steps, and clauses that hold of states that runs come to.

@@ -39,7 +39,7 @@ has_log (log ∷ logs) (suc cut) zero low inside = absurd (omega (arith, low))
 has_log (log ∷ logs) (suc cut) (suc number) low inside = has_log logs cut number (omega (arith, low)) (omega (arith, inside))
 
 -- a block among more is of the one or the other
-either_of : {P : Type 0} (a b : Bool) → (a || b) ≡ true → (a ≡ true → P) → (b ≡ true → P) → P
+pub either_of : {P : Type 0} (a b : Bool) → (a || b) ≡ true → (a ≡ true → P) → (b ≡ true → P) → P
 either_of true b e left right = left refl
 either_of false b e left right = right e
 

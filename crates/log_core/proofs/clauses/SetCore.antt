@@ -34,7 +34,7 @@ use Rattle.log_core.proofs.clauses.Others.{walk_left, pin_kept, floor_rises, pin
 module _ (o : Origin) (c : Core) (n : ℕ) (s : Seat) (g : Ghost) (m : Memory) (owner : ℕ → Owner) (began : List ℕ) (inv : Invariant o c) (here : n < length c.views)
     (unspent : (view_of c.views n).parts ≢ []) (leaves : Leaves o c n m) (changes : Changes c n owner) (bits : BitsFit (shape o) m.now.taken owner)
     (facts : Knows o (moved c m owner) n s g (slice_index m.now.pins n) (slice_index began n))
-    (same_began : length began ≡ length c.began) (other_began : (k : ℕ) → k ≢ n → slice_index began k ≡ slice_index c.began k) where
+    (same_began : length began ≡ length c.began) (other_began : (k : ℕ) → k ≢ n → slice_index began k ≡ slice_index c.began k) (low_began : (k : ℕ) → slice_index began k ≤ end_of o c.history) where
   abbrev w : View
   w = with_seat (view_of c.views n) s g
 
@@ -100,6 +100,8 @@ module _ (o : Origin) (c : Core) (n : ℕ) (s : Seat) (g : Ghost) (m : Memory) (
         (each_set (λ (k : ℕ) (v : View). k ≡ 0 → v.parts ≢ [] → v.made ≡ length c.views) c.views n w here
         (λ zero_is parts. subst (λ (k : ℕ). (view_of c.views k).parts ≢ [] → (view_of c.views k).made ≡ length c.views) (sym zero_is) inv.sizes.made parts)
         (λ k other zero_is parts. subst (λ (j : ℕ). (view_of c.views j).parts ≢ [] → (view_of c.views j).made ≡ length c.views) (sym zero_is) inv.sizes.made parts) 0 refl some);
+    few_made = λ number. subst (λ (k : ℕ). (view_of views number).made ≤ k) (sym count)
+        (each_set (λ (k : ℕ) (v : View). v.made ≤ length c.views) c.views n w here (inv.sizes.few_made n) (λ k other. inv.sizes.few_made k) number);
     spent = each_set (λ (k : ℕ) (v : View). v.parts ≡ [] → v ≡ spent_view) c.views n w here (λ none. absurd (unspent none)) (λ k other none. inv.sizes.spent k none);
     each = λ number inside some. each_set (λ (k : ℕ) (v : View). k < length c.views → v.parts ≢ [] → SeatFits o k v) c.views n w here
         (λ low parts. facts.fits parts) (λ k other low parts. inv.sizes.each k low parts) number (subst (λ (k : ℕ). number < k) count inside) some;
@@ -189,6 +191,7 @@ module _ (o : Origin) (c : Core) (n : ℕ) (s : Seat) (g : Ghost) (m : Memory) (
   seats_once : SeatsOnce c.history views
   seats_once = record {
     once = λ seat. parts_set c.views n w seat refl here ∙ (inv.records.seats_once.once seat ∙ ap (λ (k : ℕ). one_if (nat_lt seat k)) (sym count));
+    own = each_set (λ (k : ℕ) (v : View). v.parts ≢ [] → is_listed v.parts k ≡ true) c.views n w here (inv.records.seats_once.own n) (λ k other. inv.records.seats_once.own k);
     writes = subst (λ (k : ℕ). AllByRecursion (λ (write : Rattle.log_core.specs.Files.Write). write.seat < k) c.history) (sym count) inv.records.seats_once.writes;
     records = all_set (λ (v : View). AllByRecursion (λ (call : Call). is_listed v.parts call.seat ≡ true) v.done) c.views n w
         (all_at (λ (v : View). AllByRecursion (λ (call : Call). is_listed v.parts call.seat ≡ true) v.done) c.views n here inv.records.seats_once.records) inv.records.seats_once.records;
@@ -204,6 +207,7 @@ module _ (o : Origin) (c : Core) (n : ℕ) (s : Seat) (g : Ghost) (m : Memory) (
     records = each_set (λ (k : ℕ) (v : View). AllByRecursion (RecordHolds o c.history c.generations) v.done) c.views n w here (inv.records.records n) (λ k other. inv.records.records k);
     never_fall = λ seat part. each_set (λ (k : ℕ) (v : View). NeverFall part 0 0 v.done) c.views n w here (inv.records.never_fall n part) (λ k other. inv.records.never_fall k part) seat;
     calls = each_set (λ (k : ℕ) (v : View). CallHolds o c.history v) c.views n w here facts.calls (λ k other. inv.records.calls k);
+    begun = low_began;
     tails = each_set (λ (k : ℕ) (v : View). TailHolds v (slice_index began k)) c.views n w here facts.tail
         (λ k other. subst (λ (end : ℕ). TailHolds (view_of c.views k) end) (sym (other_began k other)) (inv.records.tails k));
     marks = each_set (λ (k : ℕ) (v : View). MarksFit (λ word. cell m word) m.past m.pending k v) c.views n w here facts.marks (λ k other. marks_left o c n m inv leaves k other (inv.records.marks k));
@@ -211,6 +215,7 @@ module _ (o : Origin) (c : Core) (n : ℕ) (s : Seat) (g : Ghost) (m : Memory) (
 
   syncs : Syncs o m views c.history c.generations c.logs c.synced
   syncs = record {
+    from_first = inv.syncs.from_first;
     to_end = inv.syncs.to_end;
     words = λ place number low inside cut less. (let kept : KeptIn o c place = record { inside = inside; why = inl (let rises = floor_up in omega (arith, low, rises)) } in
         synced_narrows (shape o) (λ word. cell c.memory word) (λ word. cell m word) c.synced (nth_log c.logs number) (nth_log c.logs (number + 1)) (inv.order.log.inside number less)
@@ -222,6 +227,7 @@ module _ (o : Origin) (c : Core) (n : ℕ) (s : Seat) (g : Ghost) (m : Memory) (
   pub set_core : Invariant o new
   set_core = record {
     sizes = sizes;
+    writes = inv.writes;
     order = order;
     owners = owners;
     contents = contents;

@@ -9,7 +9,7 @@ use Rattle.pmem_words.specs.declared.keeps.Task.TheVariants.{Pread}
 use Rattle.pmem_words.specs.Seats.{Seat}
 use Rattle.persistence.specs.Memory.{PendingMark, cell, pending_of}
 use Rattle.log_core.specs.Views.{Ghost, HeadPut, view_of, op_of}
-use Rattle.log_core.specs.Origin.{Origin, q_of_origin}
+use Rattle.log_core.specs.Origin.{Origin, q_of_origin, first_generation}
 use Rattle.log_core.specs.Files.{file_at, entries}
 use Rattle.log_core.specs.Cores.{Core}
 use Rattle.log_core.specs.Works.{Begins, state_after_work, laid_bytes, MayBegin}
@@ -47,6 +47,11 @@ module _ (o : Origin) (c : Core) (n : ℕ) (s : Seat) (g : Ghost) (pin began now
   put_none : (b : Bool) → (call_if b g.call number).put ≡ None
   put_none true = refl
   put_none false = may.no_head
+
+  -- a call that begins has found no other generation
+  overtaken_low : (b : Bool) → g.call.overtaken < first_generation o + length c.generations → (call_if b g.call number).overtaken < first_generation o + length c.generations
+  overtaken_low true low = omega (arith, low)
+  overtaken_low false low = low
 
   number_at_least : (b : Bool) → (b ≡ true → g.call.number < number) → g.call.number ≤ (call_if b g.call number).number
   number_at_least true high = (let h = high refl in omega (arith, h))
@@ -92,13 +97,14 @@ module _ (o : Origin) (c : Core) (n : ℕ) (s : Seat) (g : Ghost) (pin began now
   calls_begun : CallHolds o c.history (with_seat (view_of c.views n) s g) → CallHolds o c.history (with_seat (view_of c.views n) new ghost)
   calls_begun r = record {
     laid = λ offset count same. laid_none (file_at o c.history s.walk.position) bytes offset (begins_bare task bytes offset count may.none_laid same);
-    base_words = omega arith;
-    bases = λ place at inside. absurd (omega (arith, inside));
-    reading = λ reading. (refl, may.none_laid, refl, refl, put_none b, refl);
-    numbers = raised (view_of c.views n).done g.call.number (call_if b g.call number).number (number_at_least b higher) r.numbers;
-    runs = λ running. passed (view_of c.views n).done g.call.number (call_if b g.call number).number (number_above b (begun running) higher) r.numbers;
-    won_runs = λ won. cc;
-    put_runs = λ some. absurd (some (put_none b));
+    bases = record { most = omega arith; whole = omega arith; from_first = λ some. absurd (some refl); bytes = λ running place at inside. absurd (omega (arith, inside)) };
+    reading = λ reading. (refl, may.none_laid, refl, refl, put_none b, λ running. refl);
+    numbers = record {
+      most = raised (view_of c.views n).done g.call.number (call_if b g.call number).number (number_at_least b higher) r.numbers.most;
+      runs = λ running. passed (view_of c.views n).done g.call.number (call_if b g.call number).number (number_above b (begun running) higher) r.numbers.most;
+      some = λ running. (let above = number_above b (begun running) higher in omega (arith, above));
+    };
+    task = record { won_runs = λ won. cc; put_collects = λ some. absurd (some (put_none b)); synced_syncs = λ some. absurd (some refl) };
   }
 
   notes_none : pending_of n c.memory.pending ≡ []
@@ -125,10 +131,10 @@ module _ (o : Origin) (c : Core) (n : ℕ) (s : Seat) (g : Ghost) (pin began now
     scanned = f.scanned;
     writes = (let r = f.writes in record { recorded = r.recorded; running = λ won. cc });
     writes_once = once_begun f.writes_once;
-    put = λ put same. absurd (never_both (call_if b g.call number).put put (put_none b) same);
+    put = record { own = λ put same. absurd (never_both (call_if b g.call number).put put (put_none b) same); found = overtaken_low b f.put.found };
     same_put = put_none b ∙ (sym may.no_head ∙ f.same_put);
     calls = calls_begun f.calls;
-    tail = record { begun = λ at. cc; records = λ at. cc };
+    tail = λ at. cc;
     marks = f.marks;
     syncs = record {
       to = λ position same. cc;

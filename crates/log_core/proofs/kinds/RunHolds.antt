@@ -1,4 +1,4 @@
--- So does every run: each ask of an offered kind is one of the nine.
+-- So does every run: each ask of an offered kind is one of the ten.
 use Rattle.std.proofs.Common.{◌≡◌, ◌≢◌, ◌<◌, ◌==◌, ◌%◌, not, ℕ, Bool, true, false, if◌then◌else◌, List, [], ◌∷◌, length, refl, sym, subst, slice_index}
 use Rattle.std.specs.List.{list_all}
 use Rattle.std.proofs.lemmas.Bool.{eqb-true}
@@ -17,7 +17,7 @@ use Rattle.log_core.specs.May.{IsOfferedKind}
 use Rattle.log_core.specs.Runs.{MayStep, IsRun, end, is_offered_work}
 use Rattle.log_core.specs.Invariant.{Invariant}
 use Rattle.log_core.specs.Laws.{StepKeeps}
-use Rattle.log_core.proofs.kinds.StepHolds.{head_holds, pin_holds, seen_holds, bitmap_word_holds, set_bits_holds, clear_bits_holds, stored_holds, mark_holds, fence_holds}
+use Rattle.log_core.proofs.kinds.StepHolds.{head_holds, image_word_holds, pin_holds, seen_holds, bitmap_word_holds, set_bits_holds, clear_bits_holds, stored_holds, mark_holds, fence_holds}
 
 -- an exchange is of no offered kind
 pub no_exchange : (s : Seat) (q word before next : ℕ) → IsOfferedKind s (exchange_kind q word before next) → ⊥
@@ -41,7 +41,7 @@ module _ (o : Origin) (c : Core) (n : ℕ) (inv : Invariant o c) (here : n < len
   by_head : (word : ℕ) (b : Bool) → (word == head_place) ≡ b → KeepsAsk (Load (Image word)) (if b then LoadsHead else LoadsImageWord word) (slice_index c.memory.now.words word) (slice_index c.memory.now.words word)
   by_head word true e = subst (λ (w : ℕ). KeepsAsk (Load (Image w)) LoadsHead (slice_index c.memory.now.words w) (slice_index c.memory.now.words w)) (sym (eqb-true word head_place e))
       (λ offered. head_holds o c n inv here unspent note)
-  by_head word false e = λ offered. absurd offered
+  by_head word false e = λ offered. image_word_holds o c n inv here unspent note word
 
   by_own : (other value f : ℕ) (b : Bool) → (other == n) ≡ b → KeepsAsk (Store (Pin other) value) (if b then StoresOwnPin value else NoKind) f 0
   by_own other value f true e = subst (λ (k : ℕ). KeepsAsk (Store (Pin k) value) (StoresOwnPin value) f 0) (sym (eqb-true other n e))

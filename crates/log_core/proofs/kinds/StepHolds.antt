@@ -1,5 +1,5 @@
 -- Each step that is offered keeps the invariant.
-use Rattle.std.proofs.Common.{◌≡◌, ◌≢◌, ◌<◌, ℕ, Bool, true, false, List, [], ◌∷◌, ◌++◌, length, refl, sym, ◌∙◌, ap, subst, arith, ⊎_elim, slice_index, slice_set, Option, Some, None, append-nil}
+use Rattle.std.proofs.Common.{◌≡◌, ◌≢◌, ◌<◌, ◌≤◌, ℕ, zero, suc, Bool, true, false, List, [], ◌∷◌, ◌++◌, length, refl, sym, ◌∙◌, ap, subst, arith, ⊎_elim, slice_index, slice_set, Option, Some, None, append-nil}
 use Rattle.std.specs.List.{list_all}
 use Rattle.std.proofs.lemmas.List.{get_or-set_same, get_or-set_other, length-set, set-get_or}
 use Rattle.log_entry.specs.declared.calls.Op.{Op}
@@ -16,7 +16,7 @@ use Rattle.log_core.specs.Files.{end_of}
 use Rattle.log_core.specs.Cores.{Core}
 use Rattle.log_core.specs.Owners.{BitsFit}
 use Rattle.log_core.specs.Works.{ended}
-use Rattle.log_core.specs.Steps.{Note, Kind, LoadsHead, StoresOwnPin, LoadsPinWord, LoadsBitmapWord, SetsBits, ClearsBits, StoresWord, MarksWord, Fences, is_begun, is_of_owned, ghost_begun, ghost_ended, view_after}
+use Rattle.log_core.specs.Steps.{Note, Kind, LoadsHead, LoadsImageWord, StoresOwnPin, LoadsPinWord, LoadsBitmapWord, SetsBits, ClearsBits, StoresWord, MarksWord, Fences, is_begun, is_of_owned, ghost_begun, ghost_ended, view_after}
 use Rattle.log_core.specs.After.{stepped, began_if, owner_after, synced_to, synced_after}
 use Rattle.log_core.specs.May.{IsOwnMark}
 use Rattle.log_core.specs.Runs.{MayNumber, MayStep, ghost_at, effect_at, ghost_left, is_offered_work}
@@ -27,6 +27,7 @@ use Rattle.log_core.proofs.clauses.SetCore.{set_core}
 use Rattle.log_core.proofs.Facts.{facts_of, pins_known}
 use Rattle.log_core.proofs.kinds.Worked.{FactsAt, works_hold, later_hold}
 use Rattle.log_core.proofs.kinds.LoadsHead.{load_facts}
+use Rattle.log_core.proofs.kinds.LoadsImageWord.{image_facts}
 use Rattle.log_core.proofs.kinds.StoresOwnPin.{store_facts}
 use Rattle.log_core.proofs.kinds.LoadsPinWord.{seen_facts}
 use Rattle.log_core.proofs.kinds.LoadsBitmapWord.{map_leaves, map_bits, map_facts}
@@ -44,6 +45,18 @@ began_other : (b : Bool) (began : List ℕ) (n end k : ℕ) → k ≢ n → slic
 began_other true began n end k other = get_or-set_other began n k end 0 other
 began_other false began n end k other = refl
 
+-- no call has begun past the end
+set_low : (began : List ℕ) (n end k : ℕ) → slice_index began k ≤ end → slice_index (slice_set began n end) k ≤ end
+set_low [] n end k low = low
+set_low (b ∷ began) zero end zero low = omega arith
+set_low (b ∷ began) zero end (suc k) low = low
+set_low (b ∷ began) (suc n) end zero low = low
+set_low (b ∷ began) (suc n) end (suc k) low = set_low began n end k low
+
+began_low : (b : Bool) (began : List ℕ) (n end k : ℕ) → slice_index began k ≤ end → slice_index (began_if b began n end) k ≤ end
+began_low true began n end k low = set_low began n end k low
+began_low false began n end k low = low
+
 -- a step of a kind, whose parts are given
 module _ (o : Origin) (c : Core) (n : ℕ) (inv : Invariant o c) (here : n < length c.views) (unspent : (view_of c.views n).parts ≢ []) (note : Note) where
   abbrev mine : View
@@ -57,6 +70,9 @@ module _ (o : Origin) (c : Core) (n : ℕ) (inv : Invariant o c) (here : n < len
 
   began_others : (k : ℕ) → k ≢ n → slice_index began k ≡ slice_index c.began k
   began_others = began_other (is_begun (op_in mine.seat) (op_in note.before)) c.began n (end_of o c.history)
+
+  began_lows : (k : ℕ) → slice_index began k ≤ end_of o c.history
+  began_lows k = began_low (is_begun (op_in mine.seat) (op_in note.before)) c.began n (end_of o c.history) k (inv.records.begun k)
 
   ended_none : (adds : List Call) (last : Seat) → adds ≡ [] → ended adds last ≡ last
   ended_none [] last e = refl
@@ -93,7 +109,7 @@ module _ (o : Origin) (c : Core) (n : ℕ) (inv : Invariant o c) (here : n < len
         Knows o (moved c m owner) n (effect_at mine note kind f) (ghost_left mine note kind f) (slice_index m.now.pins n) (slice_index began n) →
         Invariant o (record c { memory = m; views = slice_set c.views n (view_after mine kind note f); owner = owner; began = began })
     kind_holds m owner leaves changes bits facts = subst (λ (w : View). Invariant o (record c { memory = m; views = slice_set c.views n w; owner = owner; began = began })) (sym view_is)
-        (set_core o c n note.seat (ghost_left mine note kind f) m owner began inv here unspent leaves changes bits (at_end (moved c m owner) (slice_index m.now.pins n) facts) began_fits began_others)
+        (set_core o c n note.seat (ghost_left mine note kind f) m owner began inv here unspent leaves changes bits (at_end (moved c m owner) (slice_index m.now.pins n) facts) began_fits began_others began_lows)
 
   -- the premises of a step of a kind
   abbrev Keeps : Kind → ℕ → Type 0 → Type 0
@@ -119,6 +135,15 @@ module _ (o : Origin) (c : Core) (n : ℕ) (inv : Invariant o c) (here : n < len
       subst (λ (words : List ℕ). Invariant o (record c { memory = record (c.memory) { now = record (c.memory.now) { words = words } }; views = slice_set c.views n (view_after mine LoadsHead note f); began = began }))
       (sym (set-get_or c.memory.now.words head_place 0))
       (pins_hold LoadsHead f c.memory.now.pins refl (λ k other. refl) step before later no_record facts))
+
+  -- a load of a word of the pinned chain
+  pub image_word_holds : (word : ℕ) → Keeps (LoadsImageWord word) (slice_index c.memory.now.words word) (Invariant o (stepped o c n (Load (Image word)) note (LoadsImageWord word) (slice_index c.memory.now.words word)))
+  image_word_holds word step before later no_record =
+      (let f = slice_index c.memory.now.words word in
+      let facts = image_facts o c n note.before (ghost_at mine note) (slice_index c.memory.now.pins n) (slice_index began n) word inv (at_ask (LoadsImageWord word) f step before later no_record) unspent step.may (began_lows n) in
+      subst (λ (words : List ℕ). Invariant o (record c { memory = record (c.memory) { now = record (c.memory.now) { words = words } }; views = slice_set c.views n (view_after mine (LoadsImageWord word) note f); began = began }))
+      (sym (set-get_or c.memory.now.words word 0))
+      (pins_hold (LoadsImageWord word) f c.memory.now.pins refl (λ k other. refl) step before later no_record facts))
 
   -- a store of the own pin word
   pub pin_holds : (value found : ℕ) → Keeps (StoresOwnPin value) 0 (Invariant o (stepped o c n (Store (Pin n) value) note (StoresOwnPin value) found))

@@ -63,8 +63,8 @@ module _ (o : Origin) (c : Core) (n : ℕ) (s : Seat) (g : Ghost) (pin began val
     writes_once = f.writes_once;
     put = f.put;
     same_put = f.same_put;
-    calls = (let r = f.calls in record { laid = r.laid; base_words = r.base_words; bases = r.bases; reading = r.reading; numbers = r.numbers; runs = r.runs; won_runs = r.won_runs; put_runs = r.put_runs });
-    tail = (let r = f.tail in record { begun = r.begun; records = r.records });
+    calls = (let r = f.calls in record { laid = r.laid; bases = r.bases; reading = r.reading; numbers = r.numbers; task = r.task });
+    tail = f.tail;
     marks = f.marks;
     syncs = (let r = f.syncs in record { to = r.to; marks = r.marks; valid = λ sync some. absurd (some (notes_none sync)); answered = r.answered });
   }

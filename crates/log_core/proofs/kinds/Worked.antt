@@ -8,7 +8,7 @@ use Rattle.log_core.specs.Views.{View, Ghost, view_of, op_in, op_of}
 use Rattle.log_core.specs.Origin.{Origin}
 use Rattle.log_core.specs.Files.{end_of}
 use Rattle.log_core.specs.Cores.{Core}
-use Rattle.log_core.specs.Works.{Work, Begins, KeepsTable, StartsFromLog, StartsFromSnapshot, ReadsRun, NextSnapshot, EndsReading, TakesEntry, TakesSeal, Follows, Forgets, OpensBase, AddsBaseWord, Lays, SetsWord, CountsFilled, NotesNamed, KeepsReplaced, NotesHeld, state_after_work, state_after_all_work, MayBegin, MayWorkAll, is_going_on}
+use Rattle.log_core.specs.Works.{Work, Begins, KeepsTable, StartsFromLog, StartsFromSnapshot, ReadsRun, NextSnapshot, EndsReading, TakesEntry, TakesSeal, Follows, Forgets, OpensBase, AddsBaseWord, DropsBases, Lays, SetsWord, CountsFilled, NotesNamed, KeepsReplaced, NotesHeld, state_after_work, state_after_all_work, MayBegin, MayWorkAll, is_going_on}
 use Rattle.log_core.specs.Steps.{is_begun, ghost_begun}
 use Rattle.log_core.specs.After.{began_if}
 use Rattle.log_core.specs.Runs.{MayNumber, is_offered_work}
@@ -17,6 +17,9 @@ use Rattle.log_core.proofs.Facts.{forgotten, forget_facts}
 use Rattle.log_core.proofs.kinds.Begun.{begun_facts}
 use Rattle.log_core.proofs.kinds.SetsWord.{set_word_facts}
 use Rattle.log_core.proofs.kinds.CountsFilled.{count_filled_facts}
+use Rattle.log_core.proofs.kinds.DropsBases.{drop_facts}
+use Rattle.log_core.proofs.kinds.NotesNamed.{named_facts}
+use Rattle.log_core.proofs.kinds.NotesHeld.{held_facts}
 
 no_begin : (before now : Option Op) → now ≡ None → is_begun before now ≡ false
 no_begin None None e = refl
@@ -61,12 +64,13 @@ runs_on g s (TakesSeal ∷ works) offered may some = cc
 runs_on g s (Follows ∷ works) offered may some = cc
 runs_on g s (OpensBase virt ∷ works) offered may some = cc
 runs_on g s (AddsBaseWord ∷ works) offered may some = cc
+runs_on g s (DropsBases ∷ works) offered may some = runs_on g (state_after_work s DropsBases) works offered may.1 some
 runs_on g s (Lays bytes ∷ works) offered may some = cc
 runs_on g s (SetsWord place word value ∷ works) offered may some = runs_on g (state_after_work s (SetsWord place word value)) works offered may.1 some
 runs_on g s (CountsFilled place ∷ works) offered may some = runs_on g (state_after_work s (CountsFilled place)) works offered may.1 some
-runs_on g s (NotesNamed words ∷ works) offered may some = cc
+runs_on g s (NotesNamed words ∷ works) offered may some = runs_on g (state_after_work s (NotesNamed words)) works offered may.1 some
 runs_on g s (KeepsReplaced ∷ works) offered may some = cc
-runs_on g s (NotesHeld held ∷ works) offered may some = cc
+runs_on g s (NotesHeld held ∷ works) offered may some = runs_on g (state_after_work s (NotesHeld held)) works offered may.1 some
 
 module _ (o : Origin) (c : Core) (n pin number : ℕ) where
   abbrev v : View
@@ -112,6 +116,8 @@ module _ (o : Origin) (c : Core) (n pin number : ℕ) where
   works_hold s (Follows ∷ works) offered may facts start higher = cc
   works_hold s (OpensBase virt ∷ works) offered may facts start higher = cc
   works_hold s (AddsBaseWord ∷ works) offered may facts start higher = cc
+  works_hold s (DropsBases ∷ works) offered may facts start higher =
+      works_hold (state_after_work s DropsBases) works offered may.1 (drop_facts o c n s (ghost_begun v.ghost v.seat s number) pin (slice_index (began_at s) n) facts) start higher
   works_hold s (Lays bytes ∷ works) offered may facts start higher = cc
   works_hold s (SetsWord place word value ∷ works) offered may facts start higher =
       works_hold (state_after_work s (SetsWord place word value)) works offered may.1
@@ -119,9 +125,11 @@ module _ (o : Origin) (c : Core) (n pin number : ℕ) where
   works_hold s (CountsFilled place ∷ works) offered may facts start higher =
       works_hold (state_after_work s (CountsFilled place)) works offered may.1
       (count_filled_facts o c n s (ghost_begun v.ghost v.seat s number) pin (slice_index (began_at s) n) place facts (record { owned = may.0.owned; each = may.0.each })) start higher
-  works_hold s (NotesNamed words ∷ works) offered may facts start higher = cc
+  works_hold s (NotesNamed words ∷ works) offered may facts start higher =
+      works_hold (state_after_work s (NotesNamed words)) works offered may.1 (named_facts o c n s (ghost_begun v.ghost v.seat s number) pin (slice_index (began_at s) n) words facts may.0) start higher
   works_hold s (KeepsReplaced ∷ works) offered may facts start higher = cc
-  works_hold s (NotesHeld held ∷ works) offered may facts start higher = cc
+  works_hold s (NotesHeld held ∷ works) offered may facts start higher =
+      works_hold (state_after_work s (NotesHeld held)) works offered may.1 (held_facts o c n s (ghost_begun v.ghost v.seat s number) pin (slice_index (began_at s) n) held facts) start higher
 
 -- what a seat computes after a step: it gives up its kept words, sets words of owned blocks, and counts them as filled
 module _ (o : Origin) (c : Core) (n pin began : ℕ) (g : Ghost) where
@@ -140,11 +148,12 @@ module _ (o : Origin) (c : Core) (n pin began : ℕ) (g : Ghost) where
   later_hold s (Follows ∷ works) offered going may facts = cc
   later_hold s (OpensBase virt ∷ works) offered going may facts = cc
   later_hold s (AddsBaseWord ∷ works) offered going may facts = cc
+  later_hold s (DropsBases ∷ works) offered going may facts = later_hold (state_after_work s DropsBases) works offered going may.1 (drop_facts o c n s g pin began facts)
   later_hold s (Lays bytes ∷ works) offered going may facts = cc
   later_hold s (SetsWord place word value ∷ works) offered going may facts =
       later_hold (state_after_work s (SetsWord place word value)) works offered going may.1 (set_word_facts o c n s g pin began place word value facts may.0)
   later_hold s (CountsFilled place ∷ works) offered going may facts =
       later_hold (state_after_work s (CountsFilled place)) works offered going may.1 (count_filled_facts o c n s g pin began place facts may.0)
-  later_hold s (NotesNamed words ∷ works) offered going may facts = cc
+  later_hold s (NotesNamed words ∷ works) offered going may facts = later_hold (state_after_work s (NotesNamed words)) works offered going may.1 (named_facts o c n s g pin began words facts may.0)
   later_hold s (KeepsReplaced ∷ works) offered going may facts = cc
-  later_hold s (NotesHeld held ∷ works) offered going may facts = cc
+  later_hold s (NotesHeld held ∷ works) offered going may facts = later_hold (state_after_work s (NotesHeld held)) works offered going may.1 (held_facts o c n s g pin began held facts)

@@ -18,12 +18,13 @@ use Rattle.log_core.specs.Files.{end_of}
 use Rattle.log_core.specs.Works.{words_of}
 use Rattle.log_core.specs.Needs.{owned_numbers}
 use Rattle.log_core.specs.After.{began_if}
-use Rattle.log_core.specs.May.{IsOfferedKind}
+use Rattle.log_core.specs.May.{May, IsOfferedKind}
 use Rattle.log_core.specs.Runs.{MayStep, ghost_at, Allowed}
 use Rattle.log_core.specs.Invariant.{Invariant}
 use Rattle.log_core.specs.Knows.{Knows}
 use Rattle.log_core.proofs.BitmapFacts.{word_inside as found_inside}
 use Rattle.log_core.proofs.clauses.OwnWords.{word_inside as own_inside}
+use Rattle.log_core.proofs.kinds.LoadsImageWord.{named_inside}
 use Rattle.log_core.proofs.kinds.StepHolds.{at_ask}
 use Rattle.log_core.proofs.kinds.RunHolds.{no_exchange}
 
@@ -49,9 +50,11 @@ module _ (o : Origin) (c : Core) (seat : ℕ) (note : Note) (inv : Invariant o c
       (slice_index (began_if (is_begun (op_in (view_of c.views seat).seat) (op_in note.before)) c.began seat (end_of o c.history)) seat)
 
   -- each ask of an offered kind is on a word that the memory has
-  by_head : (word : ℕ) (b : Bool) → (word == head_place) ≡ b → IsOfferedKind note.before (if b then LoadsHead else LoadsImageWord word) → word < length c.memory.now.words
-  by_head word true e offered = subst (λ (k : ℕ). k < length c.memory.now.words) (sym (eqb-true word head_place e)) head_inside
-  by_head word false e offered = absurd offered
+  by_head : (word : ℕ) (pin began : ℕ) → Knows o c seat note.before (ghost_at (view_of c.views seat) note) pin began → (b : Bool) → (word == head_place) ≡ b →
+      May o c (ghost_at (view_of c.views seat) note) note.before (if b then LoadsHead else LoadsImageWord word) → word < length c.memory.now.words
+  by_head word pin began known true e may = subst (λ (k : ℕ). k < length c.memory.now.words) (sym (eqb-true word head_place e)) head_inside
+  by_head word pin began known false e may =
+      (let low = named_inside o c seat note.before (ghost_at (view_of c.views seat) note) pin began word inv known unspent may in let many = inv.sizes.words.words in omega (arith, low, many))
 
   by_own : (other value : ℕ) (b : Bool) → (other == seat) ≡ b → IsOfferedKind note.before (if b then StoresOwnPin value else NoKind) → other < length c.memory.now.pins
   by_own other value true e offered = (let same = eqb-true other seat e in let made = made in let few = inv.sizes.few in pins_inside other (omega (arith, same, made, few)))
@@ -68,7 +71,7 @@ module _ (o : Origin) (c : Core) (seat : ℕ) (note : Note) (inv : Invariant o c
 
   takes_by : (ask : Ask) → KnownAt ask → IsOfferedKind note.before (kind_of_ask (q_of_origin o) seat ask) →
       (step : MayStep o c (view_of c.views seat) (kind_of_ask (q_of_origin o) seat ask) note (found_answer c.memory ask)) → MemoryTakes c.memory ask
-  takes_by (Load (Image word)) known offered step = by_head word (word == head_place) refl offered
+  takes_by (Load (Image word)) known offered step = by_head word _ _ (known step) (word == head_place) refl step.may
   takes_by (Load (Pin other)) known offered step = pins_inside other step.may.inside
   takes_by (Load (Map word)) known offered step = bitmap_inside word step.may.inside _ _ (known step)
   takes_by (Load (FenceOf other)) known offered step = absurd offered

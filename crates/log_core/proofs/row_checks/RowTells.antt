@@ -9,7 +9,7 @@ use Rattle.log_entry.specs.declared.calls.WriteRefusal.TheVariants.{NoSpace}
 use Rattle.log_entry.specs.declared.shapes.Area.{Area}
 use Rattle.log_entry.specs.declared.shapes.Area.TheVariants.{Data}
 use Rattle.pmem_words.specs.declared.keeps.Task.{Task}
-use Rattle.pmem_words.specs.declared.keeps.Task.TheVariants.{Pread, Sync}
+use Rattle.pmem_words.specs.declared.keeps.Task.TheVariants.{Pread, Sync, Collect}
 use Rattle.log_core.specs.Views.{HeadPut, Stored}
 
 abbrev pub is_some : Option ℕ → Bool
@@ -82,6 +82,10 @@ first_byte _ = 0
 abbrev pub is_sync : Task → Bool
 is_sync Sync = true
 is_sync _ = false
+
+abbrev pub is_collect : Task → Bool
+is_collect Collect = true
+is_collect _ = false
 
 abbrev pub is_written : Reply → Bool
 is_written (Wrote count) = true

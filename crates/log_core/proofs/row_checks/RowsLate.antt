@@ -120,7 +120,7 @@ pub late_sync : LateSync
 late_sync = (
   refl,
   refl,
-  record { to_end = omega arith; words = words; views_hold = views },
+  record { from_first = omega arith; to_end = omega arith; words = words; views_hold = views },
   λ syncs. (let other = ((syncs.words 1 1 (omega arith) (omega arith) (omega arith) (omega arith)).slots 0 (omega arith) (omega arith)).before 1 (omega arith) (omega arith) in omega (arith, other)),
 )
 

@@ -59,6 +59,7 @@ module _ (o : Origin) (c : Core) (seat number : ℕ) (ask : Ask) (works : List W
 
 pub offered_kinds : OfferedKinds
 offered_kinds = (
+  step_allowed _ _ 0 _ _ [] (omega arith) (one_part 0) tt refl (record { valid = refl; named = refl }) tt refl,
   step_allowed _ _ 0 _ _ [] (omega arith) (one_part 0) tt refl bitmap_may_be_read.0 tt refl,
   step_allowed _ _ 0 _ _ [] (omega arith) (one_part 0) tt refl bits_taken.7 tt refl,
   step_allowed _ _ 0 _ _ (SetsWord 0 0 170 ∷ []) (omega arith) (one_part 0) (record { owned = omega arith; inside = omega arith; small = omega arith }, tt) refl (record { owned = refl; small = omega arith }) tt refl,
@@ -69,7 +70,6 @@ offered_kinds = (
 
 pub not_offered : NotOffered
 not_offered = (
-  (step_fits _ _ 0 _ _ [] (omega arith) (one_part 0) tt refl (record { valid = refl; named = refl }), λ allowed. allowed.offered.kind),
   (step_fits _ _ 0 _ _ [] (omega arith) (one_part 0) tt refl (OfHead refl refl refl), λ allowed. false≢true allowed.offered.kind.owned),
   (step_fits _ _ 0 _ _ [] (omega arith) (one_part 0) tt refl (OfTrail refl refl refl), λ allowed. false≢true allowed.offered.kind.owned),
   (step_fits _ _ 0 _ _ [] (omega arith) (one_part 0) tt refl sync_ends.3, λ allowed. allowed.offered.kind refl),

@@ -1,10 +1,11 @@
 -- The clauses on records and on syncs hold in the middle of a collection, and of a sync.
-use Rattle.std.proofs.Common.{◌≡◌, ◌≤◌, ◌<◌, ◌+◌, ◌-◌, ◌==◌, nat_lt, ℕ, zero, suc, false, slice_index, refl, subst, ap, inl, arith, Option, None, Some}
+use Rattle.std.proofs.Common.{◌≡◌, ◌≢◌, ◌≤◌, ◌<◌, true, [], ◌+◌, ◌-◌, ◌==◌, nat_lt, ℕ, zero, suc, false, slice_index, refl, subst, ap, inl, arith, Option, None, Some}
 use Rattle.std.proofs.lemmas.Bool.{false≢true, true≢false}
 use Rattle.std.specs.List.{AllByRecursion}
 use Rattle.std.proofs.lemmas.Bool.Decides.{nat_tests}
 use Rattle.log_entry.specs.declared.calls.Reply.TheVariants.{Wrote, Synced}
 use Rattle.persistence.specs.Memory.{cell}
+use Rattle.log_image.specs.Chains.{is_listed}
 use Rattle.log_core.specs.Views.{HeadPut, view_of}
 use Rattle.log_core.specs.Order.{nth_generation}
 use Rattle.log_core.specs.Records.{one_if, parts_with, collected_by, WritesFit, WritesOnce, PutFits, NeverFall, RecordHolds, CallHolds, TailHolds, MarksFit}
@@ -58,12 +59,12 @@ abbrev PutSays : HeadPut → Type 0
 PutSays put = (1 < put.generation) × (put.generation < 3) × (put.base ≡ 1) × (put.base ≡ (nth_generation collected.generations (put.generation - 1)).base)
 
 puts : (seat : ℕ) → PutFits image_a collected.generations (view_of collected.views seat)
-puts zero put same = subst PutSays (ap put_of same) (omega arith, omega arith, refl, refl)
-puts (suc zero) put same = cc
-puts (suc (suc seat)) put same = cc
+puts zero = record { own = λ put same. subst PutSays (ap put_of same) (omega arith, omega arith, refl, refl); found = omega arith }
+puts (suc zero) = record { own = λ put same. cc; found = omega arith }
+puts (suc (suc seat)) = record { own = λ put same. cc; found = omega arith }
 
 each_record : (seat : ℕ) → AllByRecursion (RecordHolds image_a collected.history collected.generations) (view_of collected.views seat).done
-each_record zero = (record { to_end = omega arith; from_first = λ write. omega arith; answers = inl refl; of_generations = tt }, tt)
+each_record zero = (record { to_end = omega arith; from_first = omega arith; write_after = λ write. omega arith; answers = inl refl; of_generations = tt }, tt)
 each_record (suc zero) = tt
 each_record (suc (suc seat)) = tt
 
@@ -75,39 +76,40 @@ never_fall (suc (suc seat)) part = tt
 calls : (seat : ℕ) → CallHolds image_a collected.history (view_of collected.views seat)
 calls zero = record {
   laid = λ offset count same. cc;
-  base_words = omega arith;
-  bases = λ place at less. absurd (omega (arith, less));
+  bases = record { most = omega arith; whole = omega arith; from_first = λ some. absurd (some refl); bytes = λ running place at less. absurd (omega (arith, less)) };
   reading = λ reading. absurd (false≢true reading);
-  numbers = (λ same. omega arith, tt);
-  runs = λ running. (λ same. omega arith, tt);
-  won_runs = λ won. absurd (false≢true won);
-  put_runs = λ put none. cc;
+  numbers = record { most = (λ same. omega arith, tt); runs = λ running. (λ same. omega arith, tt); some = λ running. omega arith };
+  task = record { won_runs = λ won. absurd (false≢true won); put_collects = λ put. refl; synced_syncs = λ some. absurd (some refl) };
 }
 calls (suc zero) = record {
   laid = λ offset count same. cc;
-  base_words = omega arith;
-  bases = λ place at less. absurd (omega (arith, less));
+  bases = record { most = omega arith; whole = omega arith; from_first = λ some. absurd (some refl); bytes = λ running place at less. absurd (omega (arith, less)) };
   reading = λ reading. absurd (false≢true reading);
-  numbers = tt;
-  runs = λ running. tt;
-  won_runs = λ won. absurd (false≢true won);
-  put_runs = λ put none. put refl;
+  numbers = record { most = tt; runs = λ running. tt; some = λ running. omega arith };
+  task = record { won_runs = λ won. absurd (false≢true won); put_collects = λ put. absurd (put refl); synced_syncs = λ some. absurd (some refl) };
 }
 calls (suc (suc seat)) = record {
   laid = λ offset count same. cc;
-  base_words = omega arith;
-  bases = λ place at less. absurd (omega (arith, less));
+  bases = record { most = omega arith; whole = omega arith; from_first = λ some. absurd (some refl); bytes = λ running place at less. absurd (omega (arith, less)) };
   reading = λ reading. absurd (false≢true reading);
-  numbers = tt;
-  runs = λ running. tt;
-  won_runs = λ won. absurd (false≢true won);
-  put_runs = λ put none. put refl;
+  numbers = record { most = tt; runs = λ running. tt; some = λ running. absurd (running refl) };
+  task = record { won_runs = λ won. absurd (false≢true won); put_collects = λ put. absurd (put refl); synced_syncs = λ some. absurd (some refl) };
 }
 
+own_part : (seat : ℕ) → (view_of collected.views seat).parts ≢ [] → is_listed (view_of collected.views seat).parts seat ≡ true
+own_part zero some = refl
+own_part (suc zero) some = refl
+own_part (suc (suc seat)) some = absurd (some refl)
+
+no_later : (seat : ℕ) → slice_index collected.began seat ≤ 1
+no_later zero = omega arith
+no_later (suc zero) = omega arith
+no_later (suc (suc seat)) = omega arith
+
 tails : (seat : ℕ) → TailHolds (view_of collected.views seat) (slice_index collected.began seat)
-tails zero = record { begun = λ at. omega arith; records = λ at. (omega arith, tt) }
-tails (suc zero) = record { begun = λ at. omega arith; records = λ at. tt }
-tails (suc (suc seat)) = record { begun = λ at. absurd (false≢true at); records = λ at. tt }
+tails zero at = record { walked = λ none. omega (arith, none); from_first = omega arith; begun = omega arith; records = (omega arith, tt) }
+tails (suc zero) at = record { walked = λ none. omega (arith, none); from_first = omega arith; begun = omega arith; records = tt }
+tails (suc (suc seat)) at = absurd (false≢true at)
 
 marks : (seat : ℕ) → MarksFit (λ word. cell collected.memory word) collected.memory.past collected.memory.pending seat (view_of collected.views seat)
 marks zero = refl
@@ -118,12 +120,13 @@ pub records_stand : RecordsStand
 records_stand = record {
   writes = writes;
   writes_once = writes_once;
-  seats_once = record { once = parts_once; writes = (omega arith, tt); records = ((refl, tt), (tt, tt)) };
+  seats_once = record { once = parts_once; own = own_part; writes = (omega arith, tt); records = ((refl, tt), (tt, tt)) };
   collected_once = once_collected;
   put = puts;
   records = each_record;
   never_fall = never_fall;
   calls = calls;
+  begun = no_later;
   tails = tails;
   marks = marks;
 }
@@ -161,8 +164,8 @@ synced_views (suc (suc seat)) = record { to = λ position same. absurd (none_not
 
 pub syncs_stand : SyncsStand
 syncs_stand = (
-  record { to_end = omega arith; words = λ place number from inside cut within. record { slots = λ k less before. absurd (omega (arith, before)); link = λ some before. absurd (omega (arith, before)) }; views_hold = marked_views },
-  record { to_end = omega arith; words = is_synced; views_hold = synced_views },
+  record { from_first = omega arith; to_end = omega arith; words = λ place number from inside cut within. record { slots = λ k less before. absurd (omega (arith, before)); link = λ some before. absurd (omega (arith, before)) }; views_hold = marked_views },
+  record { from_first = omega arith; to_end = omega arith; words = is_synced; views_hold = synced_views },
   refl,
   refl,
 )

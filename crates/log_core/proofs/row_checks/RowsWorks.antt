@@ -51,20 +51,20 @@ one_laid (suc k) less = absurd (omega (arith, less))
 
 pub read_lays : ReadLays
 read_lays = (
-  record { valid = refl; at_tail = refl; offset = 0; count = 65; job = refl; few = omega arith; inside = omega arith; each = two_laid },
+  record { reads = record { valid = refl; own_table = refl; at_tail = refl }; offset = 0; count = 65; job = refl; few = omega arith; inside = omega arith; each = two_laid },
   refl,
   λ may. (let byte = (first_laid (reader (kept 7 0 170 ∷ [])) (171 ∷ []) 171 refl (omega arith) refl may).1 in omega (arith, byte)),
   λ may. (first_laid (reader []) (0 ∷ []) 0 refl (omega arith) refl may).0 refl,
-  λ may. false≢true may.at_tail,
-  record { valid = refl; at_tail = refl; offset = 0; count = 65; job = refl; few = omega arith; inside = omega arith; each = one_laid },
+  λ may. false≢true may.reads.at_tail,
+  record { reads = record { valid = refl; own_table = refl; at_tail = refl }; offset = 0; count = 65; job = refl; few = omega arith; inside = omega arith; each = one_laid },
   λ may. (let byte = first_laid far_reader (1 ∷ []) 1 refl (omega arith) refl may in omega (arith, byte)),
   λ may. (let asked = ap asked_count may.job in let few = may.few in omega (arith, asked, few)),
 )
 
 pub base_words : BaseWords
 base_words = (
-  record { valid = refl; ready = refl; few = omega arith; whole = refl; other = λ place less. absurd (omega (arith, less)) },
-  record { valid = refl; ready = refl; begun = omega arith; inside = omega arith; known = λ block same. subst (λ (b : ℕ). kept_at (kept 7 0 170 ∷ []) b 0 ≢ None) (ap number_of same) (some_not_none 170) },
+  record { reads = record { valid = refl; own_table = refl; at_tail = refl }; few = omega arith; whole = refl; other = λ place less. absurd (omega (arith, less)) },
+  record { reads = record { valid = refl; own_table = refl; at_tail = refl }; begun = omega arith; inside = omega arith; known = λ block same. subst (λ (b : ℕ). kept_at (kept 7 0 170 ∷ []) b 0 ≢ None) (ap number_of same) (some_not_none 170) },
   refl,
   refl,
   λ may. may.known 7 refl refl,

@@ -12,6 +12,7 @@ use Rattle.log_core.specs.Entries.{LogEntry, entry_by, meanings}
 use Rattle.log_core.specs.Origin.{Origin, shape, first_recorded, first_snapshot, first_entries, first_position, start_base, start_size}
 use Rattle.log_core.specs.Files.{Write, entries, history_entries_to, history_map_at, history_size_at, byte_in, early_file, file_at, Holds, HoldsBelow}
 use Rattle.log_core.specs.Contents.{HoldsFileAt}
+use Rattle.log_core.specs.Writes.{HistoryHolds}
 use Rattle.log_core.proofs.starts.StartFacts.{Facts}
 
 -- the meanings of entries are those of their words
@@ -88,3 +89,7 @@ module _ (o : Origin) (s : Facts o) where
 
   pub start_file : (position : ℕ) → HoldsFileAt o [] (first_recorded o) position
   start_file position = record { early = early_holds position; held = late_holds position; size_is = same_size position (cases_lt position (first_position o)) }
+
+  -- nothing is written yet
+  pub start_history : HistoryHolds o []
+  start_history = record { writes = λ place inside. absurd (omega (arith, inside)); sizes = λ position from to. same_size position (cases_lt position (first_position o)) }

@@ -11,10 +11,12 @@ use Rattle.log_core.proofs.starts.StartOrder.{start_heads, start_rises, start_lo
 use Rattle.log_core.proofs.starts.StartChains.{start_chains, start_synced}
 use Rattle.log_core.proofs.starts.StartOwners.{start_owners}
 use Rattle.log_core.proofs.starts.StartContents.{start_contents}
+use Rattle.log_core.proofs.starts.StartFiles.{start_history}
 
 meets : (o : Origin) → IsStart o → Facts o → Invariant o (first_core o)
 meets o start s = record {
   sizes = start_sizes o start.seats (record { whole = s.whole; bitmap = s.bitmap.room; wide = s.wide });
+  writes = start_history o s;
   order = record { heads = start_heads o s; generations_rise = start_rises o s; log = start_log o s; chains = start_chains o s (head_floor (first_memory o)) (first_views o) };
   owners = start_owners o s (head_floor (first_memory o)) (first_views o);
   contents = start_contents o s (head_floor (first_memory o)) (first_views o);
@@ -23,7 +25,7 @@ meets o start s = record {
   owned = start_owned o;
   givings = start_givings o s.generation;
   records = start_records o;
-  syncs = record { to_end = omega arith; words = start_synced o s (head_floor (first_memory o)); views_hold = start_syncs o };
+  syncs = record { from_first = omega arith; to_end = omega arith; words = start_synced o s (head_floor (first_memory o)); views_hold = start_syncs o };
 }
 
 pub start_meets : StartMeets

@@ -1,8 +1,8 @@
 -- The clauses over views at a start.
-use Rattle.std.proofs.Common.{◌≡◌, ◌≢◌, ◌⊎◌, ℕ, zero, suc, ◌+◌, ◌<◌, ◌≤◌, ◌==◌, Bool, true, List, [], ◌∷◌, length, map, get_or, replicate, Some, None, refl, sym, ap, ◌∙◌, arith, inl, inr}
+use Rattle.std.proofs.Common.{◌≡◌, ◌≢◌, ◌⊎◌, ℕ, zero, suc, ◌+◌, ◌<◌, ◌≤◌, ◌==◌, Bool, true, false, List, [], ◌∷◌, length, map, get_or, replicate, Some, None, refl, sym, ap, ◌∙◌, arith, inl, inr}
 use Rattle.std.specs.Prelude.{nat_lt, nat_le, ◌&&◌}
 use Rattle.std.specs.List.{range_with_len, AllByRecursion}
-use Rattle.std.proofs.lemmas.Bool.{false≢true}
+use Rattle.std.proofs.lemmas.Bool.{false≢true, eq-eqb, or_left}
 use Rattle.std.proofs.lemmas.List.{length-replicate}
 use Rattle.std.proofs.lemmas.List.FromFn.{get_or-map-range_with_len}
 use Rattle.std.proofs.lemmas.Bool.Decides.{nat_tests}
@@ -46,12 +46,17 @@ start_sizes o seats image = record {
   few = omega (arith, views_made o, (some_made o seats).1);
   begun = length-replicate o.made 0 ∙ sym (views_made o);
   made = made_of;
+  few_made = each_view o (λ n v. v.made ≤ length (first_views o)) (λ n before. made_low n) (λ n. omega arith);
   spent = each_view o (λ n v. v.parts ≡ [] → v ≡ spent_view) (λ n before none. cc) (λ n none. refl);
   each = λ number inside. each_view o (λ n v. v.parts ≢ [] → SeatFits o n v) (λ n before unspent. fits n) (λ n unspent. absurd (unspent refl)) number;
 }
   where
     made_of : (view_of (first_views o) 0).parts ≢ [] → (view_of (first_views o) 0).made ≡ length (first_views o)
     made_of unspent = ap (λ (v : View). v.made) (get_or-map-range_with_len (view_at o) 0 o.made 0 0 spent_view (some_made o seats).0 (omega arith)) ∙ sym (views_made o)
+
+    made_low : (n : ℕ) → made_by o.made n ≤ length (first_views o)
+    made_low zero = omega (arith, views_made o)
+    made_low (suc n) = omega arith
 
     fits : (n : ℕ) → SeatFits o n (view_at o n)
     fits n = record { number = refl; seats = refl; geometry = refl; first = refl; found = length-replicate (bitmap_words o.geometry) 0; named = length-replicate (bitmap_words o.geometry) 0; map = length_unmapped }
@@ -162,13 +167,10 @@ no_position position same = cc
 no_call_holds : (o : Origin) (g : Geometry) (seats position made number : ℕ) (parts : List ℕ) → CallHolds o [] (fresh g seats position made number parts)
 no_call_holds o g seats position made number parts = record {
   laid = λ offset count job. absurd (not_reading offset count job);
-  base_words = omega arith;
-  bases = λ place at inside. absurd (omega (arith, inside));
+  bases = record { most = omega arith; whole = omega arith; from_first = λ some. absurd (some refl); bytes = λ running place at inside. absurd (omega (arith, inside)) };
   reading = λ reading. absurd (false≢true reading);
-  numbers = tt;
-  runs = λ some. tt;
-  won_runs = λ won. absurd (false≢true won);
-  put_runs = λ some. absurd (some refl);
+  numbers = record { most = tt; runs = λ some. tt; some = λ some. absurd (some refl) };
+  task = record { won_runs = λ won. absurd (false≢true won); put_collects = λ some. absurd (some refl); synced_syncs = λ some. absurd (some refl) };
 }
 
 -- each seat made is a part of its own view alone
@@ -184,6 +186,7 @@ parts_of g seats position made first (suc count) seat =
 start_once : (o : Origin) → SeatsOnce [] (first_views o)
 start_once o = record {
   once = λ seat. parts_of o.geometry o.seats (first_position o) o.made 0 o.made seat ∙ from_zero o.made seat ∙ ap (λ (count : ℕ). one_if (nat_lt seat count)) (sym (views_made o));
+  own = each_view o (λ n v. v.parts ≢ [] → is_listed v.parts n ≡ true) (λ n before unspent. or_left (n == n) false (eq-eqb n n refl)) (λ n unspent. absurd (unspent refl));
   writes = tt;
   records = none_recorded (range_with_len 0 o.made);
 }
@@ -201,12 +204,14 @@ start_records o = record {
   writes_once = each_view o (λ n v. WritesOnce o [] v) (λ n before unspent position above below. absurd (omega (arith, above, below))) (λ n unspent. absurd (unspent refl));
   seats_once = start_once o;
   collected_once = λ generation above below. absurd (omega (arith, above, below));
-  put = each_view o (λ n v. PutFits o (start_generation o ∷ []) v) (λ n before put is. absurd (not_put put is)) (λ n put is. absurd (not_put put is));
+  put = each_view o (λ n v. PutFits o (start_generation o ∷ []) v)
+      (λ n before. record { own = λ put is. absurd (not_put put is); found = omega arith }) (λ n. record { own = λ put is. absurd (not_put put is); found = omega arith });
   records = each_view o (λ n v. AllByRecursion (RecordHolds o [] (start_generation o ∷ [])) v.done) (λ n before. tt) (λ n. tt);
   never_fall = λ seat part. each_view o (λ n v. NeverFall part 0 0 v.done) (λ n before. tt) (λ n. tt) seat;
   calls = each_view o (λ n v. CallHolds o [] v) (λ n before. no_call_holds o o.geometry o.seats (first_position o) (made_by o.made n) n (n ∷ [])) (λ n. no_call_holds o no_geometry 0 0 0 0 []);
+  begun = λ seat. (let e = zeros_after [] o.made seat in omega (arith, e));
   tails = λ seat. each_view o (λ n v. TailHolds v (get_or (replicate o.made 0) seat 0))
-      (λ n before. record { begun = λ at_tail. absurd (false≢true at_tail); records = λ at_tail. tt }) (λ n. record { begun = λ at_tail. absurd (false≢true at_tail); records = λ at_tail. tt }) seat;
+      (λ n before at_tail. absurd (false≢true at_tail)) (λ n at_tail. absurd (false≢true at_tail)) seat;
   marks = each_view o (λ n v. MarksFit (λ word. cell (first_memory o) word) [] [] n v) (λ n before. refl) (λ n. refl);
 }
 

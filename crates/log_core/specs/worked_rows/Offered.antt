@@ -47,23 +47,23 @@ MayBeMade c seat ask works = MayMakeStep image_a c (step_of image_a c seat ask (
 abbrev pub IsAllowed : Core → ℕ → Ask → List Work → Type 0
 IsAllowed c seat ask works = Allowed image_a c (step_of image_a c seat ask (number_in c seat) works [] [])
 
--- allowed are a load of a bitmap word, a setting of bits, a store into an own block, a mark of a word of it, a fence in a write, and a
+-- allowed are a load of a word of the pinned chain, a load of a bitmap word, a setting of bits, a store into an own block, a mark of a word of it, a fence in a write, and a
 -- clearing of the bits of own blocks
 abbrev pub OfferedKinds : Type 0
 OfferedKinds =
-    IsAllowed walked 0 (Load (Map 0)) []
+    IsAllowed pinned 0 (Load (Image 25)) []
+    × IsAllowed walked 0 (Load (Map 0)) []
     × IsAllowed walked 0 (SetBits (Map 0) 2) []
     × IsAllowed taken_by_one 0 (Store (Image 8) 170) (SetsWord 0 0 170 ∷ [])
     × IsAllowed stored_words 0 (Mark 8) []
     × IsAllowed marked_words 0 Fence (CountsFilled 0 ∷ [])
     × IsAllowed collected 1 (ClearBits (Map 0) 4) []
 
--- their conditions hold, and they are not allowed yet: a load of an image word, a sync's mark of the head and of a slot, a sync's
--- fence, a collection's mark of its head, and a clearing of the bits of replaced blocks
+-- their conditions hold, and they are not allowed yet: a sync's mark of the head and of a slot, a sync's fence, a collection's mark of
+-- its head, and a clearing of the bits of replaced blocks
 abbrev pub NotOffered : Type 0
 NotOffered =
-    (MayBeMade pinned 0 (Load (Image 25)) [] × (IsAllowed pinned 0 (Load (Image 25)) [] → ⊥))
-    × (MayBeMade syncing 0 (Mark 3) [] × (IsAllowed syncing 0 (Mark 3) [] → ⊥))
+    (MayBeMade syncing 0 (Mark 3) [] × (IsAllowed syncing 0 (Mark 3) [] → ⊥))
     × (MayBeMade syncing 0 (Mark 27) [] × (IsAllowed syncing 0 (Mark 27) [] → ⊥))
     × (MayBeMade slot_marked 0 Fence [] × (IsAllowed slot_marked 0 Fence [] → ⊥))
     × (MayBeMade collected 0 (Mark 3) [] × (IsAllowed collected 0 (Mark 3) [] → ⊥))

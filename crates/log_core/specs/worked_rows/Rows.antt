@@ -605,20 +605,20 @@ ReadLays =
 -- the present content of virtual block 0 is block 7's, word by word; virtual block 1 has none and is 0. Where an entry that is taken in
 -- gives virtual block 0 another block, its words are dropped
 abbrev pub based : Seat
-based = state_after_all_work (walker (kept 7 0 170 ∷ [])) (OpensBase 0 ∷ AddsBaseWord ∷ [])
+based = state_after_all_work (reader (kept 7 0 170 ∷ [])) (OpensBase 0 ∷ AddsBaseWord ∷ [])
 
 abbrev pub two_bases : Calling
 two_bases = record no_calling { bases = 0 ∷ 1 ∷ []; base_words = 1 ∷ 2 ∷ 3 ∷ 4 ∷ 5 ∷ 6 ∷ 7 ∷ 8 ∷ 9 ∷ [] }
 
 abbrev pub BaseWords : Type 0
 BaseWords =
-    MayWork no_ghost (walker (kept 7 0 170 ∷ [])) (OpensBase 0)
-    × MayWork no_ghost (state_after_work (walker (kept 7 0 170 ∷ [])) (OpensBase 0)) AddsBaseWord
+    MayWork no_ghost (reader (kept 7 0 170 ∷ [])) (OpensBase 0)
+    × MayWork no_ghost (state_after_work (reader (kept 7 0 170 ∷ [])) (OpensBase 0)) AddsBaseWord
     × (based.calling.bases ≡ 0 ∷ [])
     × (based.calling.base_words ≡ 170 ∷ [])
     × (MayWork no_ghost based AddsBaseWord → ⊥)
     × (MayWork no_ghost based (OpensBase 1) → ⊥)
-    × ((state_after_all_work (walker []) (OpensBase 1 ∷ AddsBaseWord ∷ AddsBaseWord ∷ [])).calling.base_words ≡ 0 ∷ 0 ∷ [])
+    × ((state_after_all_work (reader []) (OpensBase 1 ∷ AddsBaseWord ∷ AddsBaseWord ∷ [])).calling.base_words ≡ 0 ∷ 0 ∷ [])
     × ((without_bases 8 (direct_meaning to_first) two_bases).bases ≡ 1 ∷ [])
     × ((without_bases 8 (direct_meaning to_first) two_bases).base_words ≡ 9 ∷ [])
 

@@ -1,0 +1,135 @@
+-- Log blocks by their bases: these rise; and a walk whose tail is found 0 is at the end.
+use Rattle.std.proofs.Common.{◌≡◌, ◌≢◌, inl, inr, ◌<◌, ◌≤◌, ◌+◌, ◌==◌, ◌||◌, nat_lt, ℕ, zero, suc, Bool, true, false, if◌then◌else◌, List, [], ◌∷◌, length, refl, sym, ◌∙◌, ap, subst, arith, slice_index}
+use Rattle.std.proofs.lemmas.Bool.{ltb-true, ltb-false, ne_eqb, or_from}
+use Rattle.log_entry.specs.declared.layouts.TheConstants.{EMPTY, SEAL}
+use Rattle.log_image.specs.Image.{words_in}
+use Rattle.log_image.specs.Blocks.{entry_words}
+use Rattle.persistence.specs.Memory.{cell}
+use Rattle.log_core.specs.Entries.{place_in}
+use Rattle.log_core.specs.Origin.{Origin, shape, Header, InChain, LogBlock}
+use Rattle.log_core.specs.Files.{entries, end_of}
+use Rattle.log_core.specs.Cores.{Core, nth_log, log_at, number_at, entries_used, is_sealed, is_full}
+use Rattle.log_core.specs.Order.{nth_generation}
+use Rattle.log_core.specs.Contents.{IsStillTaken}
+use Rattle.log_core.specs.Certain.{IsGrowing}
+use Rattle.log_core.specs.Invariant.{Invariant, KeptIn}
+use Rattle.log_core.proofs.clauses.Apart.{log_is_named}
+use Rattle.log_core.proofs.clauses.OneView.{same_or_other}
+
+-- the log block with a base stands at its number, where there is one
+pub log_found : (logs : List LogBlock) (base : ℕ) → (log_at logs base).block ≢ 0 → (number_at logs base < length logs) × (nth_log logs (number_at logs base) ≡ log_at logs base)
+log_found [] base some = absurd (some refl)
+log_found (log ∷ logs) base some = go (log.base == base) some (log_found logs base)
+  where
+    go : (same : Bool) → (if same then log else log_at logs base).block ≢ 0 → ((log_at logs base).block ≢ 0 → (number_at logs base < length logs) × (nth_log logs (number_at logs base) ≡ log_at logs base)) →
+        ((if same then 0 else 1 + number_at logs base) < suc (length logs)) × (nth_log (log ∷ logs) (if same then 0 else 1 + number_at logs base) ≡ (if same then log else log_at logs base))
+    go true some rest = (omega arith, refl)
+    go false some rest = (let r = rest some in (
+      (let low = r.0 in omega (arith, low)),
+      subst (λ (k : ℕ). nth_log (log ∷ logs) k ≡ log_at logs base) (let e : suc (number_at logs base) ≡ 1 + number_at logs base = omega arith in e) r.1,
+    ))
+
+-- used slots have no more entries than they are; where each is one, none is a seal; and the first is one, where it is neither empty nor a seal
+pub entries_short : (slots : List ℕ) → length (entry_words slots) ≤ length slots
+entries_short [] = omega arith
+entries_short (slot ∷ slots) = go (slot == EMPTY) (slot == SEAL) (entries_short slots)
+  where
+    go : (empty seal : Bool) → length (entry_words slots) ≤ length slots → length (if empty then [] else if seal then [] else slot ∷ entry_words slots) ≤ suc (length slots)
+    go true seal rest = omega arith
+    go false true rest = omega arith
+    go false false rest = omega (arith, rest)
+
+unsealed : (slots : List ℕ) → length (entry_words slots) ≡ length slots → is_sealed slots ≡ false
+unsealed [] all = refl
+unsealed (slot ∷ slots) all = go (slot == EMPTY) (slot == SEAL) all (unsealed slots)
+  where
+    go : (empty seal : Bool) → length (if empty then [] else if seal then [] else slot ∷ entry_words slots) ≡ suc (length slots) → (length (entry_words slots) ≡ length slots → is_sealed slots ≡ false) → (seal || is_sealed slots) ≡ false
+    go true seal all rest = absurd (omega (arith, all))
+    go false true all rest = absurd (omega (arith, all))
+    go false false all rest = rest (omega (arith, all))
+
+first_entry : (slots : List ℕ) → 0 < length slots → slice_index slots 0 ≢ EMPTY → slice_index slots 0 ≢ SEAL → 0 < length (entry_words slots)
+first_entry [] some used other = absurd (omega (arith, some))
+first_entry (slot ∷ slots) some used other = rw (ne_eqb slot EMPTY used, ne_eqb slot SEAL other) (omega arith)
+
+module _ (o : Origin) (c : Core) (inv : Invariant o c) where
+  abbrev nth : ℕ → LogBlock
+  nth number = nth_log c.logs number
+
+  some_slot : (slots : List ℕ) → is_full (shape o) slots ≡ true → 0 < length slots
+  some_slot [] full = (let wide = inv.sizes.image.wide in let none : (3 == words_in (shape o)) ≡ false = ne_eqb 3 (words_in (shape o)) (λ e. omega (arith, e, wide)) in absurd (false_is_true (sym none ∙ full)))
+    where
+      false_is_true : false ≡ true → ⊥
+      false_is_true e = cc
+  some_slot (slot ∷ slots) full = omega arith
+
+  -- a log block that another one follows has an entry, so the next base is greater
+  next_rises : (number : ℕ) → number + 1 < length c.logs → (nth number).base < (nth (number + 1)).base
+  next_rises number less =
+      (let some = some_slot (nth number).slots (inv.order.log.full number less) in
+      let used = first_entry (nth number).slots some (inv.order.log.used number 0 some) (λ seal. (let late = (inv.order.log.seal_last number 0 seal).1 in omega (arith, late))) in
+      let next = inv.order.log.next number less in
+      omega (arith, used, next))
+
+  pub bases_rise : (later number : ℕ) → number < later → later < length c.logs → (nth number).base < (nth later).base
+  bases_rise zero number less inside = absurd (omega (arith, less))
+  bases_rise (suc later) number less inside =
+      (let step : (nth later).base < (nth (suc later)).base = subst (λ (k : ℕ). (nth later).base < (nth k).base) (omega arith) (next_rises later (omega (arith, inside))) in
+      same_or_other number later
+      (λ same. subst (λ (k : ℕ). (nth k).base < (nth (suc later)).base) (sym same) step)
+      (λ other. (let rest = bases_rise later number (omega (arith, less, other)) (omega (arith, inside)) in omega (arith, rest, step))))
+
+  -- a log block whose base is not less than another one's does not come before it
+  pub not_before : (number other : ℕ) → number < length c.logs → other < length c.logs → (nth other).base ≤ (nth number).base → other ≤ number
+  not_before number other here there low = go (nat_lt number other) refl
+    where
+      go : (b : Bool) → nat_lt number other ≡ b → other ≤ number
+      go true e = (let rise = bases_rise other number (ltb-true number other e) there in absurd (omega (arith, rise, low)))
+      go false e = (let late = ltb-false number other e in omega (arith, late))
+
+  module _ (place number : ℕ) (kept : KeptIn o c place) (low : (nth_generation c.generations place).cut ≤ number) (inside : number < length c.logs) where
+    -- the last log block's entries end at the end
+    last_end : number + 1 ≡ length c.logs → (nth number).base + entries_used (nth number) ≡ end_of o c.history
+    last_end last = subst (λ (k : ℕ). (nth k).base + entries_used (nth k) ≡ end_of o c.history) (omega (arith, last)) inv.order.log.last
+
+    -- a slot that is found empty, and that no entry of the block comes after, is at the end
+    pub empty_slot : (k : ℕ) → k + 3 < words_in (shape o) → k ≤ entries_used (nth number) → (cell c.memory (place_in (shape o) (nth number).block (k + 3))).present ≡ 0 → (nth number).base + k ≡ end_of o c.history
+    empty_slot k within few empty =
+        (let short = entries_short (nth number).slots in
+        let grows : IsGrowing (cell c.memory (place_in (shape o) (nth number).block (k + 3))) (slice_index (nth number).slots k) =
+        (inv.order.chains place kept number low inside).slots k within (λ sealed. omega (arith, few, short)) in
+        let all : length (nth number).slots ≤ k = past k (sym grows.present ∙ empty) in
+        let used : length (entry_words (nth number).slots) ≡ length (nth number).slots = omega (arith, short, few, all) in
+        let ends = last_end (last used (omega (arith, few, all, short)) (nat_lt (number + 1) (length c.logs)) refl) in
+        omega (arith, ends, used, all, few))
+      where
+        past : (k : ℕ) → slice_index (nth number).slots k ≡ 0 → length (nth number).slots ≤ k
+        past k none = go (nat_lt k (length (nth number).slots)) refl
+          where
+            go : (b : Bool) → nat_lt k (length (nth number).slots) ≡ b → length (nth number).slots ≤ k
+            go true e = absurd (inv.order.log.used number k (ltb-true k (length (nth number).slots) e) none)
+            go false e = (let late = ltb-false k (length (nth number).slots) e in omega (arith, late))
+
+        last : length (entry_words (nth number).slots) ≡ length (nth number).slots → length (nth number).slots ≡ k → (b : Bool) → nat_lt (number + 1) (length c.logs) ≡ b → number + 1 ≡ length c.logs
+        last used same false e = (let late = ltb-false (number + 1) (length c.logs) e in omega (arith, late, inside))
+        last used same true e =
+            (let more : is_full (shape o) (nth number).slots ≡ false = or_from (is_sealed (nth number).slots) (length (nth number).slots + 3 == words_in (shape o))
+            (unsealed (nth number).slots used) (ne_eqb (length (nth number).slots + 3) (words_in (shape o)) (λ full. omega (arith, full, same, within))) in
+            let both : false ≡ true = sym more ∙ inv.order.log.full number (ltb-true (number + 1) (length c.logs) e) in cc)
+
+    -- so is a block's link that is found 0
+    pub empty_link : (cell c.memory (place_in (shape o) (nth number).block 0)).present ≡ 0 → (nth number).base + entries_used (nth number) ≡ end_of o c.history
+    empty_link empty = last_end (go (nat_lt (number + 1) (length c.logs)) refl)
+      where
+        no_header : IsStillTaken Header → ⊥
+        no_header (inl chain) = cc
+        no_header (inr left) = (let e = left.1 in cc)
+
+        go : (b : Bool) → nat_lt (number + 1) (length c.logs) ≡ b → number + 1 ≡ length c.logs
+        go false e = (let late = ltb-false (number + 1) (length c.logs) e in omega (arith, late, inside))
+        go true e =
+            (let next : number + 1 < length c.logs = ltb-true (number + 1) (length c.logs) e in
+            let zero_block : (nth (number + 1)).block ≡ 0 = sym (inv.order.chains place kept number low inside).link.present ∙ empty in
+            let named = log_is_named o c.logs (nth_generation c.generations place) (number + 1) (entries o c.history) (omega (arith, low)) next in
+            let taken = (inv.contents place kept).taken (nth (number + 1)).block named in
+            absurd (no_header (subst (λ (whose : Rattle.log_core.specs.Origin.Owner). IsStillTaken whose) (ap c.owner zero_block ∙ inv.owners.bits.header) taken)))

@@ -1,0 +1,23 @@
+use Rattle.log_core.proofs.row_checks.RowsCallGaps.{table_of_another, base_from_before, bases_dropped, base_left_over, first_base_short, tail_not_walked, head_of_no_collection, sync_of_no_sync, call_of_no_number}
+use Rattle.log_core.proofs.row_checks.RowsCoreGaps.{begun_past_end, parts_of_another, made_more, overtaken_by_none, synced_before_start, write_of_another_size, entry_of_another_size}
+use Rattle.log_core.proofs.rows.law_gaps.Goals as goal
+
+pub returns : goal.returns
+returns c = record {
+  table_of_another = table_of_another;
+  base_from_before = base_from_before;
+  bases_dropped = bases_dropped;
+  base_left_over = base_left_over;
+  first_base_short = first_base_short;
+  tail_not_walked = tail_not_walked;
+  head_of_no_collection = head_of_no_collection;
+  sync_of_no_sync = sync_of_no_sync;
+  call_of_no_number = call_of_no_number;
+  begun_past_end = begun_past_end;
+  parts_of_another = parts_of_another;
+  made_more = made_more;
+  overtaken_by_none = overtaken_by_none;
+  synced_before_start = synced_before_start;
+  write_of_another_size = write_of_another_size;
+  entry_of_another_size = entry_of_another_size;
+}
