@@ -5,6 +5,7 @@ pub mod BlockLists
 pub mod BitmapFacts
 pub mod clauses
 pub mod LogTails
+pub mod KeptWords
 pub mod kinds
 pub mod machines
 pub mod starts

@@ -1,9 +1,10 @@
 -- Log blocks by their bases: these rise; and a walk whose tail is found 0 is at the end.
 use Rattle.std.proofs.Common.{◌≡◌, ◌≢◌, inl, inr, ◌<◌, ◌≤◌, ◌+◌, ◌==◌, ◌||◌, nat_lt, ℕ, zero, suc, Bool, true, false, if◌then◌else◌, List, [], ◌∷◌, length, refl, sym, ◌∙◌, ap, subst, arith, slice_index}
-use Rattle.std.proofs.lemmas.Bool.{ltb-true, ltb-false, ne_eqb, or_from}
+use Rattle.std.proofs.lemmas.Bool.{ltb-true, ltb-false, eqb-true, eqb-false, eq-eqb, ne_eqb, or_from, or_right}
 use Rattle.log_entry.specs.declared.layouts.TheConstants.{EMPTY, SEAL}
 use Rattle.log_image.specs.Image.{words_in}
 use Rattle.log_image.specs.Blocks.{entry_words}
+use Rattle.pmem_words.specs.Seats.{Walk}
 use Rattle.persistence.specs.Memory.{cell}
 use Rattle.log_core.specs.Entries.{place_in}
 use Rattle.log_core.specs.Origin.{Origin, shape, Header, InChain, LogBlock}
@@ -11,6 +12,7 @@ use Rattle.log_core.specs.Files.{entries, end_of}
 use Rattle.log_core.specs.Cores.{Core, nth_log, log_at, number_at, entries_used, is_sealed, is_full}
 use Rattle.log_core.specs.Order.{nth_generation}
 use Rattle.log_core.specs.Contents.{IsStillTaken}
+use Rattle.log_core.specs.Walks.{HasWalked}
 use Rattle.log_core.specs.Certain.{IsGrowing}
 use Rattle.log_core.specs.Invariant.{Invariant, KeptIn}
 use Rattle.log_core.proofs.clauses.Apart.{log_is_named}
@@ -51,6 +53,20 @@ unsealed (slot ∷ slots) all = go (slot == EMPTY) (slot == SEAL) all (unsealed 
 first_entry : (slots : List ℕ) → 0 < length slots → slice_index slots 0 ≢ EMPTY → slice_index slots 0 ≢ SEAL → 0 < length (entry_words slots)
 first_entry [] some used other = absurd (omega (arith, some))
 first_entry (slot ∷ slots) some used other = rw (ne_eqb slot EMPTY used, ne_eqb slot SEAL other) (omega arith)
+
+-- a seal among used slots
+pub sealed_at : (slots : List ℕ) (k : ℕ) → slice_index slots k ≡ SEAL → is_sealed slots ≡ true
+sealed_at [] k is = cc
+sealed_at (slot ∷ slots) zero is = rw (eq-eqb slot SEAL is) refl
+sealed_at (slot ∷ slots) (suc k) is = or_right (slot == SEAL) (is_sealed slots) (sealed_at slots k is)
+
+-- where a seal is used, not every used slot is an entry
+pub sealed_short : (slots : List ℕ) → is_sealed slots ≡ true → length (entry_words slots) < length slots
+sealed_short slots sealed = go (length (entry_words slots) == length slots) refl
+  where
+    go : (b : Bool) → (length (entry_words slots) == length slots) ≡ b → length (entry_words slots) < length slots
+    go true e = (let both : false ≡ true = sym (unsealed slots (eqb-true (length (entry_words slots)) (length slots) e)) ∙ sealed in cc)
+    go false e = (let other = eqb-false (length (entry_words slots)) (length slots) e in let short = entries_short slots in omega (arith, other, short))
 
 module _ (o : Origin) (c : Core) (inv : Invariant o c) where
   abbrev nth : ℕ → LogBlock
@@ -133,3 +149,26 @@ module _ (o : Origin) (c : Core) (inv : Invariant o c) where
             let named = log_is_named o c.logs (nth_generation c.generations place) (number + 1) (entries o c.history) (omega (arith, low)) next in
             let taken = (inv.contents place kept).taken (nth (number + 1)).block named in
             absurd (no_header (subst (λ (whose : Rattle.log_core.specs.Origin.Owner). IsStillTaken whose) (ap c.owner zero_block ∙ inv.owners.bits.header) taken)))
+
+-- the log block of a walk's tail, by its number
+pub record TailLog (c : Core) (w : Walk) (cut : ℕ) : Type 0 where
+  pub inside : number_at c.logs w.tail_base < length c.logs
+  pub late : cut ≤ number_at c.logs w.tail_base
+  pub log_is : nth_log c.logs (number_at c.logs w.tail_base) ≡ log_at c.logs w.tail_base
+  pub base_is : (nth_log c.logs (number_at c.logs w.tail_base)).base ≡ w.tail_base
+  pub block_is : (nth_log c.logs (number_at c.logs w.tail_base)).block ≡ w.tail_block
+
+-- a view that is ready stands in the chain of a kept generation
+pub tail_log : (o : Origin) (c : Core) (inv : Invariant o c) (place : ℕ) (w : Walk) → KeptIn o c place → w.tail_block ≢ 0 → HasWalked o (entries o c.history) c.logs w →
+    w.snapshot_base ≡ (nth_generation c.generations place).base → w.snapshot_base ≤ w.tail_base → TailLog c w (nth_generation c.generations place).cut
+tail_log o c inv place w kept some walked base low =
+    (let there = log_found c.logs w.tail_base (λ none. some (sym walked.block ∙ none)) in
+    let cut_base = inv.order.generations_rise.cut_base place kept.inside in
+    let number_base : (nth_log c.logs (number_at c.logs w.tail_base)).base ≡ w.tail_base = ap (λ (log : LogBlock). log.base) there.1 ∙ walked.base in
+    record {
+      inside = there.0;
+      late = not_before o c inv (number_at c.logs w.tail_base) (nth_generation c.generations place).cut there.0 (inv.order.generations_rise.cut_inside place kept.inside) (omega (arith, low, base, cut_base, number_base));
+      log_is = there.1;
+      base_is = number_base;
+      block_is = ap (λ (log : LogBlock). log.block) there.1 ∙ walked.block;
+    })

@@ -4,6 +4,7 @@ pub mod SetsWord
 pub mod DropsBases
 pub mod NotesNamed
 pub mod NotesHeld
+pub mod TakesSeal
 pub mod StoresWord
 pub mod MarksWord
 pub mod Fences

@@ -13,7 +13,6 @@ use Rattle.log_core.specs.Files.{entries, end_of}
 use Rattle.log_core.specs.Cores.{Core, generation_at, is_named, nth_log, log_at, number_at, entries_used}
 use Rattle.log_core.specs.Works.{seat_shape, words_of, tail_index}
 use Rattle.log_core.specs.Steps.{kept_with, is_tail_found}
-use Rattle.log_core.specs.Order.{nth_generation}
 use Rattle.log_core.specs.May.{MayLoadImageWord}
 use Rattle.log_core.specs.Contents.{IsStillTaken}
 use Rattle.log_core.specs.Walks.{WalkHolds, HasWalked, IsKeptWord}
@@ -22,7 +21,7 @@ use Rattle.log_core.specs.Invariant.{Invariant, KeptIn, around}
 use Rattle.log_core.specs.Knows.{Knows}
 use Rattle.log_core.proofs.Each.{each_weaker, each_push}
 use Rattle.log_core.proofs.Heads.{kept_place}
-use Rattle.log_core.proofs.LogTails.{log_found, not_before, empty_slot, empty_link}
+use Rattle.log_core.proofs.LogTails.{tail_log, empty_slot, empty_link}
 use Rattle.log_core.proofs.clauses.Apart.{either_of}
 use Rattle.log_core.proofs.clauses.OwnWords.{word_below}
 use Rattle.log_core.proofs.clauses.OneView.{same_or_other}
@@ -113,24 +112,17 @@ module _ (o : Origin) (c : Core) (n : ℕ) (s : Seat) (g : Ghost) (pin began wor
       (let parts = found_parts e in
       let ready = w.ready_walked parts.0 in
       let walked : HasWalked o (entries o c.history) c.logs s.walk = w.walked ready.0 ready.1 in
-      let there = log_found c.logs s.walk.tail_base (λ none. ready.0 (sym walked.block ∙ none)) in
-      let low = w.ready_tail parts.0 in
-      let base = w.ready_base parts.0 in
-      let cut_base = inv.order.generations_rise.cut_base place kept.inside in
-      let cut_inside = inv.order.generations_rise.cut_inside place kept.inside in
-      let number_base : (nth_log c.logs (number_at c.logs s.walk.tail_base)).base ≡ s.walk.tail_base = ap (λ (log : LogBlock). log.base) there.1 ∙ walked.base in
-      let number_block : (nth_log c.logs (number_at c.logs s.walk.tail_base)).block ≡ s.walk.tail_block = ap (λ (log : LogBlock). log.block) there.1 ∙ walked.block in
-      let late : (nth_generation c.generations place).cut ≤ number_at c.logs s.walk.tail_base =
-      not_before o c inv (number_at c.logs s.walk.tail_base) (nth_generation c.generations place).cut there.0 cut_inside (omega (arith, low, base, cut_base, number_base)) in
+      let log = tail_log o c inv place s.walk kept ready.0 walked (w.ready_base parts.0) (w.ready_tail parts.0) in
+      let number_base = log.base_is in
       same_or_other s.walk.tail_slot (words_in (shape o))
       (λ closed.
       (let ends = (walked.at_end closed).1 in
       let index : tail_index s ≡ 0 = at_link closed in
       let empty : (cell c.memory (place_in (shape o) (nth_log c.logs (number_at c.logs s.walk.tail_base)).block 0)).present ≡ 0 =
-      ap (λ (block : ℕ). slice_index c.memory.now.words (place_in (shape o) block 0)) number_block
+      ap (λ (block : ℕ). slice_index c.memory.now.words (place_in (shape o) block 0)) log.block_is
       ∙ (ap (λ (k : ℕ). slice_index c.memory.now.words (place_in (shape o) s.walk.tail_block k)) (sym index) ∙ (ap (λ (at : ℕ). slice_index c.memory.now.words at) (sym parts.2) ∙ parts.1)) in
-      let last = empty_link o c inv place (number_at c.logs s.walk.tail_base) kept late there.0 empty in
-      let used : entries_used (nth_log c.logs (number_at c.logs s.walk.tail_base)) ≡ entries_used (log_at c.logs s.walk.tail_base) = ap (λ (log : LogBlock). entries_used log) there.1 in
+      let last = empty_link o c inv place (number_at c.logs s.walk.tail_base) kept log.late log.inside empty in
+      let used : entries_used (nth_log c.logs (number_at c.logs s.walk.tail_base)) ≡ entries_used (log_at c.logs s.walk.tail_base) = ap (λ (l : LogBlock). entries_used l) log.log_is in
       omega (arith, ends, last, used, number_base)))
       (λ unclosed.
       (let inside = walked.inside unclosed in
@@ -139,11 +131,11 @@ module _ (o : Origin) (c : Core) (n : ℕ) (s : Seat) (g : Ghost) (pin began wor
       let index : tail_index s ≡ s.walk.tail_slot = at_slot unclosed in
       let slot : s.walk.tail_slot - 3 + 3 ≡ s.walk.tail_slot = omega (arith, from) in
       let empty : (cell c.memory (place_in (shape o) (nth_log c.logs (number_at c.logs s.walk.tail_base)).block (s.walk.tail_slot - 3 + 3))).present ≡ 0 =
-      ap (λ (block : ℕ). slice_index c.memory.now.words (place_in (shape o) block (s.walk.tail_slot - 3 + 3))) number_block
+      ap (λ (block : ℕ). slice_index c.memory.now.words (place_in (shape o) block (s.walk.tail_slot - 3 + 3))) log.block_is
       ∙ (ap (λ (k : ℕ). slice_index c.memory.now.words (place_in (shape o) s.walk.tail_block k)) (slot ∙ sym index) ∙ (ap (λ (at : ℕ). slice_index c.memory.now.words at) (sym parts.2) ∙ parts.1)) in
-      let used : entries_used (nth_log c.logs (number_at c.logs s.walk.tail_base)) ≡ entries_used (log_at c.logs s.walk.tail_base) = ap (λ (log : LogBlock). entries_used log) there.1 in
+      let used : entries_used (nth_log c.logs (number_at c.logs s.walk.tail_base)) ≡ entries_used (log_at c.logs s.walk.tail_base) = ap (λ (l : LogBlock). entries_used l) log.log_is in
       let few = inside.1 in
-      let last = empty_slot o c inv place (number_at c.logs s.walk.tail_base) kept late there.0 (s.walk.tail_slot - 3) (omega (arith, upto, from, unclosed)) (omega (arith, few, used)) empty in
+      let last = empty_slot o c inv place (number_at c.logs s.walk.tail_base) kept log.late log.inside (s.walk.tail_slot - 3) (omega (arith, upto, from, unclosed)) (omega (arith, few, used)) empty in
       let position = inside.0 in
       omega (arith, position, last, number_base))))
     where
