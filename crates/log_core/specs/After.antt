@@ -94,7 +94,7 @@ owner_after owner seat note (ExchangesHead before next) f block =
     owner_if (f == before) (new_snapshots note.before next) InChain (owner_if (f == before) (replaced_by note.before) (LeftTo seat) (owner block) block) block
 owner_after owner seat note _ f block = owner block
 
--- and the chain is_listed them with these words
+-- and the chain has them with these words
 abbrev pub recorded_if : Bool → List ℕ → Seat → List ℕ → ℕ → List ℕ
 recorded_if won blocks s old block = if won && is_listed blocks block then content_of s block else old
 
@@ -104,7 +104,7 @@ recorded_after recorded note (ExchangesLink word other) f block = recorded_if (f
 recorded_after recorded note (ExchangesHead before next) f block = recorded_if (f == before) (new_snapshots note.before next) note.before (recorded block) block
 recorded_after recorded note _ f block = recorded block
 
--- the synced position rises to that of a sync, with the fence after which the sync is_listed it
+-- the synced position rises to that of a sync, with the fence after which the sync has it
 abbrev pub synced_to : ℕ → Option ℕ → Option ℕ → ℕ
 synced_to synced None (Some position) = max synced position
 synced_to synced _ _ = synced

@@ -12,7 +12,7 @@ use Rattle.log_core.specs.Origin.{Origin, Owner, LogBlock, no_log, Generation, n
 use Rattle.log_core.specs.Files.{Write}
 
 -- the state of a core: the memory; the views, a seat's number being its view's place; the accepted writes, the oldest first; the
--- generations from the start's on; all log blocks that were ever linked, in the order of the chain; who is_listed each block; the words
+-- generations from the start's on; all log blocks that were ever linked, in the order of the chain; who has each block; the words
 -- that each block was put into the chain with; the synced position; and for each seat the end at its call's first step
 pub record Core : Type 0 where
   pub memory : Memory
@@ -69,7 +69,7 @@ number_at (log ∷ logs) base = if log.base == base then 0 else 1 + number_at lo
 abbrev pub log_blocks : List LogBlock → List ℕ
 log_blocks logs = map (λ (log : LogBlock). log.block) logs
 
--- how many entries a log block is_listed
+-- how many entries a log block has
 abbrev pub entries_used : LogBlock → ℕ
 entries_used log = length (entry_words log.slots)
 
@@ -88,7 +88,7 @@ generation_blocks o logs es g = chain_names logs g ++ data_names o es g
 abbrev pub is_named : Origin → List LogBlock → List LogEntry → Generation → ℕ → Bool
 is_named o logs es g block = is_listed (generation_blocks o logs es g) block
 
--- a seat is_listed a valid pin of the generation at this place
+-- a seat has a valid pin of the generation at this place
 pub record IsPinned (o : Origin) (views : List View) (place : ℕ) : Type 0 where
   pub seat : ℕ
   pub valid : (view_of views seat).seat.hold.valid ≡ true

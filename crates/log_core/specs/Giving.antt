@@ -21,7 +21,7 @@ pub record GivingHolds (names : ℕ → ℕ → Bool) (current least : ℕ) (g :
 abbrev pub GivingsHold : (ℕ → ℕ → Bool) → ℕ → ℕ → List View → Type 0
 GivingsHold names current least views = (seat : ℕ) → GivingHolds names current least (view_of views seat).seat.giving
 
--- a seat that a scan found with no pin, or a later one, is_listed no valid pin that needs the list's blocks
+-- a seat that a scan found with no pin, or a later one, has no valid pin that needs the list's blocks
 pub record ScanHolds (g : Giving) (other : ℕ) (h : Hold) : Type 0 where
   pub replaced : other < length g.pins_seen → (slice_index g.pins_seen other ≡ 0) ⊎ (g.replaced_generation < slice_index g.pins_seen other) →
       h.valid ≡ true → g.replaced_generation < h.generation

@@ -31,12 +31,12 @@ use Rattle.log_core.specs.Steps.{Kind, LoadsHead, StoresOwnPin, LoadsPinWord, Lo
 use Rattle.log_core.specs.After.{new_generation, snapshot_meanings}
 use Rattle.log_core.specs.Snapshots.{first_or, IsSnapshot}
 
--- a store of the own pin word: 0, or the generation of the head found last; a sync that is_listed marks keeps its pin
+-- a store of the own pin word: 0, or the generation of the head found last; a sync that has marks keeps its pin
 pub record MayStoreOwnPin (s : Seat) (marks : List MarkedWord) (value : ℕ) : Type 0 where
   pub value_is : (value ≡ 0) ⊎ ((s.hold.head ≢ 0) × (value ≡ field HEAD_GENERATION s.hold.head))
   pub no_marks : s.calling.job ≡ Sync → marks ≡ []
 
--- a load of a seat's pin word: a scan begins with seat 0's and goes on in order, while the seat is_listed no pin. The head that the seat
+-- a load of a seat's pin word: a scan begins with seat 0's and goes on in order, while the seat has no pin. The head that the seat
 -- put in place last outlasts a crash
 pub record MayLoadPinWord (s : Seat) (seats other : ℕ) : Type 0 where
   pub head_fenced : s.giving.head_fenced ≡ true
@@ -62,12 +62,12 @@ pub record MaySetBits (s : Seat) (word bits : ℕ) : Type 0 where
   pub in_area : (block : ℕ) → is_among word bits block ≡ true → is_in_area (seat_shape s) area block ≡ true
   pub few : length (filter (λ (block : ℕ). is_among word bits block) (range_with_len (word * 64) 64)) ≤ lacking s s.calling.job area
 
--- a scan of all seats is_listed found each pin 0 or above this generation
+-- a scan of all seats has found each pin 0 or above this generation
 pub record IsClearScan (s : Seat) (seats generation : ℕ) : Type 0 where
   pub whole : length s.giving.pins_seen ≡ seats
   pub each : (seat : ℕ) → seat < seats → (slice_index s.giving.pins_seen seat ≡ 0) ⊎ (generation < slice_index s.giving.pins_seen seat)
 
--- blocks of one list are given back, and where a chain is_listed named them, after a scan that found no pin that may need them
+-- blocks of one list are given back, and where a chain has named them, after a scan that found no pin that may need them
 pub data AreGivenBack (s : Seat) (seats word bits : ℕ) : Type 0 where
   OfOwned : ((block : ℕ) → is_among word bits block ≡ true → is_listed (owned_numbers s.blocks.owned) block ≡ true) → AreGivenBack s seats word bits
   OfReplaced : ((block : ℕ) → is_among word bits block ≡ true → is_listed s.giving.replaced block ≡ true)
@@ -103,7 +103,7 @@ is_log_entry_by content image word =
     else is_indirect word && is_in_data image (field INDIRECT_BLOCK word) && is_indirect_block image (content (field INDIRECT_BLOCK word)))
     && fits image (longest_of image.block_bytes) (meaning_by content word)
 
--- the view stands at its chain's tail: its pin is valid, it is ready, and its call is_listed put in no entry
+-- the view stands at its chain's tail: its pin is valid, it is ready, and its call has put in no entry
 pub record IsAtTail (s : Seat) : Type 0 where
   pub valid : s.hold.valid ≡ true
   pub ready : s.walk.ready ≡ true
@@ -160,7 +160,7 @@ abbrev pub AreApart : List Meaning → Type 0
 AreApart [] = Unit {0}
 AreApart (meaning ∷ rest) = ((virt : ℕ) → names_virt meaning virt ≡ true → list_any (λ (other : Meaning). names_virt other virt) rest ≡ false) × AreApart rest
 
--- an exchange of the head, in a collection that is_listed won none and left nothing from an earlier one: from the pinned word to the next
+-- an exchange of the head, in a collection that has won none and left nothing from an earlier one: from the pinned word to the next
 -- generation. Its new blocks are of the log or spare area, owned and fenced, none twice, and hold the map and the size at the view's
 -- position, which is past the old snapshot's; they lead to the tail's block, which begins there. What it replaces is what the
 -- pinned generation names and the next does not
@@ -201,7 +201,7 @@ abbrev pub walked_trail : Origin → Core → Seat → List TrailWord
 walked_trail o c s =
     trail_before (place_in (shape o) s.walk.tail_block (tail_index s)) (trail (shape o) (drop (generation_at o c.generations s.hold.generation).cut c.logs))
 
--- a mark: of a word of an owned block, in a call that is no sync; of the head that the call is_listed put in place; in a sync with a valid
+-- a mark: of a word of an owned block, in a call that is no sync; of the head that the call has put in place; in a sync with a valid
 -- pin of the head, and of a used slot or link of its chain up to its tail
 pub data MayMark (walked : List TrailWord) (g : Ghost) (s : Seat) (word : ℕ) : Type 0 where
   OfOwned : is_listed (owned_numbers s.blocks.owned) (word / words_of s) ≡ true → s.calling.job ≢ Sync → MayMark walked g s word

@@ -1,4 +1,4 @@
--- How many blocks of an area a call lacks, and whether it is_listed found that there are no more.
+-- How many blocks of an area a call lacks, and whether it has found that there are no more.
 use Rattle.std.specs.Prelude.{ℕ, ◌+◌, ◌-◌, ◌/◌, ◌%◌, ◌==◌, ◌&&◌, ◌||◌, not, nat_lt, nat_le, Bool, true, false, if◌then◌else◌, List, [], ◌∷◌, length, map, filter, slice_index}
 use Rattle.std.specs.Int.{bit_at}
 use Rattle.std.specs.List.{range_with_len, list_any, list_all}
@@ -49,7 +49,7 @@ data_lacking touched owned =
     else if (length owned == touched) && nat_lt 0 touched && not (is_one_run owned) then 1
     else 0
 
--- how many blocks of an area the seat lacks for its task: data blocks for a write, a log block where it is_listed none, the blocks of
+-- how many blocks of an area the seat lacks for its task: data blocks for a write, a log block where it has none, the blocks of
 -- the largest snapshot and a log block for a collection; and what a machine that is driven alone was told to take
 abbrev pub lacking : Seat → Task → Area → ℕ
 lacking s (Pwrite offset) Data = data_lacking (touched_from s.geometry.block_bytes offset s.calling.bytes) (owned_in s Data)
@@ -66,6 +66,6 @@ is_found_taken s area =
     list_all (λ (block : ℕ). not (is_in_area (seat_shape s) area block) || (bit_at (slice_index s.blocks.found (block / 64)) (block % 64) == 1))
     (range_with_len 1 (total (seat_shape s) - 1))
 
--- the pass over an area is_listed found each of its blocks taken, and the seat still lacks some
+-- the pass over an area has found each of its blocks taken, and the seat still lacks some
 abbrev pub is_pass_found : Seat → Area → Bool
 is_pass_found s area = nat_lt 0 (lacking s s.calling.job area) && is_found_taken s area

@@ -45,7 +45,7 @@ start_base o = snapshot_base o.words (shape o) o.chain
 abbrev pub start_size : Origin → ℕ
 start_size o = snapshot_size o.words (shape o) o.chain
 
--- who is_listed a block: nobody, the header, the present chain, the seat that took it, or the seat whose collection replaced it
+-- who has a block: nobody, the header, the present chain, the seat that took it, or the seat whose collection replaced it
 pub data Owner : Type 0 where
   Free : Owner
   Header : Owner

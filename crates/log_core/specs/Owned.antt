@@ -29,7 +29,7 @@ pub record StoredHolds (cells : ℕ → Cell) (past : List Replaced) (pending : 
   pub present : (cells stored.word).present ≡ stored.value
   pub marked : stored.marked ≡ true → IsMarkedNow cells past pending seat stored.word
 
--- the owned blocks: their contents are of whole blocks, and each is_listed its area; the stored words are as stored; each word of a filled
+-- the owned blocks: their contents are of whole blocks, and each has its area; the stored words are as stored; each word of a filled
 -- block was stored and marked; and only its content is possible in a fenced one
 pub record OwnedHold (cells : ℕ → Cell) (past : List Replaced) (pending : List PendingMark) (seat : ℕ) (g : Ghost) (s : Seat) : Type 0 where
   pub contents : length s.blocks.contents ≡ length s.blocks.owned * words_of s

@@ -1,4 +1,4 @@
--- Who is_listed each block.
+-- Who has each block.
 use Rattle.std.specs.Prelude.{ℕ, ◌<◌, ◌≡◌, ◌≢◌, true, Bool, List, ◌++◌}
 use Rattle.log_image.specs.Image.{Shape, total, is_in_data, is_in_log}
 use Rattle.log_image.specs.Chains.{all_different, is_listed}
@@ -16,14 +16,14 @@ bit_for InChain = 1
 bit_for (OwnedBy seat) = 1
 bit_for (LeftTo seat) = 1
 
--- a bit is set exactly for each block that is_listed an owner; only blocks of the image have one; and the header is_listed block 0 alone
+-- a bit is set exactly for each block that has an owner; only blocks of the image have one; and the header has block 0 alone
 pub record BitsFit (image : Shape) (taken : List ℕ) (owner : ℕ → Owner) : Type 0 where
   pub bits : (block : ℕ) → block < total image → bit_of taken block ≡ bit_for (owner block)
   pub inside : (block : ℕ) → owner block ≢ Free → block < total image
   pub header : owner 0 ≡ Header
   pub only : (block : ℕ) → owner block ≡ Header → block ≡ 0
 
--- the present chain is_listed exactly the blocks that it names
+-- the present chain has exactly the blocks that it names
 pub record ChainOwns (is_named : ℕ → Bool) (owner : ℕ → Owner) : Type 0 where
   pub named : (block : ℕ) → owner block ≡ InChain → is_named block ≡ true
   pub all : (block : ℕ) → is_named block ≡ true → owner block ≡ InChain

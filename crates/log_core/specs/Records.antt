@@ -1,4 +1,4 @@
--- The views' records against the history, and what a running call is_listed of it.
+-- The views' records against the history, and what a running call has of it.
 use Rattle.std.specs.Prelude.{ℕ, ◌+◌, ◌-◌, ◌*◌, ◌^◌, ◌<◌, ◌≤◌, ◌≡◌, ◌≢◌, ◌==◌, ◌&&◌, nat_lt, Bool, true, false, if◌then◌else◌, List, [], ◌∷◌, length, map, slice_index, Option, Some, None}
 use Rattle.std.specs.List.{AllByRecursion}
 use Rattle.log_entry.specs.ByteFile.{read}
@@ -23,7 +23,7 @@ abbrev pub one_if : Bool → ℕ
 one_if true = 1
 one_if false = 0
 
--- how many accepted writes of a position are recorded, and whether the running call is_listed put one in that is_listed no record yet
+-- how many accepted writes of a position are recorded, and whether the running call has put one in that has no record yet
 abbrev pub writes_at : ℕ → List Call → ℕ
 writes_at position [] = 0
 writes_at position (call ∷ calls) = one_if (is_write call.op call.reply && (call.position == position)) + writes_at position calls
@@ -31,7 +31,7 @@ writes_at position (call ∷ calls) = one_if (is_write call.op call.reply && (ca
 abbrev pub running_at : ℕ → Seat → ℕ
 running_at position s = one_if (s.calling.won && (s.walk.position == position))
 
--- each accepted write that a view is_listed recorded is the history's of its position, and so is the one that its running call put in
+-- each accepted write that a view has recorded is the history's of its position, and so is the one that its running call put in
 pub record WritesFit (o : Origin) (history : List Write) (v : View) : Type 0 where
   pub recorded : AllByRecursion (λ (call : Call). is_write call.op call.reply ≡ true →
       (first_position o < call.position) × (call.position ≤ end_of o history) × (call ≡ call_of call.position (write_at o history call.position))) v.done
@@ -60,7 +60,7 @@ pub record SeatsOnce (history : List Write) (views : List View) : Type 0 where
   pub writes : AllByRecursion (λ (w : Write). w.seat < length views) history
   pub records : AllByRecursion (λ (v : View). AllByRecursion (λ (call : Call). is_listed v.parts call.seat ≡ true) v.done) views
 
--- how often a generation was put in place: by a recorded collection, or by a call that is_listed no record yet
+-- how often a generation was put in place: by a recorded collection, or by a call that has no record yet
 abbrev pub collects : ℕ → Reply → ℕ
 collects generation (Collected collected) = one_if (collected.generation == generation)
 collects generation _ = 0
@@ -81,7 +81,7 @@ collected_by generation (v ∷ views) = collected_in generation v.done + putting
 abbrev pub CollectedOnce : ℕ → ℕ → List View → Type 0
 CollectedOnce first current views = (generation : ℕ) → first < generation → generation ≤ current → collected_by generation views ≡ 1
 
--- the call that put a head in place is at the position of its generation's snapshot, and is_listed taken in nothing since
+-- the call that put a head in place is at the position of its generation's snapshot, and has taken in nothing since
 abbrev pub PutFits : Origin → List Generation → View → Type 0
 PutFits o generations v =
     (put : HeadPut) → v.ghost.call.put ≡ Some put →
@@ -104,7 +104,7 @@ SaysOfGenerations o generations position _ = Unit {0}
 abbrev pub before_call : Call → ℕ
 before_call call = if is_write call.op call.reply then call.position - 1 else call.position
 
--- a record is of a position that there is, is_listed the reply that comes there, and says what is so of the generations
+-- a record is of a position that there is, has the reply that comes there, and says what is so of the generations
 pub record RecordHolds (o : Origin) (history : List Write) (generations : List Generation) (call : Call) : Type 0 where
   pub to_end : call.position ≤ end_of o history
   pub from_first : is_write call.op call.reply ≡ true → first_position o < call.position
@@ -118,7 +118,7 @@ NeverFall seat position number (call ∷ calls) =
     (call.seat ≡ seat → (position ≤ call.position) × (number < call.number))
     × NeverFall seat (if call.seat == seat then call.position else position) (if call.seat == seat then call.number else number) calls
 
--- what a running call is_listed: the bytes that a read is_listed laid and the bases of a write are those of the file at its position; and while a
+-- what a running call has: the bytes that a read has laid and the bases of a write are those of the file at its position; and while a
 -- snapshot is read nothing is laid, put in or synced
 pub record CallHolds (o : Origin) (history : List Write) (v : View) : Type 0 where
   pub laid : (offset count : ℕ) → v.seat.calling.job ≡ Pread offset count →
@@ -141,7 +141,7 @@ pub record TailHolds (v : View) (began : ℕ) : Type 0 where
   pub begun : v.seat.walk.at_tail ≡ true → began ≤ v.seat.walk.position
   pub records : v.seat.walk.at_tail ≡ true → AllByRecursion (λ (call : Call). call.position ≤ v.seat.walk.position) v.done
 
--- the memory's marks of a seat are those that its view is_listed, each of the value found
+-- the memory's marks of a seat are those that its view has, each of the value found
 abbrev pub mark_of : (ℕ → Cell) → List Replaced → PendingMark → MarkedWord
 mark_of cells past note = record { word = note.word; value = value_at (cells note.word) (index_at past note.time note.word) }
 

@@ -288,7 +288,7 @@ stored_after stored s (ExchangesLink word block) f = stored_if (f == 0) (stored_
 stored_after stored s (ExchangesHead before next) f = stored_if (f == before) (stored_but (words_of s) (λ block. is_listed (new_snapshots s next) block) stored) stored
 stored_after stored s _ f = stored
 
--- the areas in which the call is_listed found too few blocks: a step on the bitmap may find it
+-- the areas in which the call has found too few blocks: a step on the bitmap may find it
 abbrev pub lacked_after : List Area → Seat → Kind → List Area
 lacked_after lacked s (LoadsBitmapWord word) = lacked ++ filter (λ (area : Area). is_pass_found s area) (Data ∷ Log ∷ Spare ∷ [])
 lacked_after lacked s (SetsBits word bits) = lacked ++ filter (λ (area : Area). is_pass_found s area) (Data ∷ Log ∷ Spare ∷ [])
@@ -332,7 +332,7 @@ abbrev pub is_begun : Option Op → Option Op → Bool
 is_begun None (Some op) = true
 is_begun _ _ = false
 
--- a call that begins is_listed found and put nothing
+-- a call that begins has found and put nothing
 abbrev pub call_if : Bool → Running → ℕ → Running
 call_if true c number = record { number = number; lacked = []; overtaken = 0; put = None }
 call_if false c number = c
@@ -340,7 +340,7 @@ call_if false c number = c
 abbrev pub ghost_begun : Ghost → Seat → Seat → ℕ → Ghost
 ghost_begun g s before number = record g { call = call_if (is_begun (op_in s) (op_in before)) g.call number }
 
--- a call that is_listed ended is_listed its record, and its head is no more the present call's
+-- a call that has ended has its record, and its head is no more the present call's
 abbrev pub put_unless : List Call → Option HeadPut → Option HeadPut
 put_unless [] put = put
 put_unless (call ∷ calls) put = None
@@ -356,14 +356,14 @@ view_after v kind note f = record v {
   done = v.done ++ note.adds;
 }
 
--- a split: seat 0 counts one seat more, and the new view is_listed not walked
+-- a split: seat 0 counts one seat more, and the new view has not walked
 abbrev pub view_left : View → View
 view_left v = record v { made = v.made + 1 }
 
 abbrev pub view_right : View → View
 view_right v = new_view v.seat.geometry v.seat.seats v.first 0 v.made
 
--- a join: the walk of the view that is_listed come further, the records, parts and kept blocks of both
+-- a join: the walk of the view that has come further, the records, parts and kept blocks of both
 abbrev pub walk_of : Bool → Walk → Walk → Walk
 walk_of true w x = record x { at_tail = false }
 walk_of false w x = record w { at_tail = false }

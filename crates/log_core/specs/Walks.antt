@@ -22,7 +22,7 @@ read_meanings content (block ∷ blocks) at slot =
     if block == at then map direct_meaning (take (slot - 3) (slots_of (content block)))
     else map direct_meaning (take (snapshot_count (content block)) (slots_of (content block))) ++ read_meanings content blocks at slot
 
--- a snapshot was read up to a slot of one of its blocks: the table is_listed the map of the entries before it
+-- a snapshot was read up to a slot of one of its blocks: the table has the map of the entries before it
 pub record HasRead (content : ℕ → List ℕ) (g : Generation) (w : Walk) : Type 0 where
   pub block : is_listed g.snapshots w.reading_block ≡ true
   pub from : 3 ≤ w.reading_slot
@@ -37,7 +37,7 @@ pub record IsKeptWord (image : Shape) (words : List ℕ) (is_named : ℕ → Boo
   pub inside : kept.slot < words_in image
   pub word_is : (kept.word ≡ slice_index words (place_in image kept.block kept.slot)) ⊎ ((kept.word ≡ 0) × (is_listed (log_blocks logs) kept.block ≡ true))
 
--- a view that is_listed walked: its table and size are those of its position, and its tail is a place of the log block with its tail's base
+-- a view that has walked: its table and size are those of its position, and its tail is a place of the log block with its tail's base
 pub record HasWalked (o : Origin) (es : List LogEntry) (logs : List LogBlock) (w : Walk) : Type 0 where
   pub table : (virt : ℕ) → mapped_at w.map virt ≡ history_map_at o es w.position virt
   pub size_is : w.size ≡ history_size_at o es w.position
@@ -60,8 +60,8 @@ pub record Around : Type 1 where
   pub recorded : ℕ → List ℕ
   pub kept : ℕ → Type 0
 
--- a view that is_listed not walked is at the start's position. What is read of a snapshot is as far as it goes, as long as that generation
--- is kept. With a valid pin the kept words are those of the pinned chain, and without one there are none. A view that is ready is_listed walked in the chain of its
+-- a view that has not walked is at the start's position. What is read of a snapshot is as far as it goes, as long as that generation
+-- is kept. With a valid pin the kept words are those of the pinned chain, and without one there are none. A view that is ready has walked in the chain of its
 -- generation. No position is past the end
 pub record WalkHolds (a : Around) (h : Hold) (w : Walk) : Type 0 where
   pub unwalked : w.tail_block ≡ 0 → w.reading ≡ false → w.position ≡ first_position a.origin

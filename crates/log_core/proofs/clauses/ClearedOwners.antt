@@ -1,4 +1,4 @@
--- Who is_listed each block after bits of owned blocks are cleared: nobody is_listed those blocks.
+-- Who has each block after bits of owned blocks are cleared: nobody has those blocks.
 use Rattle.std.proofs.Common.{◌≡◌, ◌≢◌, ◌⊎◌, ℕ, ◌^◌, ◌<◌, ◌&&◌, not, Bool, true, false, if◌then◌else◌, List, length, refl, sym, ◌∙◌, inl, inr, subst, slice_index, slice_set}
 use Rattle.std.proofs.lemmas.Bool.{and_parts}
 use Rattle.log_image.specs.Image.{Shape, total}
@@ -13,7 +13,7 @@ use Rattle.log_core.specs.Owners.{bit_for, BitsFit, IsListOf}
 use Rattle.log_core.proofs.clauses.BitWords.{taken_cleared}
 use Rattle.log_core.proofs.BlockLists.{has_filter, different_filter, numbers_but}
 
--- who is_listed each block then: these bits of a word are cleared
+-- who has each block then: these bits of a word are cleared
 abbrev pub owner_cleared : (ℕ → Owner) → ℕ → ℕ → ℕ → Owner
 owner_cleared owner word bits block = if is_among word bits block then Free else owner block
 

@@ -1,4 +1,4 @@
--- A cell that is_listed the same values, of which fewer are possible: what is said of the one is so of the other.
+-- A cell that has the same values, of which fewer are possible: what is said of the one is so of the other.
 use Rattle.std.proofs.Common.{◌≡◌, ◌<◌, ◌≤◌, ◌+◌, ◌∷◌, ◌++◌, ℕ, true, List, [], length, ◌∙◌, ap, arith, slice_index}
 use Rattle.log_image.specs.Image.{Shape, words_in}
 use Rattle.persistence.specs.Memory.{Memory, Cell, cell}
@@ -13,7 +13,7 @@ use Rattle.log_core.specs.Order.{HeadsInOrder, LogStands}
 use Rattle.log_core.specs.Pins.{WasHead}
 use Rattle.log_core.specs.Synced.{IsSyncedIn}
 
--- the second cell is_listed the first one's values, and its floor is no lower
+-- the second cell has the first one's values, and its floor is no lower
 pub record Narrows (a b : Cell) : Type 0 where
   pub present : b.present ≡ a.present
   pub past : b.past ≡ a.past

@@ -1,5 +1,5 @@
 -- The invariant stays where a step of one seat replaces its view, and changes the memory and the owners: the others are left what they
--- know, and what is_listed to hold of the new view does.
+-- know, and what has to hold of the new view does.
 use Rattle.std.proofs.Common.{◌≡◌, ◌≢◌, ◌<◌, ◌≤◌, ◌+◌, ◌-◌, ℕ, true, nat_lt, List, [], length, refl, sym, ◌∙◌, ap, subst, arith, inl, inr, ⊎_elim, ◌⊎◌, slice_set, slice_index}
 use Rattle.std.specs.List.{AllByRecursion}
 use Rattle.std.proofs.lemmas.List.{length-set}

@@ -1,4 +1,4 @@
--- Who is_listed each block after bits of the bitmap are set: a seat is_listed the blocks gained.
+-- Who has each block after bits of the bitmap are set: a seat has the blocks gained.
 use Rattle.std.proofs.Common.{◌≡◌, ◌≢◌, ◌⊎◌, ℕ, ◌<◌, ◌++◌, ◌==◌, ◌||◌, Bool, true, false, if◌then◌else◌, List, length, map, refl, sym, ◌∙◌, arith, inl, inr, subst, slice_index, slice_set, bit_or}
 use Rattle.std.proofs.lemmas.Bool.{false≢true, or_cases, or_left, or_right, and_parts, false_from_ne_true}
 use Rattle.std.proofs.lemmas.List.Folds.{list_any-append}
@@ -15,7 +15,7 @@ use Rattle.log_core.specs.Owners.{bit_for, BitsFit, IsListOf}
 use Rattle.log_core.proofs.clauses.BitWords.{taken_set, gained_clear}
 use Rattle.log_core.proofs.BlockLists.{has_gained, gained_once, numbers_taken}
 
--- a clear bit is that of a block that nobody is_listed
+-- a clear bit is that of a block that nobody has
 free_from_bit : (whose : Owner) → bit_for whose ≡ 0 → whose ≡ Free
 free_from_bit Free e = refl
 free_from_bit Header e = cc
@@ -29,7 +29,7 @@ not_header n e = cc
 not_free : (n : ℕ) → OwnedBy n ≡ Free → ⊥
 not_free n e = cc
 
--- who is_listed each block then: a seat sets bits of a word, of which some were set
+-- who has each block then: a seat sets bits of a word, of which some were set
 abbrev pub owner_set : (ℕ → Owner) → ℕ → ℕ → ℕ → ℕ → ℕ → Owner
 owner_set owner n word bits found block = if is_gained word bits found block then OwnedBy n else owner block
 

@@ -1,4 +1,4 @@
--- A clearing of bits of owned blocks gives these back: nobody is_listed them then, and nothing is known of their words.
+-- A clearing of bits of owned blocks gives these back: nobody has them then, and nothing is known of their words.
 use Rattle.std.proofs.Common.{◌≡◌, ◌≢◌, ℕ, ◌*◌, ◌<◌, ◌||◌, not, Bool, true, false, List, [], length, refl, sym, subst, slice_index}
 use Rattle.std.specs.List.{range_with_len}
 use Rattle.std.proofs.lemmas.List.{length-set}

@@ -1,4 +1,4 @@
--- An ask that is allowed is on a word that the memory is_listed.
+-- An ask that is allowed is on a word that the memory has.
 use Rattle.std.proofs.Common.{◌≡◌, ◌≢◌, ◌<◌, ◌≤◌, ◌*◌, ◌/◌, ◌==◌, ℕ, Bool, true, false, if◌then◌else◌, [], length, refl, sym, subst, arith, slice_index}
 use Rattle.std.proofs.Math.Nat.{mul-le-mul_right}
 use Rattle.std.proofs.lemmas.Bool.{eqb-true}
@@ -48,7 +48,7 @@ module _ (o : Origin) (c : Core) (seat : ℕ) (note : Note) (inv : Invariant o c
       Knows o c seat note.before (ghost_at (view_of c.views seat) note) (slice_index c.memory.now.pins seat)
       (slice_index (began_if (is_begun (op_in (view_of c.views seat).seat) (op_in note.before)) c.began seat (end_of o c.history)) seat)
 
-  -- each ask of an offered kind is on a word that the memory is_listed
+  -- each ask of an offered kind is on a word that the memory has
   by_head : (word : ℕ) (b : Bool) → (word == head_place) ≡ b → IsOfferedKind note.before (if b then LoadsHead else LoadsImageWord word) → word < length c.memory.now.words
   by_head word true e offered = subst (λ (k : ℕ). k < length c.memory.now.words) (sym (eqb-true word head_place e)) head_inside
   by_head word false e offered = absurd offered
@@ -57,7 +57,7 @@ module _ (o : Origin) (c : Core) (seat : ℕ) (note : Note) (inv : Invariant o c
   by_own other value true e offered = (let same = eqb-true other seat e in let made = made in let few = inv.sizes.few in pins_inside other (omega (arith, same, made, few)))
   by_own other value false e offered = absurd offered
 
-  -- a bitmap word that the seat is_listed, and a word of a block that it owns
+  -- a bitmap word that the seat has, and a word of a block that it owns
   bitmap_inside : (word : ℕ) → word < length note.before.blocks.found → (pin began : ℕ) → Knows o c seat note.before (ghost_at (view_of c.views seat) note) pin began → word < length c.memory.now.taken
   bitmap_inside word inside pin began known = found_inside o c seat note.before (ghost_at (view_of c.views seat) note) pin began inv known unspent word inside
 

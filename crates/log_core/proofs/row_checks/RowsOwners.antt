@@ -16,7 +16,7 @@ use Rattle.log_core.specs.worked_rows.Rows.{collected}
 use Rattle.log_core.specs.worked_rows.Accepted.{OwnersStand}
 use Rattle.log_core.proofs.row_checks.RowChecks.{all_below, below_all, below_same, in_all, implied}
 
--- no block past the bitmap's first word is_listed an owner
+-- no block past the bitmap's first word has an owner
 far_free : (block : ℕ) → 64 ≤ block → collected.owner block ≡ Free
 far_free block above =
     let five : (5 == block) ≡ false = grind (arith, nat_tests, above) in

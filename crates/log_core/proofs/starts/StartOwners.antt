@@ -1,4 +1,4 @@
--- Who is_listed each block at a start.
+-- Who has each block at a start.
 use Rattle.std.proofs.Common.{◌≡◌, ◌≢◌, ◌⊎◌, ℕ, zero, suc, ◌+◌, ◌-◌, ◌<◌, ◌==◌, ◌||◌, Bool, true, false, List, [], ◌∷◌, ◌++◌, drop, map, refl, sym, ap, ◌∙◌, arith, inl, inr, if◌then◌else◌, append-nil}
 use Rattle.std.specs.Prelude.{nat_le, nat_lt}
 use Rattle.std.proofs.lemmas.Bool.{false≢true, eqb-true, or_cases, and_parts, leb-true, ltb-true, false_from_ne_true}
@@ -132,7 +132,7 @@ module _ (o : Origin) (s : Facts o) where
     all = λ block is. by_chain (is_listed (named_blocks o.words (shape o) o.chain) block) (block == 0) (sym (ap (λ (l : List ℕ). is_listed l block) named_is) ∙ is);
   }
 
-  -- a seat is_listed no block
+  -- a seat has no block
   owns_none : (number : ℕ) → IsListOf (first_owner o) [] (OwnedBy number)
   owns_none number = record {
     listed = λ block inside. absurd (false≢true inside);

@@ -146,7 +146,7 @@ start_givings o some = record {
 abbrev fresh : Geometry → ℕ → ℕ → ℕ → ℕ → List ℕ → View
 fresh g seats position made number parts = record { seat = new_seat g number seats position; ghost = no_ghost; first = position; made = made; done = []; parts = parts }
 
--- a seat that is_listed made no step reads nothing
+-- a seat that has made no step reads nothing
 not_reading : (offset count : ℕ) → Idle ≡ Pread offset count → ⊥
 not_reading offset count same = cc
 
