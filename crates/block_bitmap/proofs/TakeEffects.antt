@@ -63,7 +63,7 @@ area_is image Spare block is =
     ap (λ (b : Bool). if b then Data else if nat_le block (image.data_blocks + image.log_blocks) then Log else Spare) {x = is_in_data image block} {y = false} (Rattle.std.proofs.lemmas.Bool.and_right (nat_le 1 block) (nat_le block image.data_blocks) (lt-leb block image.data_blocks (omega (arith, above))))
     ∙ ap (λ (b : Bool). if b then Log else Spare) (lt-leb block (image.data_blocks + image.log_blocks) above))
 
--- so each block that is taken is_listed the machine's area
+-- so each block that is taken has the machine's area
 fresh_is : (image : Shape) (area : Area) (blocks : List ℕ) → ((block : ℕ) → is_listed blocks block ≡ true → is_in_area image area block ≡ true) → map (taken_block image) blocks ≡ map (fresh area) blocks
 fresh_is image area [] each = refl
 fresh_is image area (block ∷ blocks) each =

@@ -42,7 +42,7 @@ owned_more area s found blocks each =
     ∙ filter-append (λ (block : ℕ). is_in_area (seat_shape s) area block) (owned_numbers s.blocks.owned) blocks
     ∙ ap (λ (rest : List ℕ). owned_in s area ++ rest) (kept_has (λ (block : ℕ). is_in_area (seat_shape s) area block) blocks each)
 
--- a seat that is_listed grown grows on
+-- a seat that has grown grows on
 pub grows_on : (area : Area) (first s : Seat) (blocks more : List ℕ) (found : List ℕ) → HasGrown area first blocks s → ((block : ℕ) → is_listed more block ≡ true → is_in_area (seat_shape s) area block ≡ true) →
     HasGrown area first (blocks ++ more) (found_as found (with_taken_blocks area more s))
 grows_on area first s blocks more found grown each = record {

@@ -24,7 +24,8 @@ use Rattle.block_bitmap.specs.declared.take.Taken.{Taken}
 use Rattle.block_bitmap.specs.declared.take.Taken.TheVariants.{Taken as HasTaken, NoSpace}
 use Rattle.block_bitmap.specs.TakeBits.{blocks_of_word, area_in}
 use Rattle.block_bitmap.specs.TakeScript.{last_word, open_at, moved_on, settled_by}
-use Rattle.block_bitmap.specs.TakeWithin.{TakeStands, HasEnded}
+use Rattle.block_bitmap.specs.TakeWithin.{HasEnded}
+use Rattle.block_bitmap.proofs.TakeStanding.{TakeStands}
 use Rattle.block_bitmap.proofs.TakeWords.{area_from}
 
 -- a test that holds of each number of a range
@@ -32,7 +33,7 @@ all_range : (p : ℕ → Bool) (a n : ℕ) → ((x : ℕ) → a ≤ x → x < a 
 all_range p a zero each = refl
 all_range p a (suc n) each = and_from (p a) (list_all p (range_with_len (a + 1) n)) (each a (omega arith) (omega arith)) (all_range p (a + 1) n (λ x low high. each x (omega (arith, low)) (omega (arith, high))))
 
--- a word of which nothing is open is_listed each bit of the area
+-- a word of which nothing is open has each bit of the area
 is_of_word : (word block : ℕ) → block / 64 ≡ word → is_listed (blocks_of_word word) block ≡ true
 unfolding blocks_of_word
 is_of_word word block is = in_range (word * 64) 64 block (omega (arith, is)) (omega (arith, is))
@@ -51,7 +52,7 @@ one_of p Data is = or_left (p Data && true) _ (and_from (p Data) true is refl)
 one_of p Log is = or_right (p Data && false) _ (or_left (p Log && true) _ (and_from (p Log) true is refl))
 one_of p Spare is = or_right (p Data && false) _ (or_right (p Log && false) _ (or_left (p Spare && true) _ (and_from (p Spare) true is refl)))
 
--- a step on the bitmap notes an area whose pass is_listed found nothing
+-- a step on the bitmap notes an area whose pass has found nothing
 pub has_lacked : (lacked : List Area) (s : Seat) (area : Area) → is_pass_found s area ≡ true →
     list_any (λ (other : Area). is_area other area) (lacked ++ filter (λ (other : Area). is_pass_found s other) (Data ∷ Log ∷ Spare ∷ [])) ≡ true
 has_lacked lacked s area found =
@@ -103,7 +104,7 @@ module _ (area : Area) (total_count : ℕ) (first : Seat) (count passed : ℕ) (
       known = tt;
     }
 
-    -- the pass over the last word is_listed found each block of the area
+    -- the pass over the last word has found each block of the area
     found_all : open_at (at None) s known ≡ [] → last_word area s ≤ word → is_found_taken s area ≡ true
     found_all none last = all_range (λ (block : ℕ). not (is_in_area (seat_shape s) area block) || (bit_of s.blocks.found block == 1)) 1 (total (seat_shape s) - 1) (λ block low high. by block (is_in_area (seat_shape s) area block) refl)
       where

@@ -15,7 +15,7 @@ use Rattle.block_bitmap.specs.TakeScript.{last_word}
 abbrev pub free_blocks : Geometry → Area → List ℕ → List ℕ
 free_blocks g area taken = filter (λ (block : ℕ). bit_of taken block == 0) (range_with_len (first_of g area) (count_of g area))
 
--- all are taken, or the area is_listed no space, by how many of its blocks are clear
+-- all are taken, or the area has no space, by how many of its blocks are clear
 abbrev pub outcome_by : Bool → Area → Taken
 outcome_by true area = HasTaken
 outcome_by false area = NoSpace area
