@@ -4,24 +4,26 @@ use Rattle.std.proofs.lemmas.List.{length-set}
 use Rattle.std.proofs.lemmas.Bool.{cases_eq, lt-ltb, le-ltb, ltb-true, ltb-false, cases_lt}
 use Rattle.pmem_words.specs.Owned.{owned_at}
 use Rattle.pmem_words.specs.Seats.{Seat, q_of}
-use Rattle.pmem_words.specs.declared.machine.Turn.TheVariants.{Go, Done}
+use Rattle.pmem_words.specs.declared.machine.Turn.TheVariants.{Done}
 use Rattle.log_core.specs.Views.{Ghost}
 use Rattle.log_core.specs.Origin.{Origin}
 use Rattle.log_core.specs.Works.{CountsFilled, MayCountFilled}
 use Rattle.log_core.specs.Steps.{MarksWord, ghost_after, is_head_marked}
 use Rattle.log_core.specs.May.{OfOwned}
 use Rattle.log_core.specs.Within.{no_record, adds_at, EntersOffered, Lawful}
+use Rattle.log_core.proofs.machines.Entering.{none_at, enters_same, enters_works}
 use Rattle.block_bitmap.specs.declared.fill.Fill.TheVariants.{Mark}
 use Rattle.block_bitmap.specs.OwnedWords.{owned_block_at, image_word, content_at, with_filled_block}
 use Rattle.block_bitmap.specs.Filling.{fill_script, block_next, marked_after}
 use Rattle.block_bitmap.specs.Filled.{filled_anew, filled_from}
-use Rattle.block_bitmap.specs.FillWithin.{IsCalm, IsStored, MarkStands, FillStands, IsFilled}
+use Rattle.block_bitmap.specs.FillWithin.{IsCalm, IsFilled}
+use Rattle.block_bitmap.proofs.FillStanding.{IsStored, MarkStands, FillStands}
 use Rattle.block_bitmap.proofs.BlockWords.{q_range}
 use Rattle.block_bitmap.proofs.OwnedFlags.{unfilled_many}
 use Rattle.block_bitmap.proofs.OwnedInCore.{few_owned}
 use Rattle.block_bitmap.proofs.FillOwned.{marked_here, marked_other, head_unmarked}
 use Rattle.block_bitmap.proofs.FilledSeats.{filled_more, filled_many}
-use Rattle.block_bitmap.proofs.FillPlaces.{owns_no_header, not_head, words_apart, entered, inside, has_blocks, mine}
+use Rattle.block_bitmap.proofs.FillPlaces.{owns_no_header, not_head, words_apart, inside, has_blocks, mine}
 
 module _ (o : Origin) (seat first count : ℕ) (start : Seat) where
   -- a word of a block is marked
@@ -112,21 +114,8 @@ module _ (o : Origin) (seat first count : ℕ) (start : Seat) where
     }
 
     enters_marked : (b : Bool) → nat_lt (word + 1) (q_of s.geometry) ≡ b → EntersOffered marked s (marked_after b place left word s).seat (adds_at no_record (marked_after b place left word s).seat (marked_after b place left word s).turn)
-    enters_marked true more = entered marked s s Go refl
-    enters_marked false last = record {
-      enters = record {
-        last = with_filled_block s place;
-        computed = record { works = CountsFilled place ∷ []; may = (may_count (let most = ltb-false (word + 1) (q_of s.geometry) last in let within = stands.here.inside in omega (arith, most, within)), tt); gives = refl };
-        going_on = refl;
-        adds_are = tt;
-        seat_is = refl;
-      };
-      offered = refl;
-    }
-
-    goes_none : (b : Bool) → adds_at no_record (marked_after b place left word s).seat (marked_after b place left word s).turn ≡ []
-    goes_none true = refl
-    goes_none false = refl
+    enters_marked true more = enters_same marked s s refl
+    enters_marked false last = enters_works marked s (CountsFilled place ∷ []) (may_count (let most = ltb-false (word + 1) (q_of s.geometry) last in let within = stands.here.inside in omega (arith, most, within)), tt) refl refl
 
     never_done : (b : Bool) (out : Unit {0}) → (marked_after b place left word s).turn ≡ Done out → ⊥
     never_done true out done = cc
@@ -138,7 +127,7 @@ module _ (o : Origin) (seat first count : ℕ) (start : Seat) where
     offered = record { owned = mine first count place left word s g stands.here; no_sync = stands.here.calm.no_sync };
     admitted = λ c pin began inv unspent knows. has_blocks first count place left word s g stands.here (few_owned o seat c s g pin began inv knows);
     enters = λ f found admits. enters_marked place left word s g stands f (nat_lt (word + 1) (q_of s.geometry)) refl;
-    none_added = λ f found admits. goes_none place left word s g stands f (nat_lt (word + 1) (q_of s.geometry));
+    none_added = λ f found admits. none_at (fill_script.after (Mark place left word) s f).seat (fill_script.after (Mark place left word) s f).turn;
     goes = λ f found admits go. goes_marked place left word s g stands f (owns_no_header o found.core seat s g found.pin found.began place found.holds found.knows (inside first count place left word s g stands.here)) (nat_lt (word + 1) (q_of s.geometry)) refl;
     ends = λ f out found admits done. absurd (never_done place left word s g stands f (nat_lt (word + 1) (q_of s.geometry)) out done);
   }

@@ -1,10 +1,8 @@
 -- The block that a fill is at, within a core.
-use Rattle.std.proofs.Common.{◌≡◌, ◌≢◌, ◌<◌, ◌≤◌, ◌*◌, ◌/◌, ℕ, true, false, [], length, refl, sym, ap, ◌∙◌, subst, arith}
+use Rattle.std.proofs.Common.{◌≡◌, ◌≢◌, ◌<◌, ◌≤◌, ◌*◌, ◌/◌, ℕ, true, false, length, sym, ap, ◌∙◌, arith}
 use Rattle.std.proofs.Math.Nat.{mul-le-mul_right}
 use Rattle.log_image.specs.Chains.{all_different, is_listed}
 use Rattle.pmem_words.specs.Seats.{Seat, q_of}
-use Rattle.pmem_words.specs.declared.machine.Turn.{Turn}
-use Rattle.pmem_words.specs.declared.machine.Turn.TheVariants.{Go, Done}
 use Rattle.log_core.specs.Views.{Ghost}
 use Rattle.log_core.specs.Origin.{Origin, Header, OwnedBy}
 use Rattle.log_core.specs.Cores.{Core}
@@ -13,11 +11,10 @@ use Rattle.log_core.specs.Works.{words_of, seat_shape}
 use Rattle.log_core.specs.Steps.{StoresWord, effect, owned_with}
 use Rattle.log_core.specs.Invariant.{Invariant}
 use Rattle.log_core.specs.Knows.{Knows}
-use Rattle.log_core.specs.Within.{no_record, adds_at, EntersOffered}
 use Rattle.log_core.proofs.clauses.OwnedLists.{block_of}
 use Rattle.block_bitmap.specs.OwnedWords.{owned_block_at, image_word, content_at, unfilled}
 use Rattle.block_bitmap.specs.Filling.{HasBlocks}
-use Rattle.block_bitmap.specs.FillWithin.{IsAtBlock}
+use Rattle.block_bitmap.proofs.FillStanding.{IsAtBlock}
 use Rattle.block_bitmap.proofs.BlockWords.{q_range}
 use Rattle.block_bitmap.proofs.OwnedFlags.{both_marks, owning}
 use Rattle.block_bitmap.proofs.FillOwned.{has_at, set_by_number}
@@ -39,17 +36,6 @@ not_head s p word some same =
 -- the words of a block are apart
 pub words_apart : (s : Seat) (p k word : ℕ) → k ≢ word → image_word s p k ≢ image_word s p word
 words_apart s p k word apart same = apart (omega (arith, same))
-
-none_at : (s : Seat) (turn : Turn (Unit {0})) → adds_at no_record s turn ≡ []
-none_at s Go = refl
-none_at s (Done out) = refl
-
--- what enters where the step makes the state that the machine does
-pub entered : (g : Ghost) (e t : Seat) (turn : Turn (Unit {0})) → e ≡ t → EntersOffered g e t (adds_at no_record t turn)
-entered g e t turn same = subst (λ adds. EntersOffered g e t adds) (sym (none_at t turn)) (record {
-  enters = record { last = e; computed = record { works = []; may = tt; gives = refl }; going_on = refl; adds_are = tt; seat_is = sym same };
-  offered = refl;
-})
 
 module _ (first count place left word : ℕ) (s : Seat) (g : Ghost) (here : IsAtBlock first count place left word s g) where
   pub inside : place < length s.blocks.owned

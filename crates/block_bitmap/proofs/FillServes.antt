@@ -2,18 +2,18 @@
 use Rattle.std.proofs.Common.{◌≡◌, ◌<◌, ◌||◌, ℕ, Bool, true, false, length, refl, sym, ap, subst}
 use Rattle.pmem_words.specs.Owned.{owned_at}
 use Rattle.pmem_words.specs.Seats.{Seat}
-use Rattle.pmem_words.specs.declared.machine.Turn.TheVariants.{Done}
 use Rattle.log_core.specs.Views.{Ghost}
 use Rattle.log_core.specs.Origin.{Origin}
 use Rattle.log_core.specs.Steps.{Fences, effect, is_head_marked}
 use Rattle.log_core.specs.Within.{no_record, Lawful, Serves}
 use Rattle.log_core.proofs.kinds.Fences.{no_sync_fenced}
+use Rattle.log_core.proofs.machines.Entering.{enters_same}
 use Rattle.block_bitmap.specs.declared.fill.Fill.TheVariants.{Store, Mark, Fence}
 use Rattle.block_bitmap.specs.OwnedWords.{all_fenced}
 use Rattle.block_bitmap.specs.Filling.{fill_script}
-use Rattle.block_bitmap.specs.FillWithin.{IsCalm, FenceStands, FillStands, IsFilled}
+use Rattle.block_bitmap.specs.FillWithin.{IsCalm, IsFilled}
+use Rattle.block_bitmap.proofs.FillStanding.{FenceStands, FillStands}
 use Rattle.block_bitmap.proofs.FilledSeats.{each_fenced}
-use Rattle.block_bitmap.proofs.FillPlaces.{entered}
 use Rattle.block_bitmap.proofs.FillStores.{store_lawful}
 use Rattle.block_bitmap.proofs.FillMarks.{mark_lawful}
 
@@ -36,7 +36,7 @@ module _ (o : Origin) (seat first count : ℕ) (start : Seat) where
     may = λ c pin began inv unspent knows. record { in_sync = λ sync at_tail none. absurd (stands.calm.no_sync sync) };
     offered = stands.calm.no_sync;
     admitted = λ c pin began inv unspent knows. tt;
-    enters = λ f found admits. entered _ _ (all_fenced s) (Done tt) (fences s g f stands.calm);
+    enters = λ f found admits. enters_same _ _ (all_fenced s) (fences s g f stands.calm);
     none_added = λ f found admits. refl;
     goes = λ f found admits go. cc;
     ends = λ f out found admits done. record {

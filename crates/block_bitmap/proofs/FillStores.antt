@@ -3,24 +3,25 @@ use Rattle.std.proofs.Common.{◌≡◌, ◌≢◌, ◌<◌, ◌+◌, ◌*◌, �
 use Rattle.std.specs.Prelude.{Some}
 use Rattle.std.proofs.lemmas.Bool.{cases_eq, le-ltb, ltb-true, ltb-false}
 use Rattle.pmem_words.specs.Seats.{Seat, q_of}
-use Rattle.pmem_words.specs.declared.machine.Turn.TheVariants.{Go}
 use Rattle.log_core.specs.Views.{Ghost}
 use Rattle.log_core.specs.Origin.{Origin}
 use Rattle.log_core.specs.Works.{stored_at}
 use Rattle.log_core.specs.Steps.{StoresWord, effect, ghost_after, stored_with}
 use Rattle.log_core.specs.Within.{no_record, Lawful}
 use Rattle.log_core.proofs.clauses.OwnedLists.{stored_at_other}
+use Rattle.log_core.proofs.machines.Entering.{enters_same}
 use Rattle.block_bitmap.specs.declared.fill.Fill.TheVariants.{Store}
 use Rattle.block_bitmap.specs.OwnedWords.{image_word, content_at, unfilled}
 use Rattle.block_bitmap.specs.Filling.{fill_script, stored_next}
 use Rattle.block_bitmap.specs.Filled.{filled_from}
-use Rattle.block_bitmap.specs.FillWithin.{IsStored, stored_to, IsAtBlock, StoreStands, FillStands, IsFilled}
+use Rattle.block_bitmap.specs.FillWithin.{IsFilled}
+use Rattle.block_bitmap.proofs.FillStanding.{IsStored, stored_to, IsAtBlock, StoreStands, FillStands}
 use Rattle.block_bitmap.proofs.BlockWords.{q_range}
 use Rattle.block_bitmap.proofs.OwnedFlags.{unfilled_each, unfilled_many}
 use Rattle.block_bitmap.proofs.OwnedInCore.{few_owned}
 use Rattle.block_bitmap.proofs.FillOwned.{stored_here}
 use Rattle.block_bitmap.proofs.FilledSeats.{stored_unfilled}
-use Rattle.block_bitmap.proofs.FillPlaces.{words_apart, entered, inside, has_blocks, mine, stores}
+use Rattle.block_bitmap.proofs.FillPlaces.{words_apart, inside, has_blocks, mine, stores}
 
 module _ (o : Origin) (seat first count : ℕ) (start : Seat) where
   -- a word of a block is stored
@@ -78,7 +79,7 @@ module _ (o : Origin) (seat first count : ℕ) (start : Seat) where
     may = λ c pin began inv unspent knows. record { owned = mine first count place left word s g stands.here; small = stands.here.calm.small (place * q_of s.geometry + word) };
     offered = tt;
     admitted = λ c pin began inv unspent knows. has_blocks first count place left word s g stands.here (few_owned o seat c s g pin began inv knows);
-    enters = λ f found admits. entered _ _ (unfilled s place) Go (stores first count place left word s g stands.here f found.knows.owns.owned.once);
+    enters = λ f found admits. enters_same _ _ (unfilled s place) (stores first count place left word s g stands.here f found.knows.owns.owned.once);
     none_added = λ f found admits. refl;
     goes = λ f found admits go. stores_on place left word s g stands f (nat_lt (word + 1) (q_of s.geometry)) refl;
     ends = λ f out found admits done. cc;

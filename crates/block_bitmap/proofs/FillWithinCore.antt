@@ -1,4 +1,4 @@
--- Filling owned blocks within a core, from every start; and what a fill leaves has one possible value in each word.
+-- The law of filling owned blocks within a core; and what a fill leaves has one possible value in each word.
 use Rattle.std.proofs.Common.{◌≡◌, ◌<◌, ℕ, true, List, length, refl, ap, ◌∙◌, subst, arith}
 use Rattle.pmem_words.specs.Owned.{owned_at}
 use Rattle.pmem_words.specs.Seats.{Seat, q_of}
@@ -6,21 +6,21 @@ use Rattle.persistence.specs.Memory.{Cell, Replaced, PendingMark, cell}
 use Rattle.log_core.specs.Views.{View, Ghost}
 use Rattle.log_core.specs.Owned.{OwnedHold}
 use Rattle.log_core.specs.Certain.{IsCertain}
-use Rattle.log_core.specs.Within.{no_record, IsLeft}
-use Rattle.log_core.proofs.machines.Serving.{leads_within, reached_keeps}
-use Rattle.log_core.proofs.machines.OverPlain.{over_plain}
+use Rattle.log_core.proofs.machines.MachineLaws.{Law, promised}
+use Rattle.log_core.proofs.machines.Serving.{reached_keeps}
 use Rattle.log_core.proofs.starts.StartMeets.{start_meets}
 use Rattle.block_bitmap.specs.OwnedWords.{image_word, content_at}
 use Rattle.block_bitmap.specs.Filling.{fill_of, fill_script, fill_lowers}
 use Rattle.block_bitmap.specs.Filled.{filled_seat}
-use Rattle.block_bitmap.specs.FillWithin.{MayFill, StoreStands, FillStands, IsFilled, FillsWithin, FillsAlone, FilledAreCertain}
+use Rattle.block_bitmap.specs.FillWithin.{MayFill, IsFilled, FillsWithin, FilledAreCertain}
+use Rattle.block_bitmap.proofs.FillStanding.{StoreStands, FillStands}
 use Rattle.block_bitmap.proofs.BlockWords.{q_range}
 use Rattle.block_bitmap.proofs.FilledSeats.{fenced_many, filled_geometry, same_word, same_content}
 use Rattle.block_bitmap.proofs.FillServes.{fill_serves}
 
 -- a fill that has not begun has stored nothing
-begins : (first count : ℕ) (s : Seat) (g : Ghost) → MayFill first count s g → StoreStands first count s first count 0 s g
-begins first count s g may = record {
+pub fill_begins : (first count : ℕ) (s : Seat) (g : Ghost) → MayFill first count s g → StoreStands first count s first count 0 s g
+fill_begins first count s g may = record {
   here = record {
     some = may.some;
     owned = may.owned;
@@ -34,15 +34,18 @@ begins first count s g may = record {
   stored = λ k none. absurd (omega (arith, none));
 }
 
-pub fills_within : FillsWithin
-fills_within o start seat number first count rest s v linked =
-    leads_within o (start_meets o start) seat number fill_script no_record (FillStands first count s) (IsFilled first count s) (fill_serves o seat first count s) fill_lowers rest (fill_of first count) s v
-    (record { unspent = linked.unspent; begins = linked.begins; offered = linked.offered; number_is = linked.number_is; done = linked.done; fits = begins first count s _ linked.fits })
+abbrev pub fill_law : (first count : ℕ) → Law fill_script (fill_of first count)
+fill_law first count = record {
+  may = λ o seat s g. MayFill first count s g;
+  stands = λ o seat s0 g0 m s g. FillStands first count s0 m s g;
+  left = λ o seat s0 g0 out s g. IsFilled first count s0 out s g;
+  begins = λ o seat s g may. fill_begins first count s g may;
+  serves = λ o seat s0 g0 may. fill_serves o seat first count s0;
+  lowers = fill_lowers;
+}
 
-pub fills_alone : FillsAlone
-fills_alone o start seat number first count rest s v linked c p reached here at agrees =
-    over_plain o (start_meets o start) seat number fill_script no_record (IsLeft rest no_record (IsFilled first count s)) (fill_of first count) s v c p
-    (fills_within o start seat number first count rest s v linked) reached here at agrees
+pub fills_within : FillsWithin
+fills_within first count = promised fill_script (fill_of first count) (fill_law first count)
 
 -- in a fenced block no other value than its content is possible
 filled_certain : (cells : ℕ → Cell) (past : List Replaced) (pending : List PendingMark) (seat first count : ℕ) (start : Seat) (g : Ghost) → OwnedHold cells past pending seat g (filled_seat start first count) → (place word : ℕ)

@@ -7,7 +7,7 @@ use Rattle.pmem_words.specs.declared.owned.OwnedBlock.{OwnedBlock}
 use Rattle.pmem_words.specs.Seats.{Seat, q_of}
 use Rattle.block_bitmap.specs.OwnedWords.{owned_block_at, image_word, content_at, unfilled}
 use Rattle.block_bitmap.specs.Filled.{filled_anew, filled_from, filled_seat}
-use Rattle.block_bitmap.specs.FillWithin.{stored_to}
+use Rattle.block_bitmap.proofs.FillStanding.{stored_to}
 use Rattle.block_bitmap.proofs.OwnedFlags.{none, unfilled_many, anew_each, anew_many, still_unfilled}
 
 -- one block more at the end

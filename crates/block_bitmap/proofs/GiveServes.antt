@@ -1,5 +1,5 @@
 -- Giving owned blocks back is lawful within a core.
-use Rattle.std.proofs.Common.{◌≡◌, ◌≢◌, ◌<◌, ◌≤◌, ◌+◌, ◌*◌, ◌/◌, ◌⊎◌, inl, inr, ◌==◌, ◌||◌, not, ℕ, Bool, true, false, List, [], ◌∷◌, length, refl, sym, ap, ◌∙◌, subst, arith}
+use Rattle.std.proofs.Common.{◌≡◌, ◌≢◌, ◌<◌, ◌≤◌, ◌+◌, ◌*◌, ◌/◌, ◌⊎◌, inl, inr, ◌==◌, ◌||◌, not, ℕ, Bool, true, false, List, [], ◌∷◌, length, refl, sym, ap, ◌∙◌, arith}
 use Rattle.std.specs.List.{AllByRecursion, list_all, range_with_len}
 use Rattle.std.proofs.lemmas.Bool.{eqb-true, eqb-false, eq-eqb, and_parts, and_from, or_left, or_right}
 use Rattle.std.proofs.lemmas.List.{nil_from_length}
@@ -17,16 +17,17 @@ use Rattle.log_core.specs.Steps.{ClearsBits, effect, ghost_after, is_of_owned, g
 use Rattle.log_core.specs.May.{OfOwned}
 use Rattle.log_core.specs.Invariant.{Invariant}
 use Rattle.log_core.specs.Knows.{Knows}
-use Rattle.log_core.specs.Within.{no_record, adds_at, EntersOffered, Serves}
+use Rattle.log_core.specs.Within.{no_record, Serves}
+use Rattle.log_core.proofs.machines.Entering.{none_at, enters_turn}
 use Rattle.block_bitmap.specs.declared.give.Give.{Give}
 use Rattle.block_bitmap.specs.BitsIn.{has_block, among_in, least_is}
 use Rattle.block_bitmap.specs.Giving.{next_word, next_bits, given_seat, given_count, give_turn, give_script}
 use Rattle.block_bitmap.specs.GiveLowering.{left_few}
-use Rattle.block_bitmap.specs.Given.{AreInside}
-use Rattle.block_bitmap.specs.GiveWithin.{GiveStands, IsGiven}
+use Rattle.block_bitmap.specs.Given.{AreInside, emptied}
+use Rattle.block_bitmap.specs.GiveWithin.{IsGiven}
 use Rattle.block_bitmap.proofs.OwnedInCore.{low_block, few_owned}
 use Rattle.block_bitmap.proofs.GivenLemmas.{small_from, word_inside}
-use Rattle.block_bitmap.proofs.GiveOverPlain.{step_emptied, step_ended}
+use Rattle.block_bitmap.proofs.GiveSteps.{step_emptied, step_ended}
 
 -- the bits given are of owned blocks
 has_numbers : (owned : List OwnedBlock) (block : ℕ) → has_block block owned ≡ is_listed (owned_numbers owned) block
@@ -56,6 +57,14 @@ each_block P (o ∷ owned) each = (
   each_block P owned (λ b h. each b (or_right (o.block == b) (is_listed (owned_numbers owned) b) h)),
 )
 
+-- where a giving stands: the blocks given so far and those that are left are those that the seat owned, no more than an image has; and
+-- the seat without the ones left is as it will be without all
+pub record GiveStands (start : Seat) (m : Give) (s : Seat) (g : Ghost) : Type 0 where
+  pub some : 0 < length s.blocks.owned
+  pub count : m.given + length s.blocks.owned ≡ length start.blocks.owned
+  pub few : (m.given ≡ 0) ⊎ (length start.blocks.owned ≤ 65535)
+  pub rest : emptied s ≡ emptied start
+
 module _ (o : Origin) (seat : ℕ) (start : Seat) where
   -- the seat's bits have the words of its blocks
   are_inside : (c : Core) (s : Seat) (g : Ghost) (pin began : ℕ) → Invariant o c → (view_of c.views seat).parts ≢ [] → Knows o c seat s g pin began → AreInside (length s.blocks.found) s.blocks.owned
@@ -63,10 +72,6 @@ module _ (o : Origin) (seat : ℕ) (start : Seat) where
 
   effect_is : (s : Seat) (g : Ghost) (f : ℕ) → effect g.marks s (ClearsBits (next_word s) (next_bits s)) f ≡ given_seat s
   effect_is s g f = ap (λ (b : Bool). not_found (give_if b s (next_word s) (next_bits s)) (next_word s) (next_bits s)) (given_owned s)
-
-  none_at : (b : Bool) (t : Seat) (count : ℕ) → adds_at no_record t (give_turn b count) ≡ []
-  none_at true t count = refl
-  none_at false t count = refl
 
   module _ (m : Give) (s : Seat) (g : Ghost) (stands : GiveStands start m s g) where
     abbrev turn : Turn ℕ
@@ -99,12 +104,6 @@ module _ (o : Origin) (seat : ℕ) (start : Seat) where
     })
     ends_so false is h out done = cc
 
-    entered : (f : ℕ) → EntersOffered (next f) (effect g.marks s (ClearsBits (next_word s) (next_bits s)) f) (given_seat s) (adds_at no_record (given_seat s) turn)
-    entered f = subst (λ adds. EntersOffered (next f) (effect g.marks s (ClearsBits (next_word s) (next_bits s)) f) (given_seat s) adds) (sym (none_at (length (given_seat s).blocks.owned == 0) (given_seat s) (given_count m s))) (record {
-      enters = record { last = effect g.marks s (ClearsBits (next_word s) (next_bits s)) f; computed = record { works = []; may = tt; gives = refl }; going_on = refl; adds_are = tt; seat_is = sym (effect_is s g f) };
-      offered = refl;
-    })
-
   pub give_serves : Serves o seat give_script no_record (GiveStands start) (IsGiven start)
   give_serves m s g stands = record {
     may = λ c pin began inv unspent knows. record {
@@ -118,8 +117,8 @@ module _ (o : Origin) (seat : ℕ) (start : Seat) where
       inside = word_inside (length s.blocks.found) (next_word s) s.blocks.owned (are_inside c s g pin began inv unspent knows) (least_is s.blocks.owned stands.some);
       few = (let all = stands.count in let low = few_all m s g stands (few_owned o seat c s g pin began inv knows) stands.few in omega (arith, all, low));
     };
-    enters = λ f found admits. entered m s g stands f;
-    none_added = λ f found admits. none_at (length (given_seat s).blocks.owned == 0) (given_seat s) (given_count m s);
+    enters = λ f found admits. enters_turn (next m s g stands f) (effect g.marks s (ClearsBits (next_word s) (next_bits s)) f) (given_seat s) (turn m s g stands) (effect_is s g f);
+    none_added = λ f found admits. none_at (given_seat s) (turn m s g stands);
     goes = λ f found admits go. goes_on m s g stands (length (given_seat s).blocks.owned == 0) refl (next m s g stands f) (few_owned o seat found.core s g found.pin found.began found.holds found.knows) go;
     ends = λ f out found admits done. ends_so m s g stands (length (given_seat s).blocks.owned == 0) refl (next m s g stands f) out done;
   }

@@ -43,7 +43,7 @@ same_bits word other bits (o ∷ owned) apart = by (o.block / 64 == word) refl (
     by true is rest = rest bits ∙ ap (λ (n : ℕ). bits_from other n owned) (sym (cond-false (o.block / 64 == other) _ bits (apart_from word other apart (o.block / 64) is)))
     by false is rest = rest (with_bit other o.block bits)
 
-pub length_cleared : (word : ℕ) (owned : List OwnedBlock) (words : List ℕ) → length (cleared_from word owned words) ≡ length words
+length_cleared : (word : ℕ) (owned : List OwnedBlock) (words : List ℕ) → length (cleared_from word owned words) ≡ length words
 length_cleared word owned [] = refl
 length_cleared word owned (found ∷ words) = ap suc (length_cleared (word + 1) owned words)
 
@@ -52,7 +52,7 @@ cleared_at word owned [] k inside = absurd (omega (arith, inside))
 cleared_at word owned (found ∷ words) zero inside = ap (λ (n : ℕ). word_without n owned found) (let same : word ≡ word + 0 = omega arith in same)
 cleared_at word owned (found ∷ words) (suc k) inside = cleared_at (word + 1) owned words k (omega (arith, inside)) ∙ ap (λ (n : ℕ). word_without n owned (slice_index words k)) (let same : word + 1 + k ≡ word + suc k = omega arith in same)
 
-pub cleared_first : (owned : List OwnedBlock) (words : List ℕ) (k : ℕ) → k < length words → slice_index (bitmap_without owned words) k ≡ word_without k owned (slice_index words k)
+cleared_first : (owned : List OwnedBlock) (words : List ℕ) (k : ℕ) → k < length words → slice_index (bitmap_without owned words) k ≡ word_without k owned (slice_index words k)
 cleared_first owned words k inside = cleared_at 0 owned words k inside ∙ ap (λ (n : ℕ). word_without n owned (slice_index words k)) (let same : 0 + k ≡ k = omega arith in same)
 
 -- with no blocks, the words stay
@@ -96,15 +96,7 @@ none_left q f (o ∷ owned) words none = by (f o.block) none (λ e. none_left q 
     by true e rest = rest e
     by false e rest = cc
 
--- the blocks of some words are
-pub inside_others : (words word : ℕ) (owned : List OwnedBlock) → AreInside words owned → AreInside words (others_of word owned)
-inside_others words word [] inside = inside
-inside_others words word (o ∷ owned) inside = by (o.block / 64 == word) (inside_others words word owned inside.1)
-  where
-    by : (here : Bool) → AreInside words (others_of word owned) → AreInside words (if not here then o ∷ others_of word owned else others_of word owned)
-    by true rest = rest
-    by false rest = (inside.0, rest)
-
+-- a word in which one of the blocks is, is one of those that have their bits
 pub word_inside : (words word : ℕ) (owned : List OwnedBlock) → AreInside words owned → is_in word owned ≡ true → word < words
 word_inside words word [] inside some = cc
 word_inside words word (o ∷ owned) inside some = by (o.block / 64 == word) refl some (λ e. word_inside words word owned inside.1 e)

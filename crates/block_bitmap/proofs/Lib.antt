@@ -11,17 +11,18 @@ pub mod TakeOneWord
 pub mod TakeOverPlain
 pub mod TakeGrowth
 pub mod TakeEffects
+pub mod TakeStanding
 pub mod TakeSettles
 pub mod TakeServes
 pub mod TakeWithinCore
-pub mod TakeSafe
 pub mod BlockWords
 pub mod OwnedFlags
 pub mod FillOverPlain
 pub mod FillSteps
 pub mod GivenLemmas
-pub mod GiveOverPlain
+pub mod GiveSteps
 pub mod FillOwned
+pub mod FillStanding
 pub mod FilledSeats
 pub mod FillPlaces
 pub mod FillStores
@@ -32,5 +33,3 @@ pub mod FewBlocks
 pub mod GiveServes
 pub mod OwnedInCore
 pub mod GiveWithinCore
-pub mod FilledWords
-pub mod GivenBitsClear

@@ -7,13 +7,11 @@ use Rattle.std.proofs.lemmas.Bool.{eqb-true, eqb-false, and_from}
 use Rattle.std.proofs.lemmas.List.{length-append, length-map, length-take, get_or-set_same, get_or-set_other}
 use Rattle.std.proofs.lemmas.Nat.Bits.{bit_at_or}
 use Rattle.log_entry.specs.declared.shapes.Area.{Area}
-use Rattle.log_entry.specs.declared.calls.Call.{Call}
 use Rattle.log_entry.specs.Geometry.{first_of}
 use Rattle.log_image.specs.Chains.{all_different, is_listed}
 use Rattle.log_image.specs.Taken.{bit_of}
 use Rattle.pmem_words.specs.Owned.{is_among}
 use Rattle.pmem_words.specs.Seats.{Seat, bitmap_words}
-use Rattle.pmem_words.specs.declared.machine.Turn.{Turn}
 use Rattle.pmem_words.specs.declared.machine.Turn.TheVariants.{Go, Done}
 use Rattle.asks.specs.declared.ask.Place.TheVariants.{Map}
 use Rattle.asks.specs.declared.ask.Ask.TheVariants.{SetBits}
@@ -24,33 +22,23 @@ use Rattle.log_core.specs.Needs.{owned_numbers, is_pass_found}
 use Rattle.log_core.specs.Steps.{LoadsBitmapWord, SetsBits, effect, ghost_after}
 use Rattle.log_core.specs.May.{MaySetBits}
 use Rattle.log_core.specs.Answers.{HasLacked}
-use Rattle.log_core.specs.Within.{no_record, adds_at, EntersOffered, IsFound, Lawful, Serves}
+use Rattle.log_core.specs.Within.{no_record, IsFound, Lawful, Serves}
 use Rattle.log_core.specs.Knows.{Knows}
 use Rattle.log_core.proofs.BlockLists.{has_filter, among_range}
 use Rattle.log_core.proofs.kinds.SetsBits.{sets_facts}
+use Rattle.log_core.proofs.machines.Entering.{none_at, enters_turn}
 use Rattle.block_bitmap.specs.declared.take.Take.{Take}
 use Rattle.block_bitmap.specs.declared.take.Taken.{Taken}
 use Rattle.block_bitmap.specs.declared.take.Taken.TheVariants.{Taken as HasTaken, NoSpace}
 use Rattle.block_bitmap.specs.TakeBits.{bits_of}
-use Rattle.block_bitmap.specs.TakeScript.{word_of, last_word, MayTake, open_at, wanted_at, gained_at, with_found, seat_set, known_set, less, settled, settled_by, ended_or, take_script}
-use Rattle.block_bitmap.specs.TakeWithin.{TakeStands, HasEnded}
+use Rattle.block_bitmap.specs.TakeScript.{last_word, open_at, wanted_at, gained_at, with_found, seat_set, known_set, less, settled, ended_or, take_script}
+use Rattle.block_bitmap.specs.TakeWithin.{HasEnded}
+use Rattle.block_bitmap.proofs.TakeStanding.{TakeStands}
 use Rattle.block_bitmap.proofs.TakeSteps.{few_gained, settled_seat}
 use Rattle.block_bitmap.proofs.TakeOneWord.{last_inside}
 use Rattle.block_bitmap.proofs.TakeGrowth.{grows_on, grows_found, lacking_falls, lacking_found}
 use Rattle.block_bitmap.proofs.TakeEffects.{wanted_in_area, gained_in_area, wanted_among, effect_is}
 use Rattle.block_bitmap.proofs.TakeSettles.{has_lacked, settles, settles_so}
-
--- a part of a call adds no record
-none_at : {Out : Type 0} → (s : Seat) (turn : Turn Out) → adds_at no_record s turn ≡ []
-none_at s Go = refl
-none_at s (Done out) = refl
-
--- what enters where the step makes the state that the machine does
-entered : (g : Ghost) (e t : Seat) (turn : Turn Taken) → e ≡ t → EntersOffered g e t (adds_at no_record t turn)
-entered g e t turn same = subst (λ (adds : List Call). EntersOffered g e t adds) (sym (none_at t turn)) (record {
-  enters = record { last = e; computed = record { works = []; may = tt; gives = refl }; going_on = refl; adds_are = tt; seat_is = sym same };
-  offered = refl;
-})
 
 -- a bit that was found stays found
 stays : (found : List ℕ) (word bits block : ℕ) → block / 64 < word → bit_of (slice_set found word bits) block ≡ bit_of found block
@@ -95,7 +83,7 @@ module _ (o : Origin) (seat : ℕ) (area : Area) (total_count : ℕ) (first : Se
     may = λ c pin began inv unspent knows. record { inside = inside_by stands.to c pin began unspent knows; area = area; lacks = (let some = stands.may.some in let lacks = stands.may.lacks in omega (arith, some, lacks)) };
     offered = tt;
     admitted = λ c pin began inv unspent knows. record { to = stands.to; inside = inside_by stands.to c pin began unspent knows; room = stands.may.room };
-    enters = λ f found admits. entered (ghost_after g s (with_found word f s) (LoadsBitmapWord word) f) (with_found word f s) (settled (at None) (with_found word f s) f).seat (settled (at None) (with_found word f s) f).turn (sym (settled_seat (at None) (with_found word f s) f));
+    enters = λ f found admits. enters_turn (ghost_after g s (with_found word f s) (LoadsBitmapWord word) f) (with_found word f s) (settled (at None) (with_found word f s) f).seat (settled (at None) (with_found word f s) f).turn (sym (settled_seat (at None) (with_found word f s) f));
     none_added = λ f found admits. none_at (settled (at None) (with_found word f s) f).seat (settled (at None) (with_found word f s) f).turn;
     goes = λ f found admits go. settles area total_count first count passed (with_found word f s) f g (after_load stands f admits.inside) (load_known stands f admits.inside) (open_at (at None) (with_found word f s) f) refl None (ghost_after g s (with_found word f s) (LoadsBitmapWord word) f) go;
     ends = λ f out found admits done. settles_so area total_count first count passed (with_found word f s) f g (after_load stands f admits.inside) (load_known stands f admits.inside) (open_at (at None) (with_found word f s) f) refl None (ghost_after g s (with_found word f s) (LoadsBitmapWord word) f) out
@@ -190,7 +178,7 @@ module _ (o : Origin) (seat : ℕ) (area : Area) (total_count : ℕ) (first : Se
       may = λ c pin began inv unspent knows. set_may (inside_by stands.to c pin began unspent knows);
       offered = tt;
       admitted = λ c pin began inv unspent knows. record { to = stands.to; inside = inside_by stands.to c pin began unspent knows; room = stands.may.room };
-      enters = λ f found admits. entered (ghost_after g s (effect g.marks s (SetsBits word bits) f) (SetsBits word bits) f) (effect g.marks s (SetsBits word bits) f) (take_script.after (at (Some known)) s f).seat (take_script.after (at (Some known)) s f).turn
+      enters = λ f found admits. enters_turn (ghost_after g s (effect g.marks s (SetsBits word bits) f) (SetsBits word bits) f) (effect g.marks s (SetsBits word bits) f) (take_script.after (at (Some known)) s f).seat (take_script.after (at (Some known)) s f).turn
           (effect_is (at (Some known)) s known g.marks f ∙ sym (ended_seat (count - length (gained f admits.inside) == 0) (left f admits.inside (Some known)) (set f admits.inside) (known_set (at (Some known)) s known f)));
       none_added = λ f found admits. none_at (take_script.after (at (Some known)) s f).seat (take_script.after (at (Some known)) s f).turn;
       goes = λ f found admits go. goes_by f admits.inside (count - length (gained f admits.inside) == 0) refl (ghost_after g s (effect g.marks s (SetsBits word bits) f) (SetsBits word bits) f) go;

@@ -24,7 +24,8 @@ use Rattle.block_bitmap.specs.declared.take.Taken.{Taken}
 use Rattle.block_bitmap.specs.declared.take.Taken.TheVariants.{Taken as HasTaken, NoSpace}
 use Rattle.block_bitmap.specs.TakeBits.{blocks_of_word, area_in}
 use Rattle.block_bitmap.specs.TakeScript.{last_word, open_at, moved_on, settled_by}
-use Rattle.block_bitmap.specs.TakeWithin.{TakeStands, HasEnded}
+use Rattle.block_bitmap.specs.TakeWithin.{HasEnded}
+use Rattle.block_bitmap.proofs.TakeStanding.{TakeStands}
 use Rattle.block_bitmap.proofs.TakeWords.{area_from}
 
 -- a test that holds of each number of a range

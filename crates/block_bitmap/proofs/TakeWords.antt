@@ -23,9 +23,6 @@ within_total g Data = omega arith
 within_total g Log = omega arith
 within_total g Spare = omega arith
 
-pub low_end : (g : Geometry) (area : Area) → first_of g area + count_of g area ≤ 65535
-low_end g area = (let inside = within_total g area in let few = g.few_blocks in omega (arith, inside, few))
-
 -- it has a block
 pub some_in : (g : Geometry) (area : Area) → 0 < count_of g area
 some_in g Data = g.some_data

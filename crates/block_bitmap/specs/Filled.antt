@@ -1,5 +1,5 @@
 -- What a fill that ran alone leaves.
-use Rattle.std.specs.Prelude.{ℕ, zero, suc, ◌+◌, ◌*◌, ◌/◌, ◌<◌, ◌≤◌, ◌≡◌, ◌≢◌, List, length, slice_index, slice_set}
+use Rattle.std.specs.Prelude.{ℕ, zero, suc, ◌+◌, ◌*◌, ◌<◌, ◌≤◌, List, length, slice_set}
 use Rattle.pmem_words.specs.Seats.{Seat, q_of}
 use Rattle.block_bitmap.specs.OwnedWords.{owned_block_at, image_word, content_at, unfilled, with_filled_block, all_fenced}
 
@@ -29,15 +29,3 @@ filled_seat s place n = all_fenced (filled_from s place n)
 -- the image has all words of n blocks from a place of the list on
 abbrev pub HasWordsOf : Seat → ℕ → ℕ → List ℕ → Type 0
 HasWordsOf s place n words = (k : ℕ) → place ≤ k → k < place + n → owned_block_at s k * q_of s.geometry + q_of s.geometry ≤ length words
-
--- no two of n places from one on have one block
-abbrev pub NamesEachOnce : Seat → ℕ → ℕ → Type 0
-NamesEachOnce s place n = (a b : ℕ) → place ≤ a → a < b → b < place + n → owned_block_at s a ≢ owned_block_at s b
-
--- each word of n blocks from a place of the list on is its content
-abbrev pub HoldsBlocks : Seat → ℕ → ℕ → List ℕ → Type 0
-HoldsBlocks s place n words = (k word : ℕ) → place ≤ k → k < place + n → word < q_of s.geometry → slice_index words (image_word s k word) ≡ content_at s k word
-
--- the words of all other blocks are as before
-abbrev pub KeepsOthers : Seat → ℕ → ℕ → List ℕ → List ℕ → Type 0
-KeepsOthers s place n before after = (at : ℕ) → ((k : ℕ) → place ≤ k → k < place + n → at / q_of s.geometry ≢ owned_block_at s k) → slice_index after at ≡ slice_index before at

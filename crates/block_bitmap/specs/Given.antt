@@ -1,12 +1,11 @@
--- What a giving that ran alone leaves.
-use Rattle.std.specs.Prelude.{ℕ, ◌+◌, ◌/◌, ◌<◌, ◌≡◌, List, [], ◌∷◌, length, if◌then◌else◌}
+-- What a giving leaves.
+use Rattle.std.specs.Prelude.{ℕ, ◌+◌, ◌/◌, ◌<◌, List, [], ◌∷◌, if◌then◌else◌}
 use Rattle.std.specs.List.{AllByRecursion}
-use Rattle.log_image.specs.Taken.{bit_of}
 use Rattle.pmem_words.specs.declared.owned.OwnedBlock.{OwnedBlock}
 use Rattle.pmem_words.specs.Seats.{Seat}
 use Rattle.asks.specs.Asks.{without_bits}
 use Rattle.block_bitmap.specs.GivenBits.{bits_in}
-use Rattle.block_bitmap.specs.BitsIn.{is_in, has_block}
+use Rattle.block_bitmap.specs.BitsIn.{is_in}
 
 -- a word of the bitmap without the bits of these blocks; one in which none of them is stays
 abbrev pub word_without : ℕ → List OwnedBlock → ℕ → ℕ
@@ -27,7 +26,3 @@ AreInside words owned = AllByRecursion (λ (o : OwnedBlock). o.block / 64 < word
 -- the seat owns no block, and its bits of blocks found taken are without those that it owned
 abbrev pub emptied : Seat → Seat
 emptied s = record s { blocks = record s.blocks { owned = []; contents = []; found = bitmap_without s.blocks.owned s.blocks.found } }
-
--- the bits of these blocks are clear, and each other bit is as before
-abbrev pub HasClearedBits : List OwnedBlock → List ℕ → List ℕ → Type 0
-HasClearedBits owned before after = (length after ≡ length before) × ((block : ℕ) → block / 64 < length before → bit_of after block ≡ (if has_block block owned then 0 else bit_of before block))

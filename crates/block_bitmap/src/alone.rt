@@ -1,6 +1,6 @@
 //! The machines driven over a plain memory, where no other seat makes a step.
 
-ghost use Rattle.std.specs.Prelude.{◌≡◌, ◌+◌, ◌*◌, ◌<◌, ◌≤◌, ◌^◌, length, take};
+ghost use Rattle.std.specs.Prelude.{◌≡◌, ◌+◌, ◌*◌, ◌<◌, ◌≤◌, length, take};
 ghost use Rattle.log_entry.specs.Shape.{total_of};
 ghost use Rattle.pmem_words.specs.Seats.{q_of, owned_room};
 ghost use Rattle.pmem_words.specs.Courses.{over};
@@ -9,11 +9,9 @@ ghost use Rattle.pmem_words.specs.PlainWords.{plain};
 ghost use Rattle.block_bitmap.specs.TakeScript.{with_taken_blocks};
 ghost use Rattle.block_bitmap.specs.TakeAlone.{free_blocks, outcome, found_as, AreSet, HasPassed};
 ghost use Rattle.block_bitmap.specs.Filling.{fill_of, fill_script};
-ghost use Rattle.block_bitmap.specs.Given.{AreInside, HasClearedBits, bitmap_without, emptied};
-ghost use Rattle.block_bitmap.specs.Filled.{NamesEachOnce, HasWordsOf, HoldsBlocks, KeepsOthers, filled_seat, with_blocks};
+ghost use Rattle.block_bitmap.specs.Filled.{HasWordsOf, filled_seat, with_blocks};
 
 use crate::fill::Fill;
-use crate::give::{Give, GiveFrom};
 use crate::take::{Take, Taken};
 use log_entry::Area;
 use pmem_words::{Plain, SeatState, drive};
@@ -43,25 +41,7 @@ pub fn fill_alone(seat: &mut SeatState, memory: &mut Plain, first: u16, count: u
     requires inside { HasWordsOf seat.old first count memory.old.words }
     ensures seat { seat.new ≡ filled_seat seat.old first count }
     ensures memory { memory.new ≡ record memory.old { words = with_blocks seat.old first count memory.old.words } }
-    ensures words { NamesEachOnce seat.old first count → HoldsBlocks seat.old first count memory.new.words }
-    ensures others { KeepsOthers seat.old first count memory.old.words memory.new.words }
     ensures steps { EndsIn (2 * q_of seat.old.geometry * count + 1) fill_script (over fill_script plain) (fill_of first count) seat.old memory.old result seat.new memory.new }
 {
     drive(Fill::new(first, count), seat, memory)
-}
-
-/// Gives all blocks that the seat owns back, at least one: the bits of all are cleared. Answers how many they are. The seat's
-/// bits and the bitmap have the bit of each.
-pub fn give_alone(seat: &mut SeatState, memory: &mut Plain, from: GiveFrom) -> u32
-    requires some { 0 < length seat.old.blocks.owned }
-    requires few { length seat.old.blocks.owned < 2 ^ 32 }
-    requires found { AreInside (length seat.old.blocks.found) seat.old.blocks.owned }
-    requires taken { AreInside (length memory.old.taken) seat.old.blocks.owned }
-    ensures count { result ≡ length seat.old.blocks.owned }
-    ensures seat { seat.new ≡ emptied seat.old }
-    ensures memory { memory.new ≡ record memory.old { taken = bitmap_without seat.old.blocks.owned memory.old.taken } }
-    ensures bits { HasClearedBits seat.old.blocks.owned memory.old.taken memory.new.taken }
-    ensures found { HasClearedBits seat.old.blocks.owned seat.old.blocks.found seat.new.blocks.found }
-{
-    drive(Give::new(from), seat, memory)
 }

@@ -1,32 +1,7 @@
 use super::*;
 use log_entry::{Area, Geometry};
-use pmem_words::{Ask, Machine, Place, Plain, SeatState, Turn};
+use pmem_words::{Ask, Machine, Place, SeatState, Turn};
 use std::test::Fail;
-
-#[test]
-fn a_giving_clears_the_bits_of_all_owned_blocks(rt: HostRuntime) -> Result<(), Fail> {
-    let Ok(geometry) = Geometry::new(40, 4, 64) else {
-        return Ok(());
-    };
-    let mut seat = SeatState::new(rt.alloc(), geometry, 0, 1, 0)?;
-    seat.own(1, Area::Data);
-    seat.own(5, Area::Data);
-    if seat.found().len() == 0 {
-        return Ok(());
-    }
-    seat.add_found(0, 35);
-    let mut plain = Plain::new(
-        rt.alloc(),
-        Vec::new(rt.alloc()),
-        vec![in rt.alloc(); 47, 7]?,
-    )?;
-    assert_eq!(rt; give_alone(&mut seat, &mut plain, GiveFrom::Owned), 2);
-    assert_eq!(rt; seat.owned().len(), 0);
-    assert_eq!(rt; seat.found().first(), Some(&1));
-    let (_, taken) = plain.into_parts();
-    assert_eq!(rt; taken.as_slice(), [13, 7].as_slice());
-    Ok(())
-}
 
 #[test]
 fn a_giving_asks_once_for_each_word_of_the_bitmap(rt: HostRuntime) -> Result<(), Fail> {

@@ -1,6 +1,6 @@
-use crate::{Take, Taken, take_alone};
+use crate::{Taken, take_alone};
 use log_entry::{Area, Geometry};
-use pmem_words::{Ask, Memory, OwnedBlock, Place, Plain, SeatState, drive};
+use pmem_words::{OwnedBlock, Plain, SeatState};
 use std::test::Fail;
 
 /// A seat that has taken data blocks alone, on an image of so many data blocks with this bitmap, and how that ended; and the
@@ -78,60 +78,5 @@ fn no_space_after_two_words(rt: HostRuntime) -> Result<(), Fail> {
     let found = [u64::MAX, 0x001f_ffff_ffff, 0];
     assert_eq!(rt; alone.seat.found(), found.as_slice());
     assert_eq!(rt; alone.taken.as_slice(), found.as_slice());
-    Ok(())
-}
-
-/// One word of a bitmap, of which another seat sets these bits between a load and the first setting of bits.
-#[derive(Drop)]
-struct Raced {
-    word: u64,
-    other: u64,
-}
-
-impl Memory for Raced {
-    ghost store = { record { takes = λ w ask. Unit {0}; step = λ w ask a v. Unit {0} } };
-
-    fn perform(&mut self, ask: Ask) -> u64 {
-        match ask {
-            Ask::SetBits(_, bits) => {
-                let found = self.word | self.other;
-                self.other = 0;
-                self.word = found | bits;
-                found
-            }
-            _ => self.word,
-        }
-    }
-}
-
-fn take_in_race(
-    rt: &HostRuntime,
-    memory: &mut Raced,
-    count: u16,
-) -> Result<Option<(Taken, SeatState)>, Fail> {
-    let Ok(geometry) = Geometry::new(2, 4, 64) else {
-        return Ok(None);
-    };
-    if count > 4 {
-        return Ok(None);
-    }
-    let mut seat = SeatState::new(rt.alloc(), geometry, 0, 1, 0)?;
-    let _words = seat.found().len();
-    let ended = drive(Take::new(Area::Data, count), &mut seat, memory);
-    Ok(Some((ended, seat)))
-}
-
-#[test]
-fn a_lost_race_does_not_pass_over_the_word(rt: HostRuntime) -> Result<(), Fail> {
-    let mut raced = Raced {
-        word: 0b1,
-        other: 0b10,
-    };
-    let Some((ended, seat)) = take_in_race(&rt, &mut raced, 1)? else {
-        return Ok(());
-    };
-    assert_eq!(rt; ended, Taken::Taken);
-    assert_eq!(rt; seat.owned(), [data_block(2)].as_slice());
-    assert_eq!(rt; raced.word, 0b111);
     Ok(())
 }

@@ -19,8 +19,8 @@ use Rattle.log_core.specs.Cores.{Core}
 use Rattle.log_core.specs.Steps.{Does, kind_of_ask, view_after, ghost_begun}
 use Rattle.log_core.specs.After.{after}
 use Rattle.log_core.specs.Runs.{Allowed}
-use Rattle.log_core.specs.Within.{no_record, note_of, Did, IsReadyIn, within, IsLinkedToView, IsLeft}
-use Rattle.log_core.specs.Starts.{IsStart}
+use Rattle.log_core.specs.Within.{no_record, note_of, Did, IsReadyIn, within, IsLeft}
+use Rattle.log_core.specs.Promising.{StartCondition, EndCondition, Promises}
 use Rattle.log_core.proofs.clauses.OneView.{same_or_other}
 use Rattle.crash_model.specs.Worlds.{WorldNow, StandsForCore, FitsCore, HasFitting, seat_of, world_after, answer_in, told_in, turned}
 use Rattle.crash_model.specs.Led.{IsComputed, IsAtRest, LeadsIn, IsLed, EndsInWorld, HasEndedInWorld, RestsIn, IsResting, HasLeft, IsTurnOf}
@@ -145,31 +145,30 @@ rests_ended seat Q out w leaves ended = ∥∥₁_map ended (λ e. (
   },
 ))
 
--- a machine that the core promises begins at a seat of a world at rest
-pub begins_led : {M Out : Type 0} (seat : ℕ) (script : Script M Out) (m : M) (P : Origin → Seat → Ghost → Type 0) (R : Origin → Out → Seat → Ghost → Type 0) (Q : Out → Seat → View → Type 0) (w : WorldNow) →
-    ((o : Origin) → IsStart o → (number : ℕ) (rest : List Call) (v : View) → IsLinkedToView number rest (P o) (seat_of w seat) v → Leads script (within o seat number script no_record) (IsLeft rest no_record (R o)) m (seat_of w seat) v) →
-    ((o : Origin) (c : Core) (g : Ghost) → IsKnown w o c seat g → P o (seat_of w seat) g) →
-    ((o : Origin) (c : Core) → StandsForCore w o c → (rest : List Call) (out : Out) (t : Seat) (v : View) → IsLeft rest no_record (R o) out t v → Q out t v) →
-    seat < length w.seats → IsResting w → IsLed seat script no_record Q m w
-begins_led {M} {Out} seat script m P R Q w promise holds weaker inside resting = ∥∥₁_map resting (λ r. (r.0, r.1, begin r.0 r.1 r.2))
+-- a machine that the core promises begins at a seat of a world at rest, and leaves the seat its view's state
+pub begins_led : {M Out : Type 0} (seat : ℕ) (script : Script M Out) (m : M) (P : StartCondition) (R : EndCondition Out) (w : WorldNow) → Promises script P R m →
+    ((o : Origin) (c : Core) (g : Ghost) → IsKnown w o c seat g → P o seat (seat_of w seat) g) → seat < length w.seats → IsResting w → IsLed seat script no_record (λ out t v. HasLeft out t v) m w
+begins_led {M} {Out} seat script m P R w promises holds inside resting = ∥∥₁_map resting (λ r. (r.0, r.1, begin r.0 r.1 r.2))
   where
-    begin : (o : Origin) (c : Core) → RestsIn w o c → LeadsIn seat script no_record Q m w o c
+    begin : (o : Origin) (c : Core) → RestsIn w o c → LeadsIn seat script no_record (λ out t v. HasLeft out t v) m w o c
     begin o c rests =
         (let at = rests.seats seat inside in
         let v = view_of c.views seat in
         let number = number_next v (seat_of w seat) in
+        let g = ghost_begun v.ghost v.seat (seat_of w seat) number in
         record {
           stands = rests.stands;
           made = at.made;
           number = number;
-          leads = leads_weaker script (within o seat number script no_record) (IsLeft v.done no_record (R o)) Q (weaker o c rests.stands v.done)
-              (promise o rests.stands.start number v.done v (record {
+          leads = leads_weaker script (within o seat number script no_record) (IsLeft v.done no_record (R o seat (seat_of w seat) g)) (λ out t u. HasLeft out t u)
+              (λ out t u left. record { unspent = left.unspent; same = sym left.seat })
+              (promises o rests.stands.start seat number v.done (seat_of w seat) v (record {
                 unspent = at.computed.unspent;
                 begins = at.computed.begins;
                 offered = at.computed.offered;
                 number_is = next_may v (seat_of w seat);
                 done = refl;
-                fits = holds o c (ghost_begun v.ghost v.seat (seat_of w seat) number) (known_at_rest w o c seat inside rests);
+                fits = holds o c g (known_at_rest w o c seat inside rests);
               }));
           others = λ other apart low. rests.seats other low;
         })

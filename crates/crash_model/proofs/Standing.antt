@@ -27,7 +27,7 @@ use Rattle.log_core.specs.Invariant.{Invariant}
 use Rattle.log_core.proofs.machines.Serving.{reached_keeps}
 use Rattle.log_core.proofs.starts.StartMeets.{start_meets}
 use Rattle.log_core.proofs.machines.Takes.{takes_asked}
-use Rattle.log_core.proofs.machines.OverPlain.{reached_next}
+use Rattle.log_core.proofs.machines.Agreeing.{reached_next}
 use Rattle.crash_model.specs.Worlds.{WorldNow, StandsForCore, StandsForSome, FitsCore, HasFitting, StandsAfter, seat_of, rises, rise_if, synced_by, kind_in, world_after, new_world}
 
 -- room is no part of what a world stands for

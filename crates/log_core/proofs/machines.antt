@@ -1,5 +1,11 @@
 -- Machines within a core.
 pub mod Serving
 pub mod Takes
+pub mod Entering
 pub mod Parts
-pub mod OverPlain
+pub mod Framing
+pub mod MachineLaws
+pub mod OneStep
+pub mod Agreeing
+pub mod OnCore
+pub mod Silent

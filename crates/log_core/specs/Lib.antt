@@ -29,4 +29,6 @@ pub mod Histories
 pub mod Laws
 pub mod Knows
 pub mod Within
+pub mod Promising
+pub mod Alone
 pub mod worked_rows

@@ -61,6 +61,13 @@ within o seat number script rec = record {
   step = λ m s v f w. Did o seat v (script.asks m s) (note_of script rec number m s) f w;
 }
 
+-- the seat's state after the step that an ask is, by the answer, and what contracts alone see of it then
+abbrev pub seat_found : Origin → ℕ → Ask → Seat → Ghost → ℕ → Seat
+seat_found o seat ask s g f = effect g.marks s (kind_of_ask (q_of_origin o) seat ask) f
+
+abbrev pub ghost_found : Origin → ℕ → Ask → Seat → Ghost → ℕ → Ghost
+ghost_found o seat ask s g f = ghost_after g s (seat_found o seat ask s g f) (kind_of_ask (q_of_origin o) seat ask) f
+
 -- what enters after a step, by computations that are offered
 pub record EntersOffered (g : Ghost) (e t : Seat) (adds : List Call) : Type 0 where
   pub enters : Enters g e t adds
@@ -85,13 +92,12 @@ pub record Lawful {M Out : Type 0} (o : Origin) (seat : ℕ) (script : Script M 
   pub offered : IsOfferedKind s (kind_of_ask (q_of_origin o) seat (script.asks m s))
   pub admitted : (c : Core) (pin began : ℕ) → Invariant o c → (view_of c.views seat).parts ≢ [] → Knows o c seat s g pin began → script.admits m s (found_answer c.memory (script.asks m s))
   pub enters : (f : ℕ) → IsFound o seat s g (script.asks m s) f → script.admits m s f →
-      EntersOffered (ghost_after g s (effect g.marks s (kind_of_ask (q_of_origin o) seat (script.asks m s)) f) (kind_of_ask (q_of_origin o) seat (script.asks m s)) f)
-      (effect g.marks s (kind_of_ask (q_of_origin o) seat (script.asks m s)) f) (script.after m s f).seat (adds_at rec (script.after m s f).seat (script.after m s f).turn)
+      EntersOffered (ghost_found o seat (script.asks m s) s g f) (seat_found o seat (script.asks m s) s g f) (script.after m s f).seat (adds_at rec (script.after m s f).seat (script.after m s f).turn)
   pub none_added : (f : ℕ) → IsFound o seat s g (script.asks m s) f → script.admits m s f → adds_at rec (script.after m s f).seat (script.after m s f).turn ≡ []
   pub goes : (f : ℕ) → IsFound o seat s g (script.asks m s) f → script.admits m s f → (script.after m s f).turn ≡ Go →
-      P (script.after m s f).machine (script.after m s f).seat (ghost_after g s (effect g.marks s (kind_of_ask (q_of_origin o) seat (script.asks m s)) f) (kind_of_ask (q_of_origin o) seat (script.asks m s)) f)
+      P (script.after m s f).machine (script.after m s f).seat (ghost_found o seat (script.asks m s) s g f)
   pub ends : (f : ℕ) (out : Out) → IsFound o seat s g (script.asks m s) f → script.admits m s f → (script.after m s f).turn ≡ Done out →
-      R out (script.after m s f).seat (ghost_after g s (effect g.marks s (kind_of_ask (q_of_origin o) seat (script.asks m s)) f) (kind_of_ask (q_of_origin o) seat (script.asks m s)) f)
+      R out (script.after m s f).seat (ghost_found o seat (script.asks m s) s g f)
 
 -- wherever P holds the machine is lawful
 abbrev pub Serves : {M Out : Type 0} → Origin → ℕ → Script M Out → (Out → Seat → List Call) → (M → Seat → Ghost → Type 0) → (Out → Seat → Ghost → Type 0) → Type 0
@@ -124,12 +130,3 @@ pub record Agrees (p : SharedWords) (memory : Memory) : Type 0 where
   pub taken : p.taken ≡ memory.now.taken
   pub long : length memory.now.pins ≤ length p.pins
   pub pins : (seat : ℕ) → seat < length memory.now.pins → slice_index p.pins seat ≡ slice_index memory.now.pins seat
-
--- where a machine that ran alone on such a memory has ended: it has the words of a core that a run reaches, in which the seat has this
--- view
-pub record EndsAlone {Out : Type 0} (o : Origin) (seat : ℕ) (Q : Out → Seat → View → Type 0) (out : Out) (t : Seat) (p : SharedWords) : Type 0 where
-  pub core : Core
-  pub reached : IsReached o core
-  pub made : seat < length core.views
-  pub agrees : Agrees p core.memory
-  pub ends : Q out t (view_of core.views seat)

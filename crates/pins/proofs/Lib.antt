@@ -1,10 +1,5 @@
 pub mod OneScan
-pub mod PinAnswers
-pub mod PinLemmas
-pub mod PinOverPlain
-pub mod ScanAnswers
 pub mod ScanLemmas
 pub mod ScanOverPlain
-pub mod UnpinOverPlain
 pub mod PinWithin
 pub mod ScanWithin

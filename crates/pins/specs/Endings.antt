@@ -1,11 +1,10 @@
 -- How the machines end.
 use Rattle.std.specs.Prelude.{ℕ, ◌≡◌, ◌+◌, ◌<◌, ◌≤◌, ◌==◌, ◌&&◌, ◌⊎◌, List, [], length, slice_index, true}
 use Rattle.log_entry.specs.declared.calls.Held.{Held}
-use Rattle.log_entry.specs.declared.words.Head.{Head}
 use Rattle.pmem_words.specs.Seats.{Seat}
 use Rattle.pins.specs.declared.scan.Scanned.{Scanned}
 use Rattle.pins.specs.declared.scan.Scanned.TheVariants.{Clear, Held as HeldBy}
-use Rattle.pins.specs.Steps.{generation_in, head_of, with_seen}
+use Rattle.pins.specs.Steps.{generation_in}
 
 -- the seat with a valid pin of the generation of this head word; a map of another generation is not ready, and no word is kept
 abbrev pub pinned : Seat → ℕ → Seat
@@ -13,14 +12,6 @@ pinned s word = record s {
   hold = record { head = word; pin = generation_in word; generation = generation_in word; valid = true };
   walk = record s.walk { ready = s.hold.generation == generation_in word && s.walk.ready; kept = [] };
 }
-
--- the seat has a valid pin of the generation of this head, whose word it found last
-pub record HasPin (word : ℕ) (head : Head) (t : Seat) : Type 0 where
-  pub is : head ≡ head_of word
-  pub found : t.hold.head ≡ word
-  pub pin : t.hold.pin ≡ head.generation
-  pub generation : t.hold.generation ≡ head.generation
-  pub valid : t.hold.valid ≡ true
 
 -- a pin word that needs no block of a generation: it is 0, or greater
 abbrev pub NeedsNone : ℕ → ℕ → Type 0
@@ -52,9 +43,3 @@ loads seats (HeldBy held) = held.seat + 1
 pub record IsFirst (n : ℕ) (words seen : List ℕ) : Type 0 where
   pub count : length seen ≡ n
   pub each : (k : ℕ) → k < n → slice_index seen k ≡ slice_index words k
-
--- a scan of answers: what it found is found in them, they are as many as it loads, and the seat has seen them
-pub record IsHeard (generation : ℕ) (s : Seat) (answers : List ℕ) (out : Scanned) (t : Seat) : Type 0 where
-  pub scan : IsScan generation s.seats answers out
-  pub count : length answers ≡ loads s.seats out
-  pub seat : t ≡ with_seen s answers

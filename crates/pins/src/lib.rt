@@ -2,7 +2,6 @@
 #![tactic(auto)]
 
 mod alone;
-mod driven;
 pub mod laws;
 mod pin;
 mod scan;
@@ -11,8 +10,7 @@ mod steps;
 mod tests;
 mod unpin;
 
-pub use alone::{pin_alone, scan_alone, unpin_alone};
-pub use driven::{pin_over, scan_over};
+pub use alone::scan_alone;
 pub use pin::Pin;
 pub use scan::{Scan, Scanned};
 pub use unpin::Unpin;

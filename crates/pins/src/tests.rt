@@ -4,33 +4,7 @@ use pmem_words::{Ask, Machine, Memory, Place, Plain, SeatState, Turn};
 use std::test::Fail;
 
 #[test]
-fn a_pin_names_the_generation_of_the_head(rt: HostRuntime) -> Result<(), Fail> {
-    let Ok(geometry) = Geometry::new(40, 4, 64) else {
-        return Ok(());
-    };
-    let mut seat = SeatState::new(rt.alloc(), geometry, 1, 2, 0)?;
-    let words = vec![in rt.alloc(); 0, 0, 0, 4_294_967_299]?;
-    let mut plain = Plain::new(rt.alloc(), words, Vec::new(rt.alloc()))?;
-    let first = Head {
-        generation: 1,
-        block: 3,
-    };
-    assert_eq!(rt; pin_alone(&mut seat, &mut plain), first);
-    assert_eq!(rt; seat.head(), 4_294_967_299);
-    assert_eq!(rt; seat.pin(), 1);
-    assert_eq!(rt; seat.generation(), 1);
-    assert_eq!(rt; seat.valid(), true);
-    assert_eq!(rt; plain.perform(Ask::Load(Place::Pin(1))), 1);
-    unpin_alone(&mut seat, &mut plain);
-    assert_eq!(rt; seat.pin(), 0);
-    assert_eq!(rt; seat.generation(), 1);
-    assert_eq!(rt; seat.valid(), false);
-    assert_eq!(rt; plain.perform(Ask::Load(Place::Pin(1))), 0);
-    Ok(())
-}
-
-#[test]
-fn a_pin_asks_three_times(rt: HostRuntime) -> Result<(), Fail> {
+fn a_pin_asks_three_times_and_is_given_up_by_one_store(rt: HostRuntime) -> Result<(), Fail> {
     let Ok(geometry) = Geometry::new(40, 4, 64) else {
         return Ok(());
     };
@@ -53,6 +27,15 @@ fn a_pin_asks_three_times(rt: HostRuntime) -> Result<(), Fail> {
         Turn::Go => assert!(rt; false),
         Turn::Done(head) => assert_eq!(rt; head, first),
     }
+    assert_eq!(rt; seat.head(), 4_294_967_299);
+    assert_eq!(rt; (seat.pin(), seat.generation(), seat.valid()), (1, 1, true));
+    let mut unpin = Unpin::new();
+    assert_eq!(rt; unpin.ask(&seat), Ask::Store(Place::Pin(0), 0));
+    assert_eq!(rt; matches!(unpin.tell(&mut seat, 1), Turn::Go), false);
+    assert_eq!(rt;
+        (seat.pin(), seat.generation(), seat.valid()),
+        (0, 1, false)
+    );
     Ok(())
 }
 
@@ -93,19 +76,5 @@ fn a_scan_finds_the_first_pin_that_needs_a_generation(rt: HostRuntime) -> Result
     assert_eq!(rt; scan_alone(&mut seat, &mut plain, 1), held);
     assert_eq!(rt; scan_alone(&mut seat, &mut plain, 0), Scanned::Clear);
     assert_eq!(rt; seat.pins_seen(), [1, 2].as_slice());
-    Ok(())
-}
-
-#[test]
-fn the_machines_run_over_any_memory(rt: HostRuntime) -> Result<(), Fail> {
-    let Ok(geometry) = Geometry::new(40, 4, 64) else {
-        return Ok(());
-    };
-    let mut seat = SeatState::new(rt.alloc(), geometry, 0, 1, 0)?;
-    let mut unpinned = Plain::new(rt.alloc(), Vec::new(rt.alloc()), Vec::new(rt.alloc()))?;
-    assert_eq!(rt; scan_over(&mut seat, &mut unpinned, 0), Scanned::Clear);
-    let words = vec![in rt.alloc(); 0, 0, 0, 4_294_967_299]?;
-    let mut plain = Plain::new(rt.alloc(), words, Vec::new(rt.alloc()))?;
-    assert_eq!(rt; pin_over(&mut seat, &mut plain).block, 3);
     Ok(())
 }

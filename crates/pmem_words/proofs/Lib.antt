@@ -8,4 +8,5 @@ pub mod AmongLemmas
 pub mod LeadsLemmas
 pub mod PlainLemmas
 pub mod StageLemmas
+pub mod Stages
 pub mod StepCounts

@@ -1,5 +1,5 @@
 -- The machine that fills blocks, at a seat of a world.
-use Rattle.std.proofs.Common.{◌≡◌, ◌≢◌, ◌<◌, ◌≤◌, ◌+◌, ◌^◌, nat_lt, ℕ, Bool, true, false, List, [], ◌∷◌, length, refl, sym, subst, slice_index, None}
+use Rattle.std.proofs.Common.{◌≡◌, ◌≢◌, ◌<◌, ◌≤◌, ◌+◌, ◌^◌, nat_lt, ℕ, Bool, true, false, List, [], ◌∷◌, length, refl, subst, slice_index, None}
 use Rattle.std.proofs.Math.Bridge.{le_prop}
 use Rattle.pmem_words.specs.declared.keeps.Task.{Task}
 use Rattle.pmem_words.specs.declared.keeps.Task.TheVariants.{Sync}
@@ -33,10 +33,8 @@ no_head generation (mark ∷ marks) none marked = cc
 -- where it begins
 pub fill_led : (w : WorldNow) (seat first count : ℕ) → seat < length w.seats → IsResting w → 0 < count → first + count ≤ length (seat_of w seat).blocks.owned →
     ((k : ℕ) → slice_index (seat_of w seat).blocks.contents k < 2 ^ 64) → AreAlone w → IsLed seat fill_script no_record (λ out t v. HasLeft out t v) (fill_of first count) w
-fill_led w seat first count inside resting some owned small alone = begins_led seat fill_script (fill_of first count) (λ o. MayFill first count) (λ o. IsFilled first count (seat_of w seat)) (λ out t v. HasLeft out t v) w
-    (λ o start number rest v linked. fills_within o start seat number first count rest (seat_of w seat) v linked)
-    (λ o c g known. record { some = some; owned = owned; calm = calm o c g known })
-    (λ o c st rest out t v left. record { unspent = left.unspent; same = sym left.seat }) inside resting
+fill_led w seat first count inside resting some owned small alone = begins_led seat fill_script (fill_of first count) (λ o n s g. MayFill first count s g) (λ o n s0 g0 out s g. IsFilled first count s0 out s g) w (fills_within first count)
+    (λ o c g known. record { some = some; owned = owned; calm = calm o c g known }) inside resting
   where
     calm : (o : Origin) (c : Core) (g : Ghost) → IsKnown w o c seat g → IsCalm (seat_of w seat) g
     calm o c g known = record {

@@ -1,5 +1,5 @@
 -- The machine that gives blocks back, at a seat of a world.
-use Rattle.std.proofs.Common.{◌≡◌, ◌<◌, ◌==◌, ℕ, Bool, true, false, List, [], ◌∷◌, length, refl, sym, ◌∙◌, ap}
+use Rattle.std.proofs.Common.{◌≡◌, ◌<◌, ◌==◌, ℕ, Bool, true, false, List, [], ◌∷◌, length, refl, ◌∙◌, ap}
 use Rattle.std.proofs.Math.Bridge.{le_prop}
 use Rattle.std.proofs.lemmas.Bool.{eqb-true}
 use Rattle.pmem_words.specs.declared.owned.OwnedBlock.{OwnedBlock}
@@ -12,16 +12,13 @@ use Rattle.crash_model.proofs.Leading.{begins_led, told_seat}
 use Rattle.block_bitmap.specs.declared.give.Give.{Give}
 use Rattle.block_bitmap.specs.declared.give.GiveFrom.{GiveFrom}
 use Rattle.block_bitmap.specs.Giving.{HasGiven, give_of, give_turn, given_seat, given_count, give_script}
-use Rattle.block_bitmap.specs.GiveWithin.{MayGive, IsGiven}
+use Rattle.block_bitmap.specs.GiveWithin.{MayGive, HasGivenBlocks}
 use Rattle.world_tests.specs.AloneSeats.{RunsAlone}
 use Rattle.block_bitmap.proofs.GiveWithinCore.{gives_within}
 
 -- where it begins
 pub give_led : (w : WorldNow) (seat : ℕ) (from : GiveFrom) → seat < length w.seats → IsResting w → 0 < length (seat_of w seat).blocks.owned → IsLed seat give_script no_record (λ out t v. HasLeft out t v) (give_of from) w
-give_led w seat from inside resting some = begins_led seat give_script (give_of from) (λ o. MayGive) (λ o. IsGiven (seat_of w seat)) (λ out t v. HasLeft out t v) w
-    (λ o start number rest v linked. gives_within o start seat number from rest (seat_of w seat) v linked)
-    (λ o c g known. record { some = some })
-    (λ o c st rest out t v left. record { unspent = left.unspent; same = sym left.seat }) inside resting
+give_led w seat from inside resting some = begins_led seat give_script (give_of from) (λ o n s g. MayGive s g) HasGivenBlocks w (gives_within from) (λ o c g known. record { some = some }) inside resting
 
 -- what it admits is said once
 pub give_one : (m : Give) (s : Seat) → IsProp (HasGiven m s)

@@ -1,5 +1,5 @@
 -- Machines of pins at a seat of a world.
-use Rattle.std.proofs.Common.{◌≡◌, ◌<◌, ℕ, length, refl, sym, ◌∙◌, arith}
+use Rattle.std.proofs.Common.{◌≡◌, ◌<◌, ℕ, length, refl, sym, ◌∙◌}
 use Rattle.std.proofs.Math.Bridge.{le_prop}
 use Rattle.std.proofs.Math.Nat.{ℕ_set}
 use Rattle.pmem_words.specs.Seats.{Seat}
@@ -13,7 +13,7 @@ use Rattle.pins.specs.declared.scan.Scan.{Scan}
 use Rattle.pins.specs.Pinning.{pin_script, pin_admits}
 use Rattle.pins.specs.Scanning.{scan_script, scan_of, HasSeat}
 use Rattle.pins.specs.Unpinning.{unpin_script, unpin_of}
-use Rattle.pins.specs.Within.{MayPin, HasPinned, HasUnpinned, ScanStands, HasScanned}
+use Rattle.pins.specs.Within.{MayPin, HasPinned, HasUnpinned, MayScan, HasScanned}
 use Rattle.world_tests.specs.PinSeats.{MayTurn, MayLook}
 use Rattle.pins.proofs.PinWithin.{pins_within, unpins_within}
 use Rattle.pins.proofs.ScanWithin.{scans_within}
@@ -29,22 +29,14 @@ scan_one m s = λ x y. λ i. record { left = le_prop x.left y.left i; few = le_p
 
 -- where the machines begin
 pub pin_led : (w : WorldNow) (seat : ℕ) → seat < length w.seats → IsResting w → MayTurn seat (seat_of w seat) → IsLed seat pin_script no_record (λ out t v. HasLeft out t v) Begin w
-pin_led w seat inside resting may = begins_led seat pin_script Begin (λ o. MayPin seat) (λ o. HasPinned seat) (λ out t v. HasLeft out t v) w
-    (λ o start number rest v linked. pins_within o start seat number rest (seat_of w seat) v linked)
-    (λ o c g known. record { number = may.number; no_marks = λ sync. absurd (may.no_sync sync) })
-    (λ o c st rest out t v left. record { unspent = left.unspent; same = sym left.seat }) inside resting
+pin_led w seat inside resting may = begins_led seat pin_script Begin MayPin HasPinned w pins_within (λ o c g known. record { number = may.number; no_marks = λ sync. absurd (may.no_sync sync) }) inside resting
 
 pub unpin_led : (w : WorldNow) (seat : ℕ) → seat < length w.seats → IsResting w → MayTurn seat (seat_of w seat) → IsLed seat unpin_script no_record (λ out t v. HasLeft out t v) unpin_of w
-unpin_led w seat inside resting may = begins_led seat unpin_script unpin_of (λ o. MayPin seat) (λ o. HasUnpinned seat) (λ out t v. HasLeft out t v) w
-    (λ o start number rest v linked. unpins_within o start seat number rest (seat_of w seat) v linked)
-    (λ o c g known. record { number = may.number; no_marks = λ sync. absurd (may.no_sync sync) })
-    (λ o c st rest out t v left. record { unspent = left.unspent; same = sym left.seat }) inside resting
+unpin_led w seat inside resting may = begins_led seat unpin_script unpin_of MayPin HasUnpinned w unpins_within (λ o c g known. record { number = may.number; no_marks = λ sync. absurd (may.no_sync sync) }) inside resting
 
 pub scan_led : (w : WorldNow) (seat generation : ℕ) → seat < length w.seats → IsResting w → MayLook seat (length w.seats) (seat_of w seat) → IsLed seat scan_script no_record (λ out t v. HasLeft out t v) (scan_of generation) w
-scan_led w seat generation inside resting may = begins_led seat scan_script (scan_of generation) (λ o. ScanStands o seat (scan_of generation)) (λ o. HasScanned o generation) (λ out t v. HasLeft out t v) w
-    (λ o start number rest v linked. scans_within o start seat number generation rest (seat_of w seat) v linked)
-    (λ o c g known. record { number = may.number; seats = may.seats ∙ sym known.stands.seats; few = may.few; left = may.some; head_fenced = may.head_fenced; unpinned = may.unpinned; seen = λ some. absurd (some refl); free = λ k less. absurd (omega (arith, less)) })
-    (λ o c st rest out t v left. record { unspent = left.unspent; same = sym left.seat }) inside resting
+scan_led w seat generation inside resting may = begins_led seat scan_script (scan_of generation) MayScan (HasScanned generation) w (scans_within generation)
+    (λ o c g known. record { number = may.number; seats = may.seats ∙ sym known.stands.seats; few = may.few; some = may.some; head_fenced = may.head_fenced; unpinned = may.unpinned }) inside resting
 
 -- what a turn keeps
 pub pin_keeps : (m : Pin) (s : Seat) (a seat : ℕ) → MayTurn seat s → MayTurn seat (pin_script.after m s a).seat

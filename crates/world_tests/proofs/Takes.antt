@@ -13,7 +13,7 @@ use Rattle.crash_model.specs.Led.{IsLed, IsResting, HasLeft}
 use Rattle.crash_model.proofs.Leading.{begins_led}
 use Rattle.block_bitmap.specs.declared.take.Take.{Take}
 use Rattle.block_bitmap.specs.TakeScript.{MayTake, take_of, take_script, after_at, asks_at, with_found, word_of, less, seat_set, gained_at, known_set}
-use Rattle.block_bitmap.specs.TakeWithin.{MayLack, HasEnded}
+use Rattle.block_bitmap.specs.TakeWithin.{MayLack, HasTakenBlocks}
 use Rattle.world_tests.specs.AloneSeats.{RunsAlone}
 use Rattle.block_bitmap.proofs.TakeServes.{ended_seat}
 use Rattle.block_bitmap.proofs.TakeSteps.{settled_seat}
@@ -27,10 +27,8 @@ same_area Spare = refl
 -- where it begins
 pub take_led : (w : WorldNow) (seat count : ℕ) (area : Area) → seat < length w.seats → IsResting w → 0 < count → count ≤ 4 → (seat_of w seat).calling.job ≡ TakeTask area count → (seat_of w seat).blocks.owned ≡ [] →
     IsLed seat take_script no_record (λ out t v. HasLeft out t v) (take_of area count) w
-take_led w seat count area inside resting some few job owned = begins_led seat take_script (take_of area count) (λ o. MayLack area count) (λ o. HasEnded area count (seat_of w seat)) (λ out t v. HasLeft out t v) w
-    (λ o start number rest v linked. takes_within o start seat number area count rest (seat_of w seat) v linked)
-    (λ o c g known. record { some = some; lacks = lacks; room = room })
-    (λ o c st rest out t v left. record { unspent = left.unspent; same = sym left.seat }) inside resting
+take_led w seat count area inside resting some few job owned = begins_led seat take_script (take_of area count) (λ o n s g. MayLack area count s g) (HasTakenBlocks area count) w (takes_within area count)
+    (λ o c g known. record { some = some; lacks = lacks; room = room }) inside resting
   where
     lacks : count ≤ lacking (seat_of w seat) (seat_of w seat).calling.job area
     lacks = rw (job, same_area area, owned) (omega arith)

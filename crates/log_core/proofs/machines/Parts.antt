@@ -12,10 +12,11 @@ use Rattle.persistence.specs.Memory.{found_answer}
 use Rattle.log_core.specs.Views.{Ghost}
 use Rattle.log_core.specs.Origin.{Origin, q_of_origin}
 use Rattle.log_core.specs.Works.{Work, MayWorkAll, state_after_work, state_after_all_work, is_going_on}
-use Rattle.log_core.specs.Steps.{kind_of_ask, effect, ghost_after}
+use Rattle.log_core.specs.Steps.{kind_of_ask}
 use Rattle.log_core.specs.May.{May, IsOfferedKind}
 use Rattle.log_core.specs.Runs.{is_offered_work}
-use Rattle.log_core.specs.Within.{no_record, adds_at, IsFound, EntersOffered, Lawful, Serves, FitsNext}
+use Rattle.log_core.specs.Within.{no_record, adds_at, seat_found, ghost_found, IsFound, EntersOffered, Lawful, Serves, FitsNext}
+use Rattle.log_core.proofs.machines.Entering.{none_at}
 
 -- computations after others
 pub worked_more : (s : Seat) (first second : List Work) → state_after_all_work s (first ++ second) ≡ state_after_all_work (state_after_all_work s first) second
@@ -58,12 +59,8 @@ enters_more g e t u adds part more =
 module _ {A C OutA Out : Type 0} (o : Origin) (seat : ℕ) (part : Script A OutA) (whole : Script C Out) (rec : Out → Seat → List Call) (inject : A → C) (next : OutA → Seat → Next C Out)
     (P : A → Seat → Ghost → Type 0) (R : OutA → Seat → Ghost → Type 0) (PC : C → Seat → Ghost → Type 0) (RC : Out → Seat → Ghost → Type 0)
     (embeds : Embeds part whole inject next) (leaves : (m : A) (s : Seat) (a : ℕ) → whole.admits (inject m) s a → part.admits m s a)
-    (joins : (m : A) (s : Seat) (g : Ghost) (a : ℕ) → P m s g → part.admits m s a → whole.admits (inject m) s a)
+    (joins : (m : A) (s : Seat) (g : Ghost) (a : ℕ) → P m s g → IsFound o seat s g (part.asks m s) a → part.admits m s a → whole.admits (inject m) s a)
     (on_part : (m : A) (s : Seat) (g : Ghost) → P m s g → PC (inject m) s g) (on_next : (out : OutA) (t : Seat) (g : Ghost) → R out t g → FitsNext rec PC RC t g (next out t)) where
-  -- what contracts alone see of the seat after the step that an ask is
-  abbrev left : Seat → Ghost → Ask → ℕ → Ghost
-  left s g ask f = ghost_after g s (effect g.marks s (kind_of_ask (q_of_origin o) seat ask) f) (kind_of_ask (q_of_origin o) seat ask) f
-
   -- the whole after its part, by the part's turn
   moved_enters : (g : Ghost) (e t : Seat) (m : C) (n : Next C Out) → EntersOffered g e t [] → FitsNext rec PC RC t g n → EntersOffered g e (moved m n).seat (adds_at rec (moved m n).seat (moved m n).turn)
   moved_enters g e t m (Into c u) first fits = enters_more g e t u [] first fits.0
@@ -111,18 +108,14 @@ module _ {A C OutA Out : Type 0} (o : Origin) (seat : ℕ) (part : Script A OutA
       same : (f : ℕ) → onward inject next (part.after m s f) ≡ whole.after (inject m) s f
       same f = embeds.after m s f
 
-      none_at : (t : Seat) (turn : Turn OutA) → adds_at no_record t turn ≡ []
-      none_at t Go = refl
-      none_at t (Done out) = refl
-
       found : (f : ℕ) → IsFound o seat s g (whole.asks (inject m) s) f → IsFound o seat s g (part.asks m s) f
       found f is = subst (λ (ask : Ask). IsFound o seat s g ask f) (sym asks) is
 
-      first : (f : ℕ) → IsFound o seat s g (part.asks m s) f → part.admits m s f → EntersOffered (ghost_after g s (effect g.marks s (kind_of_ask (q_of_origin o) seat (part.asks m s)) f) (kind_of_ask (q_of_origin o) seat (part.asks m s)) f) (effect g.marks s (kind_of_ask (q_of_origin o) seat (part.asks m s)) f) (part.after m s f).seat []
-      first f is admits = subst (λ (adds : List Call). EntersOffered (ghost_after g s (effect g.marks s (kind_of_ask (q_of_origin o) seat (part.asks m s)) f) (kind_of_ask (q_of_origin o) seat (part.asks m s)) f) (effect g.marks s (kind_of_ask (q_of_origin o) seat (part.asks m s)) f) (part.after m s f).seat adds)
+      first : (f : ℕ) → IsFound o seat s g (part.asks m s) f → part.admits m s f → EntersOffered (ghost_found o seat (part.asks m s) s g f) (seat_found o seat (part.asks m s) s g f) (part.after m s f).seat []
+      first f is admits = subst (λ (adds : List Call). EntersOffered (ghost_found o seat (part.asks m s) s g f) (seat_found o seat (part.asks m s) s g f) (part.after m s f).seat adds)
           (none_at (part.after m s f).seat (part.after m s f).turn) (laws.enters f is admits)
 
-      ends_so : (f : ℕ) → IsFound o seat s g (whole.asks (inject m) s) f → whole.admits (inject m) s f → (out : OutA) → (part.after m s f).turn ≡ Done out → R out (part.after m s f).seat (left s g (part.asks m s) f)
+      ends_so : (f : ℕ) → IsFound o seat s g (whole.asks (inject m) s) f → whole.admits (inject m) s f → (out : OutA) → (part.after m s f).turn ≡ Done out → R out (part.after m s f).seat (ghost_found o seat (part.asks m s) s g f)
       ends_so f is may out done = laws.ends f out (found f is) (leaves m s f may) done
 
       lawful : Lawful o seat whole rec PC RC (inject m) s g
@@ -130,16 +123,16 @@ module _ {A C OutA Out : Type 0} (o : Origin) (seat : ℕ) (part : Script A OutA
         may = λ c pin began inv unspent knows. subst (λ (ask : Ask). May o c g s (kind_of_ask (q_of_origin o) seat ask)) asks (laws.may c pin began inv unspent knows);
         offered = subst (λ (ask : Ask). IsOfferedKind s (kind_of_ask (q_of_origin o) seat ask)) asks laws.offered;
         admitted = λ c pin began inv unspent knows. subst (λ (ask : Ask). whole.admits (inject m) s (found_answer c.memory ask)) asks
-            (joins m s g (found_answer c.memory (part.asks m s)) stands (laws.admitted c pin began inv unspent knows));
-        enters = λ f is may. subst (λ (ask : Ask). EntersOffered (left s g ask f) (effect g.marks s (kind_of_ask (q_of_origin o) seat ask) f) (whole.after (inject m) s f).seat (adds_at rec (whole.after (inject m) s f).seat (whole.after (inject m) s f).turn)) asks
-            (subst (λ (r : After C Out). EntersOffered (left s g (part.asks m s) f) (effect g.marks s (kind_of_ask (q_of_origin o) seat (part.asks m s)) f) r.seat (adds_at rec r.seat r.turn)) (same f)
-            (at_enters (left s g (part.asks m s) f) (effect g.marks s (kind_of_ask (q_of_origin o) seat (part.asks m s)) f) (part.after m s f).seat (part.after m s f).machine (part.after m s f).turn (first f (found f is) (leaves m s f may)) (ends_so f is may)));
+            (joins m s g (found_answer c.memory (part.asks m s)) stands (record { core = c; pin = pin; began = began; holds = inv; unspent = unspent; knows = knows; is = refl }) (laws.admitted c pin began inv unspent knows));
+        enters = λ f is may. subst (λ (ask : Ask). EntersOffered (ghost_found o seat ask s g f) (seat_found o seat ask s g f) (whole.after (inject m) s f).seat (adds_at rec (whole.after (inject m) s f).seat (whole.after (inject m) s f).turn)) asks
+            (subst (λ (r : After C Out). EntersOffered (ghost_found o seat (part.asks m s) s g f) (seat_found o seat (part.asks m s) s g f) r.seat (adds_at rec r.seat r.turn)) (same f)
+            (at_enters (ghost_found o seat (part.asks m s) s g f) (seat_found o seat (part.asks m s) s g f) (part.after m s f).seat (part.after m s f).machine (part.after m s f).turn (first f (found f is) (leaves m s f may)) (ends_so f is may)));
         none_added = λ f is may. subst (λ (r : After C Out). adds_at rec r.seat r.turn ≡ []) (same f)
-            (at_none (left s g (part.asks m s) f) (part.after m s f).seat (part.after m s f).machine (part.after m s f).turn (ends_so f is may));
-        goes = λ f is may go. subst (λ (ask : Ask). PC (whole.after (inject m) s f).machine (whole.after (inject m) s f).seat (left s g ask f)) asks
-            (subst (λ (r : After C Out). r.turn ≡ Go → PC r.machine r.seat (left s g (part.asks m s) f)) (same f)
-            (at_goes (left s g (part.asks m s) f) (part.after m s f).seat (part.after m s f).machine (part.after m s f).turn (laws.goes f (found f is) (leaves m s f may)) (ends_so f is may)) go);
-        ends = λ f out is may done. subst (λ (ask : Ask). RC out (whole.after (inject m) s f).seat (left s g ask f)) asks
-            (subst (λ (r : After C Out). r.turn ≡ Done out → RC out r.seat (left s g (part.asks m s) f)) (same f)
-            (at_ends (left s g (part.asks m s) f) (part.after m s f).seat (part.after m s f).machine (part.after m s f).turn out (ends_so f is may)) done);
+            (at_none (ghost_found o seat (part.asks m s) s g f) (part.after m s f).seat (part.after m s f).machine (part.after m s f).turn (ends_so f is may));
+        goes = λ f is may go. subst (λ (ask : Ask). PC (whole.after (inject m) s f).machine (whole.after (inject m) s f).seat (ghost_found o seat ask s g f)) asks
+            (subst (λ (r : After C Out). r.turn ≡ Go → PC r.machine r.seat (ghost_found o seat (part.asks m s) s g f)) (same f)
+            (at_goes (ghost_found o seat (part.asks m s) s g f) (part.after m s f).seat (part.after m s f).machine (part.after m s f).turn (laws.goes f (found f is) (leaves m s f may)) (ends_so f is may)) go);
+        ends = λ f out is may done. subst (λ (ask : Ask). RC out (whole.after (inject m) s f).seat (ghost_found o seat ask s g f)) asks
+            (subst (λ (r : After C Out). r.turn ≡ Done out → RC out r.seat (ghost_found o seat (part.asks m s) s g f)) (same f)
+            (at_ends (ghost_found o seat (part.asks m s) s g f) (part.after m s f).seat (part.after m s f).machine (part.after m s f).turn out (ends_so f is may)) done);
       }

@@ -1,35 +1,23 @@
--- What leads within the core leads over a plain memory whose words are a reached core's: no other seat makes a step there.
+-- A plain memory that has a core's words takes the asks that the core's takes, answers them alike, and has the core's words afterwards.
 use Rattle.std.proofs.Common.{◌≡◌, ◌<◌, ◌≤◌, ℕ, List, ◌∷◌, length, refl, sym, ◌∙◌, ap, subst, arith, slice_index, slice_set}
 use Rattle.std.proofs.lemmas.List.{length-set, get_or-set_same, get_or-set_other}
-use Rattle.log_entry.specs.declared.calls.Call.{Call}
-use Rattle.pmem_words.specs.Seats.{Seat}
 use Rattle.pmem_words.specs.declared.TheConstants.{SEATS}
 use Rattle.asks.specs.Asks.{place, becomes, answer}
-use Rattle.pmem_words.specs.Scripts.{Script}
-use Rattle.pmem_words.specs.Courses.{over}
-use Rattle.pmem_words.specs.Leads.{Leads, asking, LeadsAt, LeadsAfter}
 use Rattle.asks.specs.SharedWords.{SharedWords, word_at, with_word, HasWord, CanLoad, found_by, answer_of, words_after}
-use Rattle.pmem_words.specs.PlainWords.{plain_takes, plain}
+use Rattle.pmem_words.specs.PlainWords.{plain_takes}
 use Rattle.asks.specs.declared.ask.Place.{Place}
 use Rattle.asks.specs.declared.ask.Place.TheVariants.{Image, Pin, Map, FenceOf}
 use Rattle.asks.specs.declared.ask.Ask.{Ask}
 use Rattle.asks.specs.declared.ask.Ask.TheVariants.{Load, Store, Exchange, SetBits, ClearBits, Mark, Fence}
-use Rattle.pmem_words.specs.declared.machine.Turn.{Turn}
-use Rattle.pmem_words.specs.declared.machine.Turn.TheVariants.{Go, Done}
-use Rattle.pmem_words.proofs.PlainLemmas.{leads_plain}
 use Rattle.persistence.specs.Memory.{Memory, Replaced, PendingMark, found_answer, memory_after}
 use Rattle.persistence.specs.Cells.{MemoryTakes}
-use Rattle.log_core.specs.Views.{View, view_of, spent_view}
-use Rattle.log_core.specs.Origin.{Origin, q_of_origin}
-use Rattle.log_core.specs.Cores.{Core, first_core}
-use Rattle.log_core.specs.Steps.{Step, Does, kind_of_ask, view_after}
+use Rattle.log_core.specs.Origin.{Origin}
+use Rattle.log_core.specs.Cores.{Core}
+use Rattle.log_core.specs.Steps.{Step}
 use Rattle.log_core.specs.After.{after}
 use Rattle.log_core.specs.Runs.{Allowed, IsReached}
-use Rattle.log_core.specs.Invariant.{Invariant}
-use Rattle.log_core.specs.Within.{note_of, Did, within, Agrees, EndsAlone}
+use Rattle.log_core.specs.Within.{Agrees}
 use Rattle.log_core.proofs.clauses.OneView.{same_or_other}
-use Rattle.log_core.proofs.machines.Serving.{reached_keeps}
-use Rattle.log_core.proofs.machines.Takes.{takes_asked}
 
 module _ (p : SharedWords) (memory : Memory) (agrees : Agrees p memory) where
   -- a word that the core's memory has is found alike in both
@@ -128,43 +116,3 @@ reached_next o c step reached allowed = record {
   is_run = (reached.is_run, subst (λ (x : Core). Allowed o x step) (sym reached.ends) allowed);
   ends = ap (λ (x : Core). after o x step) reached.ends;
 }
-
-module _ (o : Origin) (start : Invariant o (first_core o)) (seat number : ℕ) {M Out : Type 0} (script : Script M Out) (rec : Out → Seat → List Call) (Q : Out → Seat → View → Type 0) where
-  leads_at : (m : M) (s : Seat) (turn : Turn Out) (p : SharedWords) → (turn ≡ Go → Leads script (over script plain) (EndsAlone o seat Q) m s p) → ((out : Out) → turn ≡ Done out → EndsAlone o seat Q out s p) →
-      LeadsAt script (over script plain) (EndsAlone o seat Q) m s turn p
-  leads_at m s Go p goes ends = goes refl
-  leads_at m s (Done out) p goes ends = ends out refl
-
-  -- from a core in which the seat has this view, over a memory with its words: each end is one within a core that a run reaches
-  pub over_plain : (m : M) (s : Seat) (v : View) (c : Core) (p : SharedWords) → Leads script (within o seat number script rec) Q m s v → IsReached o c → seat < length c.views → view_of c.views seat ≡ v → Agrees p c.memory →
-      Leads script (over script plain) (λ out t q. EndsAlone o seat Q out t q) m s p
-  over_plain m s v c p (asking ready goes ends) reached made at agrees =
-      (let ask = script.asks m s in
-      let f = found_answer c.memory ask in
-      let note = note_of script rec number m s f in
-      let kind = kind_of_ask (q_of_origin o) seat ask in
-      let allowed = ready.can c reached made at in
-      let inv = reached_keeps o start c reached in
-      let takes = takes_asked o c seat ask note inv allowed in
-      let few : length c.memory.now.pins ≤ SEATS = (let many = inv.sizes.words.pins in let most = inv.sizes.seats.few in omega (arith, many, most)) in
-      let same = same_answer p c.memory agrees ask takes in
-      let next = after o c (Does seat ask note) in
-      let left = view_after (view_of c.views seat) kind note f in
-      let w = view_after v kind note f in
-      let did : Did o seat v ask (note_of script rec number m s) f w = record { core = c; reached = reached; made = made; at = at; answer = refl; left = refl } in
-      let next_reached = reached_next o c (Does seat ask note) reached allowed in
-      let next_made = subst (λ (n : ℕ). seat < n) (sym (length-set c.views seat left)) made in
-      let next_at : view_of next.views seat ≡ w = get_or-set_same c.views seat left spent_view made ∙ ap (λ (u : View). view_after u kind note f) at in
-      let next_agrees = agrees_after p c.memory agrees seat ask takes in
-      leads_plain script (EndsAlone o seat Q) m s p (takes_too p c.memory agrees few ask takes)
-      (λ small. subst (λ (x : ℕ). script.admits m s x) (sym same) (ready.admitted f w did))
-      (subst (λ (x : ℕ). LeadsAfter script (over script plain) (EndsAlone o seat Q) (script.after m s x) (words_after p ask)) (sym same)
-      (leads_at (script.after m s f).machine (script.after m s f).seat (script.after m s f).turn (words_after p ask)
-      (λ go. over_plain (script.after m s f).machine (script.after m s f).seat w next (words_after p ask) (goes f w did go) next_reached next_made next_at next_agrees)
-      (λ out stop. record {
-        core = next;
-        reached = next_reached;
-        made = next_made;
-        agrees = next_agrees;
-        ends = subst (λ (u : View). Q out (script.after m s f).seat u) (sym next_at) (ends f w out did stop);
-      }))))
