@@ -1,13 +1,11 @@
 -- Of a header that the format allows no condition holds.
-use Rattle.std.proofs.Common.{◌≡◌, ◌<◌, ◌≤◌, ◌+◌, ◌*◌, ◌/◌, ◌^◌, ◌==◌, ◌||◌, not, nat_lt, ℕ, true, false, List, [], ◌∷◌, length, get_or, Option, None, ◌⊎◌, inl, inr, refl, sym, ◌∙◌, subst, arith}
+use Rattle.std.proofs.Common.{◌≡◌, ◌<◌, ◌≤◌, ◌+◌, ◌*◌, ◌/◌, ◌^◌, ◌==◌, ◌||◌, not, nat_lt, ℕ, true, false, List, [], ◌∷◌, length, get_or, None, ◌⊎◌, inl, inr, refl, sym, ◌∙◌, subst, arith}
 use Rattle.std.proofs.lemmas.Bool.{cases_lt, le-ltb, eq-eqb, ne_eqb, or_from, not_from_true}
 use Rattle.std.proofs.lemmas.Nat.{pow_below}
 use Rattle.log_entry.specs.Shape.{spare_blocks_of}
-use Rattle.log_entry.specs.Geometry.{shape_refusal}
 use Rattle.log_entry.specs.Fields.{field}
-use Rattle.log_entry.specs.declared.shapes.BadShape.{BadShape}
 use Rattle.log_entry.specs.declared.layouts.TheConstants.{HEAD_UNNAMED}
-use Rattle.log_image.specs.Image.{Shape, words_in, total, is_in_log}
+use Rattle.log_image.specs.Image.{words_in, total, is_in_log}
 use Rattle.log_image.specs.Header.{shape_of, head_block, generation_of, HasHeader}
 use Rattle.log_image.specs.declared.header.TheConstants.{MAGIC, VERSION, HEADER_VERSION, HEADER_BLOCK_POWER, HEADER_UNNAMED}
 use Rattle.log_image.proofs.ImageLemmas.{allowed_shape}
