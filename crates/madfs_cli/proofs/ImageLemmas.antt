@@ -1,32 +1,39 @@
 -- What an opened image says of the image that a command reads.
-use Rattle.std.proofs.Common.{◌≡◌, ◌+◌, ◌*◌, ◌<◌, ◌≤◌, ◌==◌, nat_lt, ℕ, Bool, true, false, if◌then◌else◌, List, [], ◌∷◌, ◌++◌, length, get_or, None, Err, length-append, refl, sym, ap, ◌∙◌, subst, inl, inr, Some, Option, arith}
+use Rattle.std.proofs.Common.{◌≡◌, ◌+◌, ◌*◌, ◌/◌, ◌^◌, ◌<◌, ◌≤◌, ◌==◌, nat_lt, ℕ, Bool, true, false, if◌then◌else◌, List, [], ◌∷◌, ◌++◌, length, get_or, None, Err, length-append, refl, sym, ap, ◌∙◌, subst, ◌⊎◌, inl, inr, Some, Option, arith}
 use Rattle.std.specs.List.{list_all}
 use Rattle.std.proofs.lemmas.Bool.{ltb-true, ne_eqb, le-ltb}
 use Rattle.std.proofs.Math.Nat.{mul-le-mul_right}
 use Rattle.io_ends.specs.Taking.{TakesAll, TakesCount}
+use Rattle.log_entry.specs.WordBytes.{word_bytes}
+use Rattle.log_entry.specs.Geometry.{shape_refusal}
+use Rattle.log_entry.proofs.WordBytesLemmas.{eight_each}
 use Rattle.log_image.specs.Image.{Shape, words_in, total, is_in_log, block_words}
 use Rattle.log_image.specs.Blocks.{slots_of, entry_words, is_closed}
-use Rattle.log_image.specs.Header.{shape_of}
+use Rattle.log_image.specs.Header.{shape_of, HasHeader}
 use Rattle.log_image.specs.Chains.{IsChain, IsLinked}
 use Rattle.log_image.specs.Tails.{AtSlot, AtLink, last_block, tail_in, tail_of, is_after, IsCleared}
 use Rattle.log_image.specs.Positions.{position_of}
-use Rattle.log_image.specs.Laws.{StaysCleared}
+use Rattle.log_image.specs.JustMade.{first_log, IsJustMade}
+use Rattle.log_image.specs.Laws.{JustMadeStands, StaysCleared}
 use Rattle.log_image.specs.Stands.{StandsBy}
 use Rattle.log_image.specs.Recovered.{Recovered}
 use Rattle.log_image.specs.declared.starts.Start.{Start}
+use Rattle.log_image.proofs.ImageLemmas.{allowed_shape}
+use Rattle.log_image.proofs.MadeImages.{by_bytes}
 use Rattle.log_image.proofs.HoldingLemmas.{both_left, both_right}
 use Rattle.log_image.proofs.OneChain.{one_chain}
 use Rattle.log_image.proofs.ClearedImages.{clearing_keeps}
 use Rattle.opening_rules.specs.Opening.{RefusesBytes, AcceptsBytes, chain_of}
 use Rattle.opening_rules.specs.declared.refusals.BadImage.{BadImage}
 use Rattle.opening_rules.proofs.Accepted.{file_of, stands_by, accepted_stands}
+use Rattle.opening_rules.proofs.Standing.{standing_is_accepted}
 use Rattle.opening_rules.proofs.WholeWords.{one_refusal_of_bytes, not_both_of_bytes}
 use Rattle.recovery.specs.OpenAnswers.{OpensBytes}
 use Rattle.recovery.specs.declared.refusals.OpenRefusal.{OpenRefusal}
 use Rattle.recovery.specs.declared.refusals.OpenRefusal.TheVariants.{Bad, NoMemory}
 use Rattle.image_tools.specs.DumpText.{dump_text}
 use Rattle.madfs_cli.specs.Replays.{StandForAFile}
-use Rattle.madfs_cli.specs.Images.{image_limit, RefusesImage, Clears, OpensTo, IsFileOf, IsDumpOf}
+use Rattle.madfs_cli.specs.Images.{image_limit, RefusesImage, Clears, OpensTo, IsFileAt, IsFileOf, IsDumpOf, IsNewImage}
 
 -- what clearing leaves of an image that opens
 pub opens_to : (bytes words rest : List ℕ) (start : Start) → AcceptsBytes bytes words rest → ((chain file : List ℕ) (position : ℕ) → StandsBy words chain file position → Recovered words start file position) → OpensTo bytes start.words.items
@@ -58,19 +65,52 @@ opened_stands bytes cleared opens =
     let clears = opens.clears in
     (chain_of clears.words clears.rest, file_of clears.words clears.rest, position_of clears.words (shape_of clears.words) (chain_of clears.words clears.rest), (clears_stand bytes opens.chain cleared clears).stands)
 
+within_limit : (blocks bytes : ℕ) → blocks ≤ 65535 → (bytes ≡ 64) ⊎ ((bytes ≡ 512) ⊎ (bytes ≡ 4096)) → 8 * (blocks * (bytes / 8)) ≤ 268431360
+within_limit blocks bytes few is = by_bytes (λ (n : ℕ). 8 * (blocks * (n / 8)) ≤ 268431360) bytes is (omega (arith, few)) (omega (arith, few)) (omega (arith, few))
+
+-- words with a header are no more bytes than an image may have
+few_bytes : (bytes words : List ℕ) → bytes ≡ word_bytes words → HasHeader words → length bytes ≤ image_limit
+few_bytes bytes words same header =
+    let shape = shape_of words in
+    let allowed = allowed_shape shape.data_blocks shape.log_blocks shape.block_bytes header.allowed in
+    let few : 8 * length words ≤ image_limit = subst (λ (n : ℕ). 8 * n ≤ image_limit) (sym header.whole) (within_limit (total shape) shape.block_bytes allowed.few allowed.bytes_are) in
+    subst (λ (n : ℕ). n ≤ image_limit) (sym (ap length same ∙ eight_each words)) few
+
 -- the file of what clearing leaves is the image's
 pub file_shown : (bytes cleared text : List ℕ) → OpensTo bytes cleared → ((chain file : List ℕ) (position : ℕ) → StandsBy cleared chain file position → text ≡ file) → IsFileOf bytes text
 file_shown bytes cleared text opens shown =
     let clears = opens.clears in
     let same : text ≡ file_of clears.words clears.rest =
     shown (chain_of clears.words clears.rest) (file_of clears.words clears.rest) (position_of clears.words (shape_of clears.words) (chain_of clears.words clears.rest)) (clears_stand bytes opens.chain cleared clears).stands in
-    record {
+    (position_of clears.words (shape_of clears.words) (chain_of clears.words clears.rest), record {
+      few = few_bytes bytes clears.words clears.accepts.bytes_are (stands_by clears.words clears.rest clears.accepts.accepts).header;
       words = clears.words;
       rest = clears.rest;
       accepts = clears.accepts;
-      position = position_of clears.words (shape_of clears.words) (chain_of clears.words clears.rest);
       stands = subst (λ (l : List ℕ). StandsBy clears.words (chain_of clears.words clears.rest) l (position_of clears.words (shape_of clears.words) (chain_of clears.words clears.rest))) (sym same) (stands_by clears.words clears.rest clears.accepts.accepts);
+    })
+
+-- the bytes of words that stand for a file are an image that opens to it
+pub file_opens : (bytes words chain file : List ℕ) (position : ℕ) → bytes ≡ word_bytes words → ((place : ℕ) → get_or words place 0 < 2 ^ 64) → StandsBy words chain file position → IsFileAt bytes file position
+file_opens bytes words chain file position same small stands =
+    let accepted = standing_is_accepted words chain file position stands in
+    record {
+      few = few_bytes bytes words same stands.header;
+      words = words;
+      rest = accepted.0;
+      accepts = record { bytes_are = same; small = small; accepts = accepted.1 };
+      stands = accepted.3;
     }
+
+-- those of a just-made image open to the empty file
+pub made_opens : (shape : Shape) (bytes words : List ℕ) → JustMadeStands → shape_refusal shape.data_blocks shape.log_blocks shape.block_bytes ≡ None → IsJustMade shape words → bytes ≡ word_bytes words →
+    ((place : ℕ) → get_or words place 0 < 2 ^ 64) → IsNewImage shape bytes
+made_opens shape bytes words stands allowed made same small = record {
+  words = words;
+  just_made = made;
+  bytes_are = same;
+  opens = file_opens bytes words (first_log shape ∷ []) [] 0 same small (stands shape words allowed made).1;
+}
 
 -- the text of what clearing leaves
 pub dump_shown : (bytes cleared text : List ℕ) → OpensTo bytes cleared → ((chain : List ℕ) → IsChain cleared (shape_of cleared) chain → text ≡ dump_text cleared (shape_of cleared) chain) → IsDumpOf bytes text

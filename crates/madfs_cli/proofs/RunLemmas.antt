@@ -23,7 +23,7 @@ use Rattle.plain_engine.specs.Replaying.{Replays}
 use Rattle.plain_engine.specs.declared.engine.PlainEngine.{PlainEngine}
 use Rattle.madfs_cli.specs.Images.{OpensTo}
 use Rattle.madfs_cli.specs.Replays.{IsRunOf, IsReplayOf}
-use Rattle.madfs_cli.proofs.ImageLemmas.{clears_stand, first_kept}
+use Rattle.madfs_cli.proofs.ImageLemmas.{clears_stand, file_opens, first_kept}
 
 -- the shape of an engine's words
 engine_shape : (words : List ℕ) (engine : PlainEngine) (chain file : List ℕ) → engine.words.items ≡ words → Running engine chain file → shape_of words ≡ shape_by engine.geometry
@@ -83,4 +83,6 @@ replayed image cleared trace text after fresh jobs opens read runs small fresh_i
       past_header = λ place past inside. run.past_header place past (subst (λ (s : Shape). place < words_in s) (sym stays.same_shape) inside) ∙ first_kept image opens.chain cleared clears place inside;
       small = small;
       fresh_is = fresh_is;
+      opens = file_opens fresh after run.longer (last_file (file_of clears.words clears.rest) run.calls)
+          (last_position_of (position_of clears.words (shape_of clears.words) (chain_of clears.words clears.rest)) run.calls) fresh_is small run.stands;
     }

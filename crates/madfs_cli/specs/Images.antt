@@ -1,5 +1,5 @@
 -- What the bytes of an image are to a command that reads it, and to one that makes it.
-use Rattle.std.specs.Prelude.{ℕ, ◌+◌, ◌*◌, ◌≡◌, ◌≤◌, ◌<◌, ◌⊎◌, List, ◌++◌, length, codes, decimal}
+use Rattle.std.specs.Prelude.{ℕ, ◌+◌, ◌*◌, ◌≡◌, ◌≤◌, ◌<◌, ◌⊎◌, List, [], ◌++◌, length, codes, decimal}
 use Rattle.log_entry.specs.WordBytes.{word_bytes}
 use Rattle.log_image.specs.Image.{Shape, words_in, total}
 use Rattle.log_image.specs.Header.{shape_of}
@@ -32,13 +32,17 @@ pub record OpensTo (bytes cleared : List ℕ) : Type 0 where
   pub chain : List ℕ
   pub clears : Clears bytes chain cleared
 
--- the bytes are the words of an image that opens, and they stand for this file
-pub record IsFileOf (bytes file : List ℕ) : Type 0 where
+-- the bytes are no more than an image may have, and the words of one that opens, and they stand for this file at this position
+pub record IsFileAt (bytes file : List ℕ) (position : ℕ) : Type 0 where
+  pub few : length bytes ≤ image_limit
   pub words : List ℕ
   pub rest : List ℕ
   pub accepts : AcceptsBytes bytes words rest
-  pub position : ℕ
   pub stands : StandsBy words (chain_of words rest) file position
+
+-- the same at some position
+abbrev pub IsFileOf : List ℕ → List ℕ → Type 0
+IsFileOf bytes file = (position : ℕ) × IsFileAt bytes file position
 
 -- the bytes are an image that opens, and the text shows what opening and clearing make of it
 pub record IsDumpOf (bytes text : List ℕ) : Type 0 where
@@ -51,8 +55,9 @@ pub record IsDumpOf (bytes text : List ℕ) : Type 0 where
 abbrev pub made_text : Shape → List ℕ
 made_text shape = codes "blocks " ++ decimal (total shape) ++ codes " bytes " ++ decimal (8 * (total shape * words_in shape)) ++ codes "\n"
 
--- the bytes are a just-made image of this shape
+-- the bytes are a just-made image of this shape, which opens to the empty file at position 0
 pub record IsNewImage (shape : Shape) (bytes : List ℕ) : Type 0 where
   pub words : List ℕ
   pub just_made : IsJustMade shape words
   pub bytes_are : bytes ≡ word_bytes words
+  pub opens : IsFileAt bytes [] 0

@@ -15,7 +15,7 @@ use Rattle.log_image.specs.Laws.{StaysCleared}
 use Rattle.trace_reader.specs.Reading.{ReadsTrace}
 use Rattle.history_report.specs.Report.{report_text}
 use Rattle.plain_engine.specs.Served.{AreServed}
-use Rattle.madfs_cli.specs.Images.{Clears}
+use Rattle.madfs_cli.specs.Images.{Clears, IsFileAt}
 
 -- the words stand for a file
 abbrev pub StandForAFile : List ℕ → Type 0
@@ -55,7 +55,7 @@ pub record IsTryOf (shape : Shape) (trace text : List ℕ) : Type 0 where
 
 -- the first bytes are an image that opens; clearing leaves words of it that stand for the same file; the text is the report of the
 -- trace that the second bytes are, run on them; and the last bytes are the image after it, whose words are below 2^64, with block 0
--- past the header as in the first
+-- past the header as in the first, and which opens again, to the history's last file at its last position
 pub record IsReplayOf (image trace text fresh : List ℕ) : Type 0 where
   pub chain : List ℕ
   pub cleared : List ℕ
@@ -71,3 +71,4 @@ pub record IsReplayOf (image trace text fresh : List ℕ) : Type 0 where
   pub past_header : KeepsPastHeader clears.words after
   pub small : (place : ℕ) → slice_index after place < 2 ^ 64
   pub fresh_is : fresh ≡ word_bytes after
+  pub opens : IsFileAt fresh (last_file file run.calls) (last_position_of position run.calls)

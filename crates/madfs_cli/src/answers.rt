@@ -13,13 +13,13 @@ ghost use Rattle.trace_reader.specs.declared.refusals.BadTrace.{BadTrace};
 use crate::commands::Making;
 use crate::images::open_image;
 use crate::outputs::Output;
-use crate::replays::{replay_trace, try_trace};
+use crate::replays::{note_range, replay_trace, try_trace};
 use crate::statuses::Status;
 use image_tools::{dump, mkfs, write_file};
 use io_ends::{Sink, Source, WriteAll};
 use log_entry::text::push_number;
 use log_entry::{Geometry, to_bytes};
-use log_image::laws::law_one_meaning;
+use log_image::laws::{law_just_made, law_one_meaning};
 use std::alloc::{AllocError, Global};
 use trace_reader::laws::law_readings;
 
@@ -42,7 +42,9 @@ fn make_image(alloc: Global, shape: Geometry) -> Result<Output, AllocError>
     ensures text { IfOk result (λ output. output.text.items ≡ made_text (shape_by shape)) }
     ensures image { IfOk result (λ output. IsNewImage (shape_by shape) output.image.items) }
 {
+    law_just_made();
     let start = mkfs(alloc, shape)?;
+    note_range(start.words());
     let image = to_bytes(alloc, start.words())?;
     let text = size_line(alloc, shape)?;
     Ok(Output { text, image })

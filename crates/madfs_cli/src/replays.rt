@@ -73,8 +73,8 @@ pub fn try_trace<T: Source>(alloc: Global, shape: Geometry, trace: &mut T) -> Re
     })
 }
 
-/// Says of words what their type says, for the clause on the new image.
-fn note_range(words: &[u64])
+/// Says of words what their type says: each is below 2^64. For the clauses on a new image.
+pub fn note_range(words: &[u64])
     ensures { (place : ℕ) → slice_index words.now place < 2 ^ 64 }
 {}
 

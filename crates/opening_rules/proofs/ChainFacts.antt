@@ -19,23 +19,23 @@ size_after_more shape size [] others = refl
 size_after_more shape size (entry ∷ entries) others = size_after_more shape (max size (entry_end shape entry)) entries others
 
 -- the place after a log block, and after a snapshot block
-record AfterLog (words : List ℕ) (shape : Shape) (place : Place) (number : ℕ) (block : List ℕ) : Type 0 where
+pub record AfterLog (words : List ℕ) (shape : Shape) (place : Place) (number : ℕ) (block : List ℕ) : Type 0 where
   pub before : (place_after words shape place number block).before ≡ place.before ++ number ∷ []
   pub in_logs : (place_after words shape place number block).in_logs ≡ true
   pub position : (place_after words shape place number block).position ≡ place.position + length (entry_words (slots_of block))
   pub size : (place_after words shape place number block).size ≡ size_after shape place.size (map (meaning words shape) (entry_words (slots_of block)))
   pub entries : (place_after words shape place number block).entries ≡ place.entries ++ map (meaning words shape) (entry_words (slots_of block))
 
-after_log : (words : List ℕ) (shape : Shape) (place : Place) (number : ℕ) (block : List ℕ) → is_snapshot block ≡ false → AfterLog words shape place number block
+pub after_log : (words : List ℕ) (shape : Shape) (place : Place) (number : ℕ) (block : List ℕ) → is_snapshot block ≡ false → AfterLog words shape place number block
 after_log words shape place number block is = record { before = refl; in_logs = rw is refl; position = rw is refl; size = rw is refl; entries = rw is refl }
 
-record AfterSnapshot (words : List ℕ) (shape : Shape) (place : Place) (number : ℕ) (block : List ℕ) : Type 0 where
+pub record AfterSnapshot (words : List ℕ) (shape : Shape) (place : Place) (number : ℕ) (block : List ℕ) : Type 0 where
   pub before : is_first (place_after words shape place number block).before ≡ false
   pub position : (place_after words shape place number block).position ≡ base_of block
   pub size : (place_after words shape place number block).size ≡ file_size block
   pub entries : (place_after words shape place number block).entries ≡ place.entries ++ map direct_meaning (take (entry_count block) (slots_of block))
 
-after_snapshot : (words : List ℕ) (shape : Shape) (place : Place) (number : ℕ) (block : List ℕ) → is_snapshot block ≡ true → AfterSnapshot words shape place number block
+pub after_snapshot : (words : List ℕ) (shape : Shape) (place : Place) (number : ℕ) (block : List ℕ) → is_snapshot block ≡ true → AfterSnapshot words shape place number block
 after_snapshot words shape place number block is = record { before = some_before place.before; position = rw is refl; size = rw is refl; entries = rw is refl }
   where
     some_before : (blocks : List ℕ) → is_first (blocks ++ number ∷ []) ≡ false
@@ -47,7 +47,7 @@ both a b x y = rw (x, y) refl
 
 module _ (words : List ℕ) (shape : Shape) where
   -- the words of the entries of some log blocks
-  abbrev words_of_logs : List ℕ → List ℕ
+  abbrev pub words_of_logs : List ℕ → List ℕ
   words_of_logs blocks = flat_map (λ (block : ℕ). entry_words (slots_of (block_words words shape block))) blocks
 
   -- log blocks, the first of them this one, that the walk passes from a place

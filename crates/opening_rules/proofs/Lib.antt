@@ -9,4 +9,9 @@ pub mod HeaderFacts
 mod Fresh
 mod FileHeld
 pub mod Accepted
+mod GoodSlots
+mod GoodBlocks
+mod GoodChains
+mod GoodHeaders
+pub mod Standing
 mod WorkedRows

@@ -23,6 +23,8 @@ IsNotBothOfBytes = (bytes words rest : List ℕ) (why : BadImage) → RefusesByt
 abbrev pub AcceptedStands : Type 0
 AcceptedStands = (words rest : List ℕ) → Accepts (8 * length words) words rest → (file : List ℕ) × (position : ℕ) × StandsBy words (chain_of words rest) file position
 
--- words that stand for a file are accepted
+-- the other way round: words that stand for a file at a position are accepted; the walk goes along their chain, so they open to
+-- that file at that position
 abbrev pub StandingIsAccepted : Type 0
-StandingIsAccepted = (words chain file : List ℕ) (position : ℕ) → StandsBy words chain file position → (rest : List ℕ) × Accepts (8 * length words) words rest × (chain_of words rest ≡ chain)
+StandingIsAccepted = (words chain file : List ℕ) (position : ℕ) → StandsBy words chain file position →
+    (rest : List ℕ) × Accepts (8 * length words) words rest × (chain_of words rest ≡ chain) × StandsBy words (chain_of words rest) file position

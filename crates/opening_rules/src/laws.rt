@@ -1,6 +1,6 @@
 //! Laws of the definitions, each the contract of a function that does nothing, and worked rows that they compute.
 
-ghost use Rattle.opening_rules.specs.Laws.{HasOneRefusal, IsNotBoth, HasOneRefusalOfBytes, IsNotBothOfBytes, AcceptedStands};
+ghost use Rattle.opening_rules.specs.Laws.{HasOneRefusal, IsNotBoth, HasOneRefusalOfBytes, IsNotBothOfBytes, AcceptedStands, StandingIsAccepted};
 ghost use Rattle.opening_rules.specs.Rows.{BehindTailAccepted, LinkToItself, NamedTwice, ByteBehindEnd, OneByteShort, OneByteLong, SealInFirstSlot, SlotAfterSeal, BaseNotDue, BadHeaders};
 
 /// Worked images, and what opening answers.
@@ -28,4 +28,9 @@ pub fn law_one_answer()
 /// The words of an accepted image stand for a file, by the chain that was walked.
 pub fn law_accepted()
     ensures { AcceptedStands }
+{}
+
+/// Words that stand for a file are accepted, by their chain, and open to that file at that position.
+pub fn law_standing()
+    ensures { StandingIsAccepted }
 {}
