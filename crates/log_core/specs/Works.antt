@@ -281,9 +281,13 @@ pub record IsFree (g : Ghost) (c : Calling) : Type 0 where
   pub no_sync : c.sync_to ≡ None
   pub no_head : g.call.put ≡ None
 
+-- the words that the seat keeps, and those that it loads, are of its chain: the pin is valid
+abbrev pub MayBelieve : Seat → Type 0
+MayBelieve s = s.hold.valid ≡ true
+
 -- the pin is valid, the head found last is the pinned one, and the second word of its first block is kept
 pub record IsAtFront (s : Seat) : Type 0 where
-  pub valid : s.hold.valid ≡ true
+  pub valid : MayBelieve s
   pub pinned : field HEAD_GENERATION s.hold.head ≡ s.hold.generation
   pub front : kept_at s.walk.kept (front s) 1 ≢ None
 
@@ -296,7 +300,7 @@ pub record MayStart (g : Ghost) (s : Seat) (kind : ℕ) : Type 0 where
 
 -- a snapshot of the pinned generation is being read
 pub record IsReading (s : Seat) : Type 0 where
-  pub valid : s.hold.valid ≡ true
+  pub valid : MayBelieve s
   pub reading : s.walk.reading ≡ true
   pub pinned : s.walk.reading_generation ≡ s.hold.generation
 
@@ -311,7 +315,7 @@ pub record HasReadBlock (s : Seat) (kind : ℕ) : Type 0 where
 -- a used slot was found at the tail of a view that is ready
 pub record HasFoundSlot (g : Ghost) (s : Seat) : Type 0 where
   pub free : IsFree g s.calling
-  pub valid : s.hold.valid ≡ true
+  pub valid : MayBelieve s
   pub ready : s.walk.ready ≡ true
   pub inside : s.walk.tail_slot ≢ words_of s
   pub used : tail_word s ≢ 0
@@ -319,7 +323,7 @@ pub record HasFoundSlot (g : Ghost) (s : Seat) : Type 0 where
 -- and a link at the end of the tail's block
 pub record HasFoundLink (g : Ghost) (s : Seat) : Type 0 where
   pub free : IsFree g s.calling
-  pub valid : s.hold.valid ≡ true
+  pub valid : MayBelieve s
   pub ready : s.walk.ready ≡ true
   pub at_end : s.walk.tail_slot ≡ words_of s
   pub linked : kept_word s s.walk.tail_block 0 ≢ 0
@@ -327,7 +331,7 @@ pub record HasFoundLink (g : Ghost) (s : Seat) : Type 0 where
 -- the words of mapped blocks may be taken for the file's: the pin is valid, the table is that of its chain, and the view is at the
 -- chain's tail
 pub record MayReadFile (s : Seat) : Type 0 where
-  pub valid : s.hold.valid ≡ true
+  pub valid : MayBelieve s
   pub own_table : s.walk.ready ≡ true
   pub at_tail : s.walk.at_tail ≡ true
 
