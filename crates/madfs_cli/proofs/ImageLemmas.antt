@@ -81,14 +81,16 @@ pub file_shown : (bytes cleared text : List ℕ) → OpensTo bytes cleared → (
 file_shown bytes cleared text opens shown =
     let clears = opens.clears in
     let same : text ≡ file_of clears.words clears.rest =
-    shown (chain_of clears.words clears.rest) (file_of clears.words clears.rest) (position_of clears.words (shape_of clears.words) (chain_of clears.words clears.rest)) (clears_stand bytes opens.chain cleared clears).stands in
-    (position_of clears.words (shape_of clears.words) (chain_of clears.words clears.rest), record {
-      few = few_bytes bytes clears.words clears.accepts.bytes_are (stands_by clears.words clears.rest clears.accepts.accepts).header;
-      words = clears.words;
-      rest = clears.rest;
-      accepts = clears.accepts;
-      stands = subst (λ (l : List ℕ). StandsBy clears.words (chain_of clears.words clears.rest) l (position_of clears.words (shape_of clears.words) (chain_of clears.words clears.rest))) (sym same) (stands_by clears.words clears.rest clears.accepts.accepts);
-    })
+    shown (chain_of clears.words clears.rest) (file_of clears.words clears.rest) (position_of clears.words (shape_of clears.words) (chain_of clears.words clears.rest)) (clears_stand bytes opens.chain cleared clears).stands in (
+      position_of clears.words (shape_of clears.words) (chain_of clears.words clears.rest),
+      record {
+        few = few_bytes bytes clears.words clears.accepts.bytes_are (stands_by clears.words clears.rest clears.accepts.accepts).header;
+        words = clears.words;
+        rest = clears.rest;
+        accepts = clears.accepts;
+        stands = subst (λ (l : List ℕ). StandsBy clears.words (chain_of clears.words clears.rest) l (position_of clears.words (shape_of clears.words) (chain_of clears.words clears.rest))) (sym same) (stands_by clears.words clears.rest clears.accepts.accepts);
+      },
+    )
 
 -- the bytes of words that stand for a file are an image that opens to it
 pub file_opens : (bytes words chain file : List ℕ) (position : ℕ) → bytes ≡ word_bytes words → ((place : ℕ) → get_or words place 0 < 2 ^ 64) → StandsBy words chain file position → IsFileAt bytes file position
