@@ -22,7 +22,7 @@ use Rattle.asks.specs.declared.ask.Ask.{Ask}
 use Rattle.asks.specs.declared.ask.Ask.TheVariants.{Load, Store, Exchange, SetBits, ClearBits, Mark, Fence}
 use Rattle.log_image.specs.Chains.{is_listed}
 use Rattle.log_core.specs.Entries.{head_place, place_in, meaning_by}
-use Rattle.log_core.specs.Views.{MarkedWord, Stored, HeadPut, Running, Ghost, View, new_view, op_in}
+use Rattle.log_core.specs.Views.{MarkedWord, Stored, HeadPut, RunningCall, Ghost, View, new_view, op_in}
 use Rattle.log_core.specs.Works.{seat_shape, words_of, tail_index, without_bases, walk_past}
 use Rattle.log_core.specs.Needs.{owned_numbers, is_pass_found}
 
@@ -312,7 +312,7 @@ abbrev pub put_after : Option HeadPut → Seat → Kind → ℕ → Option HeadP
 put_after put s (ExchangesHead before next) f = put_if (f == before) put s next
 put_after put s _ f = put
 
-abbrev pub call_after : Running → Seat → Seat → Kind → ℕ → Running
+abbrev pub call_after : RunningCall → Seat → Seat → Kind → ℕ → RunningCall
 call_after c before after kind f = record c {
   lacked = lacked_after c.lacked after kind;
   overtaken = overtaken_after c.overtaken kind f;
@@ -333,7 +333,7 @@ is_begun None (Some op) = true
 is_begun _ _ = false
 
 -- a call that begins has found and put nothing
-abbrev pub call_if : Bool → Running → ℕ → Running
+abbrev pub call_if : Bool → RunningCall → ℕ → RunningCall
 call_if true c number = record { number = number; lacked = []; overtaken = 0; put = None }
 call_if false c number = c
 

@@ -33,7 +33,7 @@ pub record HeadPut : Type 0 where
 
 -- the present call, as its record needs it: its number among its seat's calls, the areas in which it found too few free blocks,
 -- the generation that its exchange of the head found instead of its own (0 for none), and the head that it put in place
-pub record Running : Type 0 where
+pub record RunningCall : Type 0 where
   pub number : ℕ
   pub lacked : List Area
   pub overtaken : ℕ
@@ -44,7 +44,7 @@ pub record Running : Type 0 where
 pub record Ghost : Type 0 where
   pub marks : List MarkedWord
   pub stored : List Stored
-  pub call : Running
+  pub call : RunningCall
 
 -- a view: the seat's state, with what contracts alone see of it; the position at which the run began; of seat 0, how many seats are
 -- made; the records of the calls that have ended; and the seats that are joined into this one, itself among them. A view with no
@@ -58,7 +58,7 @@ pub record View : Type 0 where
   pub parts : List ℕ
 
 -- no call has begun
-abbrev pub no_call : Running
+abbrev pub no_call : RunningCall
 no_call = record { number = 0; lacked = []; overtaken = 0; put = None }
 
 abbrev pub no_ghost : Ghost

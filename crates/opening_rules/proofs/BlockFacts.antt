@@ -11,7 +11,7 @@ use Rattle.log_image.specs.Blocks.{link_of, kind_of, is_snapshot, base_of, entry
 use Rattle.log_image.specs.Chains.{all_different}
 use Rattle.log_image.specs.Format.{all_zero, is_log_entry, is_snapshot_entry, is_seal_last, is_seal_placed, is_log_block, is_snapshot_block, is_kind_word}
 use Rattle.opening_rules.specs.Checks.{check, first}
-use Rattle.opening_rules.specs.SlotChecks.{is_among, log_slot_checks, snapshot_slot_checks}
+use Rattle.opening_rules.specs.SlotChecks.{is_named_in, log_slot_checks, snapshot_slot_checks}
 use Rattle.opening_rules.specs.BlockChecks.{Place, is_first, is_bad_kind, is_bad_base, is_bad_second, is_bad_third, is_bad_link, slot_checks, block_checks}
 use Rattle.opening_rules.specs.declared.refusals.BadImage.TheVariants.{BadBase, BadEntry, BadLink}
 use Rattle.opening_rules.proofs.Firsts.{clean_here, clean_left, clean_right}
@@ -45,8 +45,8 @@ link_good true false among is leads = cc
 link_good false inside among is leads = cc
 
 pub good_link : (words : List ℕ) (shape : Shape) (place : Place) (number : ℕ) (block : List ℕ) → CleanParts words shape place number block → leads_on block ≡ true →
-    (is_in_log shape (link_of block) ≡ true) × (is_among (link_of block) (place.before ++ number ∷ []) ≡ false)
-good_link words shape place number block parts leads = link_good (leads_on block) (is_in_log shape (link_of block)) (is_among (link_of block) (place.before ++ number ∷ [])) parts.link leads
+    (is_in_log shape (link_of block) ≡ true) × (is_named_in (link_of block) (place.before ++ number ∷ []) ≡ false)
+good_link words shape place number block parts leads = link_good (leads_on block) (is_in_log shape (link_of block)) (is_named_in (link_of block) (place.before ++ number ∷ [])) parts.link leads
 
 -- the parts of a second word that is due
 second_parts : (kind unnamed base : Bool) → (kind || not unnamed || base) ≡ false → (kind ≡ false) × (unnamed ≡ true) × (base ≡ false)

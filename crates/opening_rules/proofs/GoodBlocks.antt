@@ -11,7 +11,7 @@ use Rattle.log_image.specs.Blocks.{link_of, kind_of, is_snapshot, base_of, entry
 use Rattle.log_image.specs.Chains.{all_different}
 use Rattle.log_image.specs.Format.{all_zero, is_log_entry, is_snapshot_entry, is_seal_last, is_seal_placed, is_log_block, is_snapshot_block, is_kind_word}
 use Rattle.opening_rules.specs.Checks.{check, first}
-use Rattle.opening_rules.specs.SlotChecks.{is_among, log_slot_checks, snapshot_slot_checks}
+use Rattle.opening_rules.specs.SlotChecks.{is_named_in, log_slot_checks, snapshot_slot_checks}
 use Rattle.opening_rules.specs.BlockChecks.{Place, is_first, is_bad_kind, is_bad_base, is_bad_second, is_bad_third, is_bad_link, slot_checks, block_checks}
 use Rattle.opening_rules.specs.declared.refusals.BadImage.TheVariants.{BadBase, BadLink}
 use Rattle.opening_rules.proofs.Firsts.{skip, pass_over}
@@ -91,13 +91,13 @@ snapshot_block_passes words shape place number block others is in_logs named bas
 
 -- the link of a block that leads on to none
 pub end_link : (shape : Shape) (passed block : List ℕ) → leads_on block ≡ false → is_bad_link shape passed block ≡ false
-end_link shape passed block leads = and_left (leads_on block) (not (is_in_log shape (link_of block)) || is_among (link_of block) passed) leads
+end_link shape passed block leads = and_left (leads_on block) (not (is_in_log shape (link_of block)) || is_named_in (link_of block) passed) leads
 
 -- the link of a block to the one that follows it among different blocks
 pub next_link : (shape : Shape) (before rest : List ℕ) (number next : ℕ) (block : List ℕ) → link_of block ≡ next → is_in_log shape next ≡ true → all_different (before ++ number ∷ next ∷ rest) ≡ true →
     is_bad_link shape (before ++ number ∷ []) block ≡ false
 next_link shape before rest number next block link inside different =
-    let new : is_among next (before ++ number ∷ []) ≡ false = none_before (before ++ number ∷ []) rest next (subst (λ (l : List ℕ). all_different l ≡ true) (sym (append_assoc before (number ∷ []) (next ∷ rest))) different) in
-    let good : (not (is_in_log shape next) || is_among next (before ++ number ∷ [])) ≡ false = or_from (not (is_in_log shape next)) (is_among next (before ++ number ∷ [])) (not_from_true (is_in_log shape next) inside) new in
-    and_right (leads_on block) (not (is_in_log shape (link_of block)) || is_among (link_of block) (before ++ number ∷ []))
-    (subst (λ (b : ℕ). (not (is_in_log shape b) || is_among b (before ++ number ∷ [])) ≡ false) (sym link) good)
+    let new : is_named_in next (before ++ number ∷ []) ≡ false = none_before (before ++ number ∷ []) rest next (subst (λ (l : List ℕ). all_different l ≡ true) (sym (append_assoc before (number ∷ []) (next ∷ rest))) different) in
+    let good : (not (is_in_log shape next) || is_named_in next (before ++ number ∷ [])) ≡ false = or_from (not (is_in_log shape next)) (is_named_in next (before ++ number ∷ [])) (not_from_true (is_in_log shape next) inside) new in
+    and_right (leads_on block) (not (is_in_log shape (link_of block)) || is_named_in (link_of block) (before ++ number ∷ []))
+    (subst (λ (b : ℕ). (not (is_in_log shape b) || is_named_in b (before ++ number ∷ [])) ≡ false) (sym link) good)

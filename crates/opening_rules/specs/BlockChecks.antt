@@ -9,7 +9,7 @@ use Rattle.log_image.specs.Positions.{block_entries}
 use Rattle.log_image.specs.Format.{is_kind_word}
 use Rattle.log_image.specs.Blocks.{link_of, kind_of, is_snapshot, base_of, entry_count, file_size, slots_of, entry_words, leads_on}
 use Rattle.opening_rules.specs.Checks.{Check, check}
-use Rattle.opening_rules.specs.SlotChecks.{is_among, log_slot_checks, snapshot_slot_checks}
+use Rattle.opening_rules.specs.SlotChecks.{is_named_in, log_slot_checks, snapshot_slot_checks}
 use Rattle.opening_rules.specs.declared.refusals.BadImage.TheVariants.{BadBase, BadLink}
 
 -- the blocks passed; whether a log block is among them; the position, the file's size in bytes and the entries that they come to
@@ -52,7 +52,7 @@ is_bad_third shape place block =
 
 -- a link that is followed, to no block of the log or spare area, or to a block of the chain
 abbrev pub is_bad_link : Shape → List ℕ → List ℕ → Bool
-is_bad_link shape passed block = leads_on block && (not (is_in_log shape (link_of block)) || is_among (link_of block) passed)
+is_bad_link shape passed block = leads_on block && (not (is_in_log shape (link_of block)) || is_named_in (link_of block) passed)
 
 -- the conditions on the slots of the block of this number and these words
 abbrev pub slot_checks : List ℕ → Shape → Place → ℕ → List ℕ → List Check

@@ -10,13 +10,13 @@ use Rattle.opening_rules.specs.Checks.{Check, check}
 use Rattle.opening_rules.specs.declared.refusals.BadImage.TheVariants.{BadEntry, BadShare}
 
 -- a block stands among these
-abbrev pub is_among : ℕ → List ℕ → Bool
-is_among block blocks = is_listed blocks block
+abbrev pub is_named_in : ℕ → List ℕ → Bool
+is_named_in block blocks = is_listed blocks block
 
 -- each of some blocks in order, where it was named before: by these, or by one of its own before it
 abbrev pub share_checks : List ℕ → List ℕ → List Check
 share_checks named [] = []
-share_checks named (block ∷ blocks) = check (is_among block named) (BadShare block) ∷ share_checks (named ++ block ∷ []) blocks
+share_checks named (block ∷ blocks) = check (is_named_in block named) (BadShare block) ∷ share_checks (named ++ block ∷ []) blocks
 
 -- a used slot that may not stand in a log block, whose entry would be the one after a position: a seal in slot 3, a word that
 -- is no entry, or an entry at a position that no file may have

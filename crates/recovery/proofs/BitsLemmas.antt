@@ -7,11 +7,11 @@ use Rattle.std.proofs.lemmas.List.Folds.{list_any-append}
 use Rattle.std.proofs.lemmas.Nat.Bits.{bit_at_set_same, bit_at_set_other}
 use Rattle.log_image.specs.Image.{Shape, total}
 use Rattle.log_image.specs.Taken.{bit_of, HasBits}
-use Rattle.opening_rules.specs.SlotChecks.{is_among}
+use Rattle.opening_rules.specs.SlotChecks.{is_named_in}
 
 -- one more block stands among these
-pub among_more : (block other : ℕ) (blocks : List ℕ) → is_among block (blocks ++ other ∷ []) ≡ (is_among block blocks || other == block)
-among_more block other blocks = list_any-append (λ (one : ℕ). one == block) blocks (other ∷ []) ∙ last (is_among block blocks) (other == block)
+pub among_more : (block other : ℕ) (blocks : List ℕ) → is_named_in block (blocks ++ other ∷ []) ≡ (is_named_in block blocks || other == block)
+among_more block other blocks = list_any-append (λ (one : ℕ). one == block) blocks (other ∷ []) ∙ last (is_named_in block blocks) (other == block)
   where
     last : (a b : Bool) → (a || (b || false)) ≡ (a || b)
     last true b = refl
@@ -62,14 +62,14 @@ bit_added shape taken blocks block inside has = record {
   bits = λ other below. by other below (other == block) refl;
 }
   where
-    by : (other : ℕ) → other < total shape → (same : Bool) → (other == block) ≡ same → bit_of (with_bit taken block) other ≡ bit_if (other == 0 || is_among other (blocks ++ block ∷ []))
+    by : (other : ℕ) → other < total shape → (same : Bool) → (other == block) ≡ same → bit_of (with_bit taken block) other ≡ bit_if (other == 0 || is_named_in other (blocks ++ block ∷ []))
     by other below true is =
         let e : other ≡ block = eqb-true other block is in
-        let among : is_among block (blocks ++ block ∷ []) ≡ (is_among block blocks || true) = among_more block block blocks ∙ ap (λ (b : Bool). is_among block blocks || b) (eq-eqb block block refl) in
-        let P : ℕ → Type 0 = λ n. bit_of (with_bit taken block) n ≡ bit_if (n == 0 || is_among n (blocks ++ block ∷ [])) in
-        subst P (sym e) (bit_same taken block inside ∙ sym (ap (λ (b : Bool). bit_if (block == 0 || b)) among ∙ set_now (block == 0) (is_among block blocks)))
+        let among : is_named_in block (blocks ++ block ∷ []) ≡ (is_named_in block blocks || true) = among_more block block blocks ∙ ap (λ (b : Bool). is_named_in block blocks || b) (eq-eqb block block refl) in
+        let P : ℕ → Type 0 = λ n. bit_of (with_bit taken block) n ≡ bit_if (n == 0 || is_named_in n (blocks ++ block ∷ [])) in
+        subst P (sym e) (bit_same taken block inside ∙ sym (ap (λ (b : Bool). bit_if (block == 0 || b)) among ∙ set_now (block == 0) (is_named_in block blocks)))
     by other below false is =
         let differs : other ≡ block → ⊥ = eqb-false other block is in
-        let among : is_among other (blocks ++ block ∷ []) ≡ (is_among other blocks || false) = among_more other block blocks ∙ ap (λ (b : Bool). is_among other blocks || b) (ne_eqb block other (λ e. differs (sym e))) in
+        let among : is_named_in other (blocks ++ block ∷ []) ≡ (is_named_in other blocks || false) = among_more other block blocks ∙ ap (λ (b : Bool). is_named_in other blocks || b) (ne_eqb block other (λ e. differs (sym e))) in
         bit_other taken block other inside differs ∙ has.bits other below
-        ∙ sym (ap (λ (b : Bool). bit_if (other == 0 || b)) among ∙ as_before (other == 0) (is_among other blocks))
+        ∙ sym (ap (λ (b : Bool). bit_if (other == 0 || b)) among ∙ as_before (other == 0) (is_named_in other blocks))

@@ -10,7 +10,7 @@ use Rattle.log_image.specs.Entries.{Meaning, direct_meaning}
 use Rattle.log_image.specs.Maps.{size_after}
 use Rattle.log_image.specs.Blocks.{is_snapshot, base_of, entry_count, file_size, slots_of, entry_words, is_closed, link_of, leads_on}
 use Rattle.opening_rules.specs.Checks.{check, first}
-use Rattle.opening_rules.specs.SlotChecks.{is_among, log_slot_checks, snapshot_slot_checks}
+use Rattle.opening_rules.specs.SlotChecks.{is_named_in, log_slot_checks, snapshot_slot_checks}
 use Rattle.opening_rules.specs.BlockChecks.{Place, is_first, is_bad_kind, is_bad_base, is_bad_second, is_bad_third, is_bad_link, slot_checks}
 use Rattle.opening_rules.specs.declared.refusals.BadImage.{BadImage}
 use Rattle.opening_rules.specs.declared.refusals.BadImage.TheVariants.{BadBase, BadLink}
@@ -106,20 +106,20 @@ third_found shape place number block due bad =
     ∙ hit (is_bad_third shape place block) (BadBase number (slice_index block 2)) [] bad
 
 -- a link that is followed
-pub link_followed : (shape : Shape) (passed : List ℕ) (number : ℕ) (block : List ℕ) → leads_on block ≡ true → (not (is_in_log shape (link_of block)) || is_among (link_of block) passed) ≡ false →
+pub link_followed : (shape : Shape) (passed : List ℕ) (number : ℕ) (block : List ℕ) → leads_on block ≡ true → (not (is_in_log shape (link_of block)) || is_named_in (link_of block) passed) ≡ false →
     FollowsLink (Ok (Some (link_of block))) shape passed number block
 link_followed shape passed number block leads good =
-    let parts = or_parts (not (is_in_log shape (link_of block))) (is_among (link_of block) passed) good in
+    let parts = or_parts (not (is_in_log shape (link_of block))) (is_named_in (link_of block) passed) good in
     (ap (λ (b : Bool). leads_on block && b) good ∙ none (leads_on block), leads, refl, not-false (is_in_log shape (link_of block)) parts.0, parts.1)
   where
     none : (b : Bool) → (b && false) ≡ false
     none true = refl
     none false = refl
 
-pub link_refused : (shape : Shape) (passed : List ℕ) (number : ℕ) (block : List ℕ) → leads_on block ≡ true → (not (is_in_log shape (link_of block)) || is_among (link_of block) passed) ≡ true →
+pub link_refused : (shape : Shape) (passed : List ℕ) (number : ℕ) (block : List ℕ) → leads_on block ≡ true → (not (is_in_log shape (link_of block)) || is_named_in (link_of block) passed) ≡ true →
     FollowsLink (Err (BadLink number (link_of block))) shape passed number block
 link_refused shape passed number block leads bad =
-    hit (is_bad_link shape passed block) (BadLink number (link_of block)) [] (ap (λ (b : Bool). b && (not (is_in_log shape (link_of block)) || is_among (link_of block) passed)) leads ∙ bad)
+    hit (is_bad_link shape passed block) (BadLink number (link_of block)) [] (ap (λ (b : Bool). b && (not (is_in_log shape (link_of block)) || is_named_in (link_of block) passed)) leads ∙ bad)
 
 -- a block of the log or spare area is inside the image
 pub log_below : (shape : Shape) (block : ℕ) → is_in_log shape block ≡ true → block < total shape

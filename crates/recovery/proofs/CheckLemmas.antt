@@ -8,7 +8,7 @@ use Rattle.log_image.specs.Image.{Shape, total, is_in_log, block_words}
 use Rattle.log_image.specs.Entries.{all_names}
 use Rattle.log_image.specs.Blocks.{is_snapshot, link_of}
 use Rattle.opening_rules.specs.Checks.{Check, check, first}
-use Rattle.opening_rules.specs.SlotChecks.{is_among}
+use Rattle.opening_rules.specs.SlotChecks.{is_named_in}
 use Rattle.opening_rules.specs.BlockChecks.{Place, is_first, is_bad_second, is_bad_third, is_bad_link, slot_checks, block_checks, place_after}
 use Rattle.opening_rules.specs.declared.refusals.BadImage.{BadImage}
 use Rattle.opening_rules.specs.declared.refusals.BadImage.TheVariants.{BadBase, BadLink}
@@ -29,13 +29,13 @@ bits_moved shape taken before named block has = record {
   bits = λ other below. has.bits other below ∙ ap (λ (b : Bool). bit_if (other == 0 || b)) (moved other);
 }
   where
-    moved : (other : ℕ) → is_among other ((before ++ named) ++ block ∷ []) ≡ is_among other ((before ++ block ∷ []) ++ named)
+    moved : (other : ℕ) → is_named_in other ((before ++ named) ++ block ∷ []) ≡ is_named_in other ((before ++ block ∷ []) ++ named)
     moved other =
         list_any-append (λ (one : ℕ). one == other) (before ++ named) (block ∷ [])
-        ∙ ap (λ (b : Bool). b || is_among other (block ∷ [])) (list_any-append (λ (one : ℕ). one == other) before named)
-        ∙ swap (is_among other before) (is_among other named) (is_among other (block ∷ []))
+        ∙ ap (λ (b : Bool). b || is_named_in other (block ∷ [])) (list_any-append (λ (one : ℕ). one == other) before named)
+        ∙ swap (is_named_in other before) (is_named_in other named) (is_named_in other (block ∷ []))
         ∙ sym (list_any-append (λ (one : ℕ). one == other) (before ++ block ∷ []) named
-        ∙ ap (λ (b : Bool). b || is_among other named) (list_any-append (λ (one : ℕ). one == other) before (block ∷ [])))
+        ∙ ap (λ (b : Bool). b || is_named_in other named) (list_any-append (λ (one : ℕ). one == other) before (block ∷ [])))
       where
         swap : (a b c : Bool) → ((a || b) || c) ≡ ((a || c) || b)
         swap true b c = refl

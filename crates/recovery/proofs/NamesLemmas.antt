@@ -13,7 +13,7 @@ use Rattle.log_image.specs.Format.{fits, is_run, is_direct, is_indirect, has_run
 use Rattle.log_image.specs.Image.{Shape, total, words_in, is_in_log, is_in_data, block_words}
 use Rattle.log_image.specs.Taken.{bit_of, HasBits}
 use Rattle.opening_rules.specs.Checks.{Check, check, first}
-use Rattle.opening_rules.specs.SlotChecks.{is_among, share_checks}
+use Rattle.opening_rules.specs.SlotChecks.{is_named_in, share_checks}
 use Rattle.opening_rules.specs.declared.refusals.BadImage.{BadImage}
 use Rattle.opening_rules.specs.declared.refusals.BadImage.TheVariants.{BadShare}
 use Rattle.recovery.specs.Names.{HasNamed, TakesNames}
@@ -35,34 +35,34 @@ log_differs shape block other good far =
     let in_log = and_parts (nat_lt shape.data_blocks other) (nat_lt other (total shape)) far in
     ne_eqb other block (λ e. absurd (omega (arith, e, leb-true block shape.data_blocks in_data.1, ltb-true shape.data_blocks other in_log.0)))
 
-not_in_log : (shape : Shape) (block : ℕ) (chain : List ℕ) → is_in_data shape block ≡ true → list_all (is_in_log shape) chain ≡ true → is_among block chain ≡ false
+not_in_log : (shape : Shape) (block : ℕ) (chain : List ℕ) → is_in_data shape block ≡ true → list_all (is_in_log shape) chain ≡ true → is_named_in block chain ≡ false
 not_in_log shape block [] good all = refl
 not_in_log shape block (other ∷ chain) good all =
     let parts = and_parts (is_in_log shape other) (list_all (is_in_log shape) chain) all in
     rw (log_differs shape block other good parts.0) (not_in_log shape block chain good parts.1)
 
 -- whether a block of the data area was named, as its bit says it
-pub bit_says : (shape : Shape) (taken chain named : List ℕ) (block : ℕ) → is_in_data shape block ≡ true → HasNamed shape taken chain named → (bit_of taken block == 1) ≡ is_among block named
+pub bit_says : (shape : Shape) (taken chain named : List ℕ) (block : ℕ) → is_in_data shape block ≡ true → HasNamed shape taken chain named → (bit_of taken block == 1) ≡ is_named_in block named
 bit_says shape taken chain named block good has =
     let inside = data_below shape block good in
     let nonzero : (block == 0) ≡ false = ne_eqb block 0 (λ e. absurd (omega (arith, e, inside.0))) in
-    let among : is_among block (chain ++ named) ≡ is_among block named =
-    list_any-append (λ (other : ℕ). other == block) chain named ∙ ap (λ (b : Bool). b || is_among block named) (not_in_log shape block chain good has.in_log) in
-    ap (λ (n : ℕ). n == 1) (has.bits.bits block inside.1) ∙ rw (nonzero, among) (by (is_among block named))
+    let among : is_named_in block (chain ++ named) ≡ is_named_in block named =
+    list_any-append (λ (other : ℕ). other == block) chain named ∙ ap (λ (b : Bool). b || is_named_in block named) (not_in_log shape block chain good has.in_log) in
+    ap (λ (n : ℕ). n == 1) (has.bits.bits block inside.1) ∙ rw (nonzero, among) (by (is_named_in block named))
   where
     by : (b : Bool) → ((if b then 1 else 0) == 1) ≡ b
     by true = refl
     by false = refl
 
 -- a block was named before
-pub one_shared : (named : List ℕ) (block : ℕ) → is_among block named ≡ true → first (share_checks named (block ∷ [])) ≡ Some (BadShare block)
-one_shared named block shared = hit (is_among block named) (BadShare block) [] shared
+pub one_shared : (named : List ℕ) (block : ℕ) → is_named_in block named ≡ true → first (share_checks named (block ∷ [])) ≡ Some (BadShare block)
+one_shared named block shared = hit (is_named_in block named) (BadShare block) [] shared
 
 -- or was not, and is named now
-pub one_named : (shape : Shape) (old new chain named : List ℕ) (block : ℕ) → is_in_data shape block ≡ true → HasNamed shape old chain named → is_among block named ≡ false →
+pub one_named : (shape : Shape) (old new chain named : List ℕ) (block : ℕ) → is_in_data shape block ≡ true → HasNamed shape old chain named → is_named_in block named ≡ false →
     HasBits shape new ((chain ++ named) ++ block ∷ []) → (first (share_checks named (block ∷ [])) ≡ None) × HasNamed shape new chain (named ++ block ∷ [])
 one_named shape old new chain named block good has free more = (
-  skip (is_among block named) (BadShare block) [] free,
+  skip (is_named_in block named) (BadShare block) [] free,
   record {
     bits = subst (λ (blocks : List ℕ). HasBits shape new blocks) (append_assoc chain named (block ∷ [])) more;
     in_log = has.in_log;
@@ -74,7 +74,7 @@ one_named shape old new chain named block good has free more = (
 pub shares_of_both : (named front back : List ℕ) → share_checks named (front ++ back) ≡ share_checks named front ++ share_checks (named ++ front) back
 shares_of_both named [] back = ap (λ (before : List ℕ). share_checks before back) (sym (append-nil named))
 shares_of_both named (block ∷ front) back =
-    ap (λ (checks : List Check). check (is_among block named) (BadShare block) ∷ checks)
+    ap (λ (checks : List Check). check (is_named_in block named) (BadShare block) ∷ checks)
     (shares_of_both (named ++ block ∷ []) front back ∙ ap (λ (before : List ℕ). share_checks (named ++ block ∷ []) front ++ share_checks before back) (append_assoc named (block ∷ []) front))
 
 -- some blocks are named, and then others
@@ -226,7 +226,7 @@ indirect_taken result words shape word holder runs taken new chain named other s
     (subst (λ (l : List ℕ). TakesNames result shape new chain (named ++ holder ∷ []) (flat_map run_blocks l)) are (takes chain (named ++ holder ∷ []) before.1)))
 
 -- no block of the data area is one of the log or spare area
-not_in_data : (shape : Shape) (block : ℕ) (named : List ℕ) → is_in_log shape block ≡ true → list_all (is_in_data shape) named ≡ true → is_among block named ≡ false
+not_in_data : (shape : Shape) (block : ℕ) (named : List ℕ) → is_in_log shape block ≡ true → list_all (is_in_data shape) named ≡ true → is_named_in block named ≡ false
 not_in_data shape block [] far all = refl
 not_in_data shape block (other ∷ named) far all =
     let parts = and_parts (is_in_data shape other) (list_all (is_in_data shape) named) all in
@@ -240,13 +240,13 @@ not_in_data shape block (other ∷ named) far all =
         omega (arith, e, leb-true other shape.data_blocks in_data.1, ltb-true shape.data_blocks block in_log.0)
 
 -- whether a block of the log or spare area was passed, as its bit says it
-pub log_bit_says : (shape : Shape) (taken passed named : List ℕ) (block : ℕ) → is_in_log shape block ≡ true → HasNamed shape taken passed named → (bit_of taken block == 1) ≡ is_among block passed
+pub log_bit_says : (shape : Shape) (taken passed named : List ℕ) (block : ℕ) → is_in_log shape block ≡ true → HasNamed shape taken passed named → (bit_of taken block == 1) ≡ is_named_in block passed
 log_bit_says shape taken passed named block far has =
     let inside = and_parts (nat_lt shape.data_blocks block) (nat_lt block (total shape)) far in
     let nonzero : (block == 0) ≡ false = ne_eqb block 0 (λ e. absurd (omega (arith, e, ltb-true shape.data_blocks block inside.0))) in
-    let among : is_among block (passed ++ named) ≡ is_among block passed =
-    list_any-append (λ (other : ℕ). other == block) passed named ∙ ap (λ (b : Bool). is_among block passed || b) (not_in_data shape block named far has.in_data) ∙ alone (is_among block passed) in
-    ap (λ (n : ℕ). n == 1) (has.bits.bits block (ltb-true block (total shape) inside.1)) ∙ rw (nonzero, among) (by (is_among block passed))
+    let among : is_named_in block (passed ++ named) ≡ is_named_in block passed =
+    list_any-append (λ (other : ℕ). other == block) passed named ∙ ap (λ (b : Bool). is_named_in block passed || b) (not_in_data shape block named far has.in_data) ∙ alone (is_named_in block passed) in
+    ap (λ (n : ℕ). n == 1) (has.bits.bits block (ltb-true block (total shape) inside.1)) ∙ rw (nonzero, among) (by (is_named_in block passed))
   where
     alone : (b : Bool) → (b || false) ≡ b
     alone true = refl

@@ -5,7 +5,7 @@ use Rattle.std.proofs.lemmas.Bool.Decides.{nat_tests}
 use Rattle.log_image.specs.Image.{Shape, total, is_in_log, block_words}
 use Rattle.log_image.specs.Header.{head_block}
 use Rattle.opening_rules.specs.Checks.{first}
-use Rattle.opening_rules.specs.SlotChecks.{is_among}
+use Rattle.opening_rules.specs.SlotChecks.{is_named_in}
 use Rattle.opening_rules.specs.BlockChecks.{Place, start, place_after}
 use Rattle.opening_rules.specs.Walks.{PassesFrom, RefusesFrom, end_from, Passes, end_place, WalkRefuses}
 use Rattle.opening_rules.specs.declared.refusals.BadImage.{BadImage}
@@ -19,10 +19,10 @@ use Rattle.recovery.specs.WalkAnswers.{EndsWalk, WalkAnswers}
 -- the numbers below one that are not among these
 abbrev pub unseen : List ℕ → ℕ → ℕ
 unseen blocks zero = 0
-unseen blocks (suc count) = (if is_among count blocks then 0 else 1) + unseen blocks count
+unseen blocks (suc count) = (if is_named_in count blocks then 0 else 1) + unseen blocks count
 
 -- a block that is among some blocks or is one more
-pub is_among-more : (block : ℕ) (blocks : List ℕ) (other : ℕ) → is_among block (blocks ++ other ∷ []) ≡ (is_among block blocks || (other == block))
+pub is_among-more : (block : ℕ) (blocks : List ℕ) (other : ℕ) → is_named_in block (blocks ++ other ∷ []) ≡ (is_named_in block blocks || (other == block))
 is_among-more block [] other = at (other == block)
   where
     at : (b : Bool) → (b || false) ≡ (false || b)
@@ -30,14 +30,14 @@ is_among-more block [] other = at (other == block)
     at false = refl
 is_among-more block (first ∷ blocks) other = at (first == block) (is_among-more block blocks other)
   where
-    at : (b : Bool) → is_among block (blocks ++ other ∷ []) ≡ (is_among block blocks || (other == block)) → (b || is_among block (blocks ++ other ∷ [])) ≡ ((b || is_among block blocks) || (other == block))
+    at : (b : Bool) → is_named_in block (blocks ++ other ∷ []) ≡ (is_named_in block blocks || (other == block)) → (b || is_named_in block (blocks ++ other ∷ [])) ≡ ((b || is_named_in block blocks) || (other == block))
     at true same = refl
     at false same = same
 
 -- one more block leaves no more unseen
 unseen-more : (blocks : List ℕ) (block count : ℕ) → unseen (blocks ++ block ∷ []) count ≤ unseen blocks count
 unseen-more blocks block zero = omega arith
-unseen-more blocks block (suc count) = rw (is_among-more count blocks block) (at (is_among count blocks) (block == count) (unseen-more blocks block count))
+unseen-more blocks block (suc count) = rw (is_among-more count blocks block) (at (is_named_in count blocks) (block == count) (unseen-more blocks block count))
   where
     at : (a b : Bool) → unseen (blocks ++ block ∷ []) count ≤ unseen blocks count
         → (if a || b then 0 else 1) + unseen (blocks ++ block ∷ []) count ≤ (if a then 0 else 1) + unseen blocks count
@@ -51,19 +51,19 @@ unseen-other true old new fewer = omega arith
 unseen-other false old new fewer = omega arith
 
 -- one more that was unseen leaves fewer
-pub unseen_falls : (blocks : List ℕ) (block count : ℕ) → block < count → is_among block blocks ≡ false → unseen (blocks ++ block ∷ []) count < unseen blocks count
+pub unseen_falls : (blocks : List ℕ) (block count : ℕ) → block < count → is_named_in block blocks ≡ false → unseen (blocks ++ block ∷ []) count < unseen blocks count
 unseen_falls blocks block zero below fresh = absurd (omega arith)
 unseen_falls blocks block (suc count) below fresh = rw (is_among-more count blocks block) (at (block == count) refl (unseen_falls blocks block count))
   where
-    at : (b : Bool) → (block == count) ≡ b → (block < count → is_among block blocks ≡ false → unseen (blocks ++ block ∷ []) count < unseen blocks count)
-        → (if is_among count blocks || b then 0 else 1) + unseen (blocks ++ block ∷ []) count < (if is_among count blocks then 0 else 1) + unseen blocks count
+    at : (b : Bool) → (block == count) ≡ b → (block < count → is_named_in block blocks ≡ false → unseen (blocks ++ block ∷ []) count < unseen blocks count)
+        → (if is_named_in count blocks || b then 0 else 1) + unseen (blocks ++ block ∷ []) count < (if is_named_in count blocks then 0 else 1) + unseen blocks count
     at true is lower =
         let same : block ≡ count = eqb-true block count is in
-        let new : is_among count blocks ≡ false = subst (λ (b : ℕ). is_among b blocks ≡ false) same fresh in
+        let new : is_named_in count blocks ≡ false = subst (λ (b : ℕ). is_named_in b blocks ≡ false) same fresh in
         rw new (omega (arith, unseen-more blocks block count))
     at false is lower =
         let under : block < count = grind (arith, nat_tests, is, below) in
-        unseen-other (is_among count blocks) (unseen blocks count) (unseen (blocks ++ block ∷ []) count) (lower under fresh)
+        unseen-other (is_named_in count blocks) (unseen blocks count) (unseen (blocks ++ block ∷ []) count) (lower under fresh)
 
 -- the walk from the head stands at a block: the reading is what the blocks passed come to, and what the walk from here on gives
 -- is what the whole walk gives
@@ -71,7 +71,7 @@ pub record Standing (words : List ℕ) (shape : Shape) (reading : Reading) (bloc
   pub place : Place
   pub agrees : ReadsUpTo shape reading place
   pub inside : is_in_log shape block ≡ true
-  pub fresh : is_among block place.before ≡ false
+  pub fresh : is_named_in block place.before ≡ false
   pub refuses : (rest : List ℕ) (why : BadImage) → RefusesFrom words shape place block rest why → WalkRefuses words shape why
   pub passes : (rest : List ℕ) → PassesFrom words shape place block rest → (whole : List ℕ) × Passes words shape whole × (end_place words shape whole ≡ end_from words shape place block rest)
 

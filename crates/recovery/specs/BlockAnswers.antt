@@ -4,7 +4,7 @@ use Rattle.block_table.specs.FileMap.{FileMap}
 use Rattle.log_image.specs.Image.{Shape, is_in_log, block_words}
 use Rattle.log_image.specs.Blocks.{link_of, is_snapshot, slots_of, is_closed, leads_on}
 use Rattle.opening_rules.specs.Checks.{check, first}
-use Rattle.opening_rules.specs.SlotChecks.{is_among}
+use Rattle.opening_rules.specs.SlotChecks.{is_named_in}
 use Rattle.opening_rules.specs.BlockChecks.{Place, is_bad_second, is_bad_third, is_bad_link, slot_checks, block_checks, place_after}
 use Rattle.opening_rules.specs.declared.refusals.BadImage.{BadImage}
 use Rattle.opening_rules.specs.declared.refusals.BadImage.TheVariants.{BadBase, BadLink}
@@ -34,7 +34,7 @@ ReadsSlots (Err why) words shape table taken chain place number block = first (s
 abbrev pub FollowsLink : Result (Option ℕ) BadImage → Shape → List ℕ → ℕ → List ℕ → Type 0
 FollowsLink (Ok None) shape passed number block = (is_bad_link shape passed block ≡ false) × (leads_on block ≡ false)
 FollowsLink (Ok (Some next)) shape passed number block =
-    (is_bad_link shape passed block ≡ false) × (leads_on block ≡ true) × (link_of block ≡ next) × (is_in_log shape next ≡ true) × (is_among next passed ≡ false)
+    (is_bad_link shape passed block ≡ false) × (leads_on block ≡ true) × (link_of block ≡ next) × (is_in_log shape next ≡ true) × (is_named_in next passed ≡ false)
 FollowsLink (Err why) shape passed number block = first (check (is_bad_link shape passed block) (BadLink number (link_of block)) ∷ []) ≡ Some why
 
 -- of the block of this number: the refusal of the first condition that holds; or none holds, its link leads so, and with the block

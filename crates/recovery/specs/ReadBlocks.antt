@@ -3,7 +3,7 @@ use Rattle.std.specs.Prelude.{ℕ, ◌≡◌, ◌++◌, ◌∷◌, [], true, fal
 use Rattle.log_image.specs.Image.{Shape, is_in_log, block_words}
 use Rattle.log_image.specs.Blocks.{link_of, leads_on}
 use Rattle.opening_rules.specs.Checks.{first}
-use Rattle.opening_rules.specs.SlotChecks.{is_among}
+use Rattle.opening_rules.specs.SlotChecks.{is_named_in}
 use Rattle.opening_rules.specs.BlockChecks.{Place, block_checks, place_after}
 use Rattle.recovery.specs.declared.refusals.OpenRefusal.{OpenRefusal}
 use Rattle.recovery.specs.declared.refusals.OpenRefusal.TheVariants.{Bad, NoMemory}
@@ -24,5 +24,5 @@ ReadsBlock (Ok (Some next)) words shape place block reading =
     × (leads_on (block_words words shape block) ≡ true)
     × (link_of (block_words words shape block) ≡ next)
     × (is_in_log shape next ≡ true)
-    × (is_among next (place.before ++ block ∷ []) ≡ false)
+    × (is_named_in next (place.before ++ block ∷ []) ≡ false)
     × ReadsUpTo shape reading (place_after words shape place block (block_words words shape block))

@@ -5,7 +5,7 @@ ghost use Rattle.log_entry.specs.Shape.{limit_of};
 ghost use Rattle.log_image.specs.Image.{Shape, total, words_in, is_in_log, shape_by};
 ghost use Rattle.log_image.specs.Blocks.{kind_of, is_snapshot as is_snapshot_block, base_of, entry_count, file_size, slots_of, is_closed, leads_on as is_followed};
 ghost use Rattle.opening_rules.specs.BlockChecks.{Place, is_first, is_bad_second as is_second_not_due, is_bad_third as is_third_not_due, place_after};
-ghost use Rattle.opening_rules.specs.SlotChecks.{is_among};
+ghost use Rattle.opening_rules.specs.SlotChecks.{is_named_in};
 ghost use Rattle.recovery.specs.Readings.{ReadsUpTo};
 ghost use Rattle.recovery.specs.Names.{HasNamed};
 ghost use Rattle.recovery.specs.Slots.{HasEntries};
@@ -164,7 +164,7 @@ fn leads_on(own: &[u64], closed: bool) -> bool
 /// Whether a link leads to no block of the log or spare area, or to one that was passed.
 fn is_bad_target(taken: &[u64], geometry: Geometry, link: u64) -> bool
     ensures inside { result ≡ false → is_in_log (shape_by geometry) link ≡ true }
-    ensures answer { (passed named : List ℕ) → HasNamed (shape_by geometry) taken.now passed named → result ≡ (not (is_in_log (shape_by geometry) link) || is_among link passed) }
+    ensures answer { (passed named : List ℕ) → HasNamed (shape_by geometry) taken.now passed named → result ≡ (not (is_in_log (shape_by geometry) link) || is_named_in link passed) }
 {
     if !rules::is_in_log(geometry, link) {
         return true;
@@ -233,7 +233,7 @@ pub fn read_block(
 ) -> Result<Option<u16>, OpenRefusal>
     requires whole { length words.now ≡ total (shape_by geometry) * words_in (shape_by geometry) }
     requires inside { is_in_log (shape_by geometry) block ≡ true }
-    ensures answer { (place : Place) → ReadsUpTo (shape_by geometry) reading.old place → is_among block place.before ≡ false →
+    ensures answer { (place : Place) → ReadsUpTo (shape_by geometry) reading.old place → is_named_in block place.before ≡ false →
         ReadsBlock result words.now (shape_by geometry) place block reading.new }
 {
     match check_block(reading, words, geometry, block) {

@@ -10,7 +10,7 @@ use Rattle.pmem_words.specs.Leads.{Leads, Keeps}
 use Rattle.pmem_words.specs.declared.machine.Turn.TheVariants.{Go, Done}
 use Rattle.pmem_words.proofs.LeadsLemmas.{leads_by}
 use Rattle.persistence.specs.Memory.{found_answer}
-use Rattle.log_core.specs.Views.{View, Ghost, Running, view_of, op_in}
+use Rattle.log_core.specs.Views.{View, Ghost, RunningCall, view_of, op_in}
 use Rattle.log_core.specs.Origin.{Origin, q_of_origin}
 use Rattle.log_core.specs.Cores.{Core, first_core}
 use Rattle.log_core.specs.Works.{Computes}
@@ -34,7 +34,7 @@ begun_self : (g : Ghost) (s : Seat) (number : ℕ) → ghost_begun g s s number 
 begun_self g s number = ap (λ (b : Bool). record g { call = call_if b g.call number }) (stays (op_in s))
 
 -- the number after a step is the one that its note has
-number_after : (b : Bool) (call : Running) (number : ℕ) → MayNumber b call.number number → number ≡ (call_if b call number).number
+number_after : (b : Bool) (call : RunningCall) (number : ℕ) → MayNumber b call.number number → number ≡ (call_if b call number).number
 number_after true call number may = refl
 number_after false call number may = may
 

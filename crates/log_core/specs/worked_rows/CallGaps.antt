@@ -19,7 +19,7 @@ use Rattle.log_core.specs.Steps.{StoresOwnPin, LoadsHead, LoadsImageWord, effect
 use Rattle.log_core.specs.Answers.{MayAdd}
 use Rattle.log_core.specs.Records.{BasesHold, NumbersFit, TaskFits, TailHolds, RecordHolds, NeverFall, collected_by}
 use Rattle.log_core.specs.Starts.{origin_of}
-use Rattle.log_core.specs.worked_rows.Samples.{small, image_a, stepping, with_seat}
+use Rattle.log_core.specs.worked_rows.Samples.{small, image_a, stepping, core_with_seat}
 use Rattle.log_core.specs.worked_rows.Rows.{kept, reader, asked, racing, sealed, collected, to_first, two_writes, image_c}
 use Rattle.log_core.specs.worked_rows.Refused.{seat_zero, SyncsOf}
 
@@ -167,7 +167,7 @@ HeadOfNoCollection =
 
 -- a write has a position that it will answer as synced, and puts its entry in
 abbrev pub syncing_writer : Core
-syncing_writer = with_seat racing 0 (record (seat_zero racing) { calling = record ((seat_zero racing).calling) { sync_to = Some 0 } })
+syncing_writer = core_with_seat racing 0 (record (seat_zero racing) { calling = record ((seat_zero racing).calling) { sync_to = Some 0 } })
 
 abbrev pub synced_writer : Core
 synced_writer = stepping image_a syncing_writer 0 (Exchange (Image 27) 0 to_first) 1 [] []

@@ -23,7 +23,7 @@ use Rattle.log_core.specs.Invariant.{KeptIn, Order, Owners, Contents, Pins, Givi
 use Rattle.log_core.specs.Walks.{WalksHold}
 use Rattle.log_core.specs.Owned.{OwnedAllHold}
 use Rattle.log_core.specs.Starts.{origin_of}
-use Rattle.log_core.specs.worked_rows.Samples.{small, small_shape, image_a, with_seat, with_map}
+use Rattle.log_core.specs.worked_rows.Samples.{small, small_shape, image_a, core_with_seat, with_map}
 use Rattle.log_core.specs.worked_rows.Rows.{no_blocks_mapped, fenced, stored_words, marked_words, written, linked, collected, synced, to_first, to_second, first_call, first_write}
 use Rattle.log_image.specs.Rows.{two_blocks}
 
@@ -76,13 +76,13 @@ abbrev pub seat_zero : Core → Seat
 seat_zero c = (view_of c.views 0).seat
 
 abbrev pub with_walk : Core → Walk → Core
-with_walk c walk = with_seat c 0 (record (seat_zero c) { walk = walk })
+with_walk c walk = core_with_seat c 0 (record (seat_zero c) { walk = walk })
 
 abbrev pub with_owned : Core → List OwnedBlock → Core
-with_owned c owned = with_seat c 0 (record (seat_zero c) { blocks = record ((seat_zero c).blocks) { owned = owned; contents = replicate (8 * length owned) 0 } })
+with_owned c owned = core_with_seat c 0 (record (seat_zero c) { blocks = record ((seat_zero c).blocks) { owned = owned; contents = replicate (8 * length owned) 0 } })
 
 abbrev pub with_giving : Core → Giving → Core
-with_giving c giving = with_seat c 0 (record (seat_zero c) { giving = giving })
+with_giving c giving = core_with_seat c 0 (record (seat_zero c) { giving = giving })
 
 abbrev pub with_done : Core → List Call → Core
 with_done c done = record c { views = slice_set c.views 0 (record (view_of c.views 0) { done = done }) }
@@ -126,7 +126,7 @@ OtherContentPossible =
 abbrev pub PinOfAnother : Type 0
 PinOfAnother =
     (PinsOf (with_pins written (0 ∷ 1 ∷ [])) → ⊥)
-    × (PinsOf (with_pins (with_seat written 0 (record (seat_zero written) { hold = record { head = 4294967299; pin = 2; generation = 2; valid = true } })) (2 ∷ 1 ∷ [])) → ⊥)
+    × (PinsOf (with_pins (core_with_seat written 0 (record (seat_zero written) { hold = record { head = 4294967299; pin = 2; generation = 2; valid = true } })) (2 ∷ 1 ∷ [])) → ⊥)
 
 -- views: the tail is not the log block with its base; the table is that of another position; a kept word is not the present one
 abbrev pub ViewOfAnother : Type 0
@@ -138,7 +138,7 @@ ViewOfAnother =
 
 -- the words of block 1 are stored and not marked, and it counts as filled
 abbrev pub counted_early : Core
-counted_early = with_seat stored_words 0 (record (seat_zero stored_words) { blocks = record ((seat_zero stored_words).blocks) { owned = record { block = 1; area = Data; filled = true; fenced = false } ∷ [] } })
+counted_early = core_with_seat stored_words 0 (record (seat_zero stored_words) { blocks = record ((seat_zero stored_words).blocks) { owned = record { block = 1; area = Data; filled = true; fenced = false } ∷ [] } })
 
 -- owned: a stored word is not the present one; a block counts as filled with its words not marked; a crash may leave another word in a
 -- fenced block

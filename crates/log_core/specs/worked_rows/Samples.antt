@@ -83,11 +83,11 @@ marking o c seat block zero = c
 marking o c seat block (suc word) = marking o (stepping o c seat (Mark (8 * block + word)) (number_in c seat) [] []) seat block word
 
 -- the core with another seat in a view, and with another map there
-abbrev pub with_seat : Core → ℕ → Seat → Core
-with_seat c seat s = record c { views = slice_set c.views seat (record (view_of c.views seat) { seat = s }) }
+abbrev pub core_with_seat : Core → ℕ → Seat → Core
+core_with_seat c seat s = record c { views = slice_set c.views seat (record (view_of c.views seat) { seat = s }) }
 
 abbrev pub with_map : Core → ℕ → List (Option ℕ) → Core
-with_map c seat blocks = with_seat c seat (record ((view_of c.views seat).seat) { walk = record ((view_of c.views seat).seat.walk) { map = blocks } })
+with_map c seat blocks = core_with_seat c seat (record ((view_of c.views seat).seat) { walk = record ((view_of c.views seat).seat.walk) { map = blocks } })
 
 -- the seat with a pin of the second generation
 abbrev pub repinned : Seat → Seat
