@@ -7,7 +7,7 @@ use Rattle.persistence.specs.Memory.{found_answer}
 use Rattle.log_core.specs.Views.{View, Ghost, view_of, op_in}
 use Rattle.log_core.specs.Origin.{Origin, q_of_origin}
 use Rattle.log_core.specs.Cores.{Core, first_core}
-use Rattle.log_core.specs.Works.{Work, Begins, Forgets, SetsWord, CountsFilled, DropsBases, NotesNamed, NotesHeld, Computes}
+use Rattle.log_core.specs.Works.{Work, Begins, Forgets, SetsWord, CountsFilled, DropsBases, NotesNamed, NotesHeld, TakesSeal, Computes}
 use Rattle.log_core.specs.Steps.{Note, Step, Does, Splits, Joins, Kind, kind_of_ask, effect, is_begun, ghost_begun, ghost_after}
 use Rattle.log_core.specs.After.{after}
 use Rattle.log_core.specs.May.{May, IsOfferedKind}
@@ -78,8 +78,8 @@ MayMakeStep o c (Does seat ask note) = MayDo o c seat ask note
 MayMakeStep o c (Splits seat) = MaySplit o c seat
 MayMakeStep o c (Joins seat other) = MayJoin c seat other
 
--- what a call may compute so far with a step that is offered: it begins, gives up its kept words or its bases, sets a word of an owned
--- block or counts one as filled, notes the blocks that its chain names, or notes the pin that holds blocks
+-- what a call may compute so far before a step that is offered: it begins, gives up its kept words or its bases, sets a word of an owned
+-- block or counts one as filled, notes the blocks that its chain names or the pin that holds blocks, or takes in a seal at its tail
 abbrev pub is_offered_work : Work → Bool
 is_offered_work (Begins task bytes) = true
 is_offered_work Forgets = true
@@ -88,13 +88,24 @@ is_offered_work (CountsFilled place) = true
 is_offered_work DropsBases = true
 is_offered_work (NotesNamed words) = true
 is_offered_work (NotesHeld held) = true
+is_offered_work TakesSeal = true
 is_offered_work _ = false
+
+-- and what it may compute after one: what needs nothing of the core
+abbrev pub is_offered_later : Work → Bool
+is_offered_later Forgets = true
+is_offered_later (SetsWord place word value) = true
+is_offered_later (CountsFilled place) = true
+is_offered_later DropsBases = true
+is_offered_later (NotesNamed words) = true
+is_offered_later (NotesHeld held) = true
+is_offered_later _ = false
 
 -- a step of an offered kind, with offered computations, and no record yet
 pub record DoesOffered (o : Origin) (c : Core) (seat : ℕ) (ask : Ask) (note : Note) (fits : MayDo o c seat ask note) : Type 0 where
   pub kind : IsOfferedKind note.before (kind_of_ask (q_of_origin o) seat ask)
   pub before : list_all is_offered_work fits.step.begins.works ≡ true
-  pub later : list_all is_offered_work fits.step.enters.computed.works ≡ true
+  pub later : list_all is_offered_later fits.step.enters.computed.works ≡ true
   pub no_record : note.adds ≡ []
 
 -- the steps that are proved to keep the invariant; no other is allowed yet

@@ -19,7 +19,7 @@ use Rattle.log_core.specs.Works.{ended}
 use Rattle.log_core.specs.Steps.{Note, Kind, LoadsHead, LoadsImageWord, StoresOwnPin, LoadsPinWord, LoadsBitmapWord, SetsBits, ClearsBits, StoresWord, MarksWord, Fences, is_begun, is_of_owned, ghost_begun, ghost_ended, view_after}
 use Rattle.log_core.specs.After.{stepped, began_if, owner_after, synced_to, synced_after}
 use Rattle.log_core.specs.May.{IsOwnMark}
-use Rattle.log_core.specs.Runs.{MayNumber, MayStep, ghost_at, effect_at, ghost_left, is_offered_work}
+use Rattle.log_core.specs.Runs.{MayNumber, MayStep, ghost_at, effect_at, ghost_left, is_offered_work, is_offered_later}
 use Rattle.log_core.specs.Invariant.{Invariant}
 use Rattle.log_core.specs.Knows.{with_seat, Knows}
 use Rattle.log_core.proofs.clauses.Leaves.{Leaves, Changes, moved, no_changes, pins_leave}
@@ -78,12 +78,12 @@ module _ (o : Origin) (c : Core) (n : ℕ) (inv : Invariant o c) (here : n < len
   ended_none [] last e = refl
   ended_none (call ∷ calls) last e = cc
 
-  module _ (kind : Kind) (f : ℕ) (step : MayStep o c mine kind note f) (before : list_all is_offered_work step.begins.works ≡ true) (later : list_all is_offered_work step.enters.computed.works ≡ true) (no_record : note.adds ≡ []) where
+  module _ (kind : Kind) (f : ℕ) (step : MayStep o c mine kind note f) (before : list_all is_offered_work step.begins.works ≡ true) (later : list_all is_offered_later step.enters.computed.works ≡ true) (no_record : note.adds ≡ []) where
     -- what holds at the ask
     pub at_ask : Knows o c n note.before (ghost_at mine note) (slice_index c.memory.now.pins n) (slice_index began n)
     at_ask = subst (λ (s : Seat). Knows o c n s (ghost_begun mine.ghost mine.seat s note.number) (slice_index c.memory.now.pins n) (slice_index (began_if (is_begun (op_in mine.seat) (op_in s)) c.began n (end_of o c.history)) n))
         (sym step.begins.gives)
-        (works_hold o c n (slice_index c.memory.now.pins n) note.number mine.seat step.begins.works before step.begins.may start (λ e. e)
+        (works_hold o c n (slice_index c.memory.now.pins n) note.number inv mine.seat step.begins.works before step.begins.may start (λ e. e)
         (subst (λ (s : Seat). MayNumber (is_begun (op_in mine.seat) (op_in s)) mine.ghost.call.number note.number) step.begins.gives step.number))
       where
         begun_same : (op : Option Op) → is_begun op op ≡ false
@@ -113,7 +113,7 @@ module _ (o : Origin) (c : Core) (n : ℕ) (inv : Invariant o c) (here : n < len
 
   -- the premises of a step of a kind
   abbrev Keeps : Kind → ℕ → Type 0 → Type 0
-  Keeps kind f Holds = (step : MayStep o c mine kind note f) → list_all is_offered_work step.begins.works ≡ true → list_all is_offered_work step.enters.computed.works ≡ true → note.adds ≡ [] → Holds
+  Keeps kind f Holds = (step : MayStep o c mine kind note f) → list_all is_offered_work step.begins.works ≡ true → list_all is_offered_later step.enters.computed.works ≡ true → note.adds ≡ [] → Holds
 
   -- the memory with other pin words
   abbrev with_pins : List ℕ → Memory
@@ -121,7 +121,7 @@ module _ (o : Origin) (c : Core) (n : ℕ) (inv : Invariant o c) (here : n < len
 
   -- a step that changes at most the own pin word
   pins_hold : (kind : Kind) (f : ℕ) (pins : List ℕ) → length pins ≡ length c.memory.now.pins → ((k : ℕ) → k ≢ n → slice_index pins k ≡ slice_index c.memory.now.pins k) →
-      (step : MayStep o c mine kind note f) (before : list_all is_offered_work step.begins.works ≡ true) (later : list_all is_offered_work step.enters.computed.works ≡ true) (no_record : note.adds ≡ []) →
+      (step : MayStep o c mine kind note f) (before : list_all is_offered_work step.begins.works ≡ true) (later : list_all is_offered_later step.enters.computed.works ≡ true) (no_record : note.adds ≡ []) →
       Knows o c n (effect_at mine note kind f) (ghost_left mine note kind f) (slice_index pins n) (slice_index began n) →
       Invariant o (record c { memory = with_pins pins; views = slice_set c.views n (view_after mine kind note f); began = began })
   pins_hold kind f pins same others step before later no_record facts =

@@ -10,7 +10,7 @@ use Rattle.log_core.specs.Views.{Ghost, view_of}
 use Rattle.log_core.specs.Origin.{Origin, shape, first_generation, LogBlock}
 use Rattle.log_core.specs.Files.{entries}
 use Rattle.log_core.specs.Cores.{Core, generation_at, is_named, nth_log, log_at, number_at, entries_used, is_sealed, is_full}
-use Rattle.log_core.specs.Works.{TakesSeal, HasFoundSlot, kept_at, tail_word, words_of, state_after_work}
+use Rattle.log_core.specs.Works.{TakesSeal, kept_at, tail_word, words_of, state_after_work}
 use Rattle.log_core.specs.Order.{nth_generation}
 use Rattle.log_core.specs.Walks.{WalkHolds, HasWalked, IsKeptWord}
 use Rattle.log_core.specs.Certain.{IsGrowing}
@@ -26,12 +26,12 @@ present_word some (inl same) = same
 present_word some (inr none) = absurd (some none.0)
 
 module _ (o : Origin) (c : Core) (n : ℕ) (s : Seat) (g : Ghost) (pin began : ℕ) (inv : Invariant o c) (f : Knows o c n s g pin began)
-    (may : HasFoundSlot g s × (tail_word s ≡ SEAL)) where
+    (valid_pin : s.hold.valid ≡ true) (ready : s.walk.ready ≡ true) (open_block : s.walk.tail_slot ≢ words_of s) (seal : tail_word s ≡ SEAL) where
   abbrev place : ℕ
   place = s.hold.generation - first_generation o
 
   kept : KeptIn o c place
-  kept = kept_place o c inv place (f.kept place may.0.valid (let low = f.pin_holds.from_first (f.pin_holds.valid_some may.0.valid) in omega (arith, low)))
+  kept = kept_place o c inv place (f.kept place valid_pin (let low = f.pin_holds.from_first (f.pin_holds.valid_some valid_pin) in omega (arith, low)))
 
   module _ (some : (view_of c.views n).parts ≢ []) where
     w : WalkHolds (around o c) s.hold s.walk
@@ -41,10 +41,10 @@ module _ (o : Origin) (c : Core) (n : ℕ) (s : Seat) (g : Ghost) (pin began : �
     same_words = ap Rattle.pmem_words.specs.Seats.q_of (f.fits some).geometry
 
     walked : HasWalked o (entries o c.history) c.logs s.walk
-    walked = w.walked (w.ready_walked may.0.ready).0 (w.ready_walked may.0.ready).1
+    walked = w.walked (w.ready_walked ready).0 (w.ready_walked ready).1
 
     log : TailLog c s.walk (nth_generation c.generations place).cut
-    log = tail_log o c inv place s.walk kept (w.ready_walked may.0.ready).0 walked (w.ready_base may.0.ready) (w.ready_tail may.0.ready)
+    log = tail_log o c inv place s.walk kept (w.ready_walked ready).0 walked (w.ready_base ready) (w.ready_tail ready)
 
     abbrev block : LogBlock
     block = nth_log c.logs (number_at c.logs s.walk.tail_base)
@@ -53,14 +53,14 @@ module _ (o : Origin) (c : Core) (n : ℕ) (s : Seat) (g : Ghost) (pin began : �
     found : SEAL ≡ slice_index c.memory.now.words (place_in (shape o) s.walk.tail_block s.walk.tail_slot)
     found = present_word (λ e. omega (arith, e)) (kept_holds
         (IsKeptWord (shape o) c.memory.now.words (λ named. is_named o c.logs (entries o c.history) (generation_at o c.generations s.hold.generation) named)
-        (Rattle.std.proofs.Common.drop (generation_at o c.generations s.hold.generation).cut c.logs)) s.walk.kept s.walk.tail_block s.walk.tail_slot SEAL (w.kept_words may.0.valid)
-        (some_word (kept_at s.walk.kept s.walk.tail_block s.walk.tail_slot) SEAL may.1 (λ e. omega (arith, e)))).word_is
+        (Rattle.std.proofs.Common.drop (generation_at o c.generations s.hold.generation).cut c.logs)) s.walk.kept s.walk.tail_block s.walk.tail_slot SEAL (w.kept_words valid_pin)
+        (some_word (kept_at s.walk.kept s.walk.tail_block s.walk.tail_slot) SEAL seal (λ e. omega (arith, e)))).word_is
 
     abbrev slot : ℕ
     slot = s.walk.tail_slot - 3
 
     unclosed : s.walk.tail_slot ≢ words_in (shape o)
-    unclosed e = may.0.inside (e ∙ sym same_words)
+    unclosed e = open_block (e ∙ sym same_words)
 
     used_same : entries_used block ≡ entries_used (log_at c.logs s.walk.tail_base)
     used_same = ap (λ (l : LogBlock). entries_used l) log.log_is

@@ -11,7 +11,8 @@ use Rattle.log_core.specs.Cores.{Core}
 use Rattle.log_core.specs.Works.{Work, Begins, KeepsTable, StartsFromLog, StartsFromSnapshot, ReadsRun, NextSnapshot, EndsReading, TakesEntry, TakesSeal, Follows, Forgets, OpensBase, AddsBaseWord, DropsBases, Lays, SetsWord, CountsFilled, NotesNamed, KeepsReplaced, NotesHeld, state_after_work, state_after_all_work, MayBegin, MayWorkAll, is_going_on}
 use Rattle.log_core.specs.Steps.{is_begun, ghost_begun}
 use Rattle.log_core.specs.After.{began_if}
-use Rattle.log_core.specs.Runs.{MayNumber, is_offered_work}
+use Rattle.log_core.specs.Runs.{MayNumber, is_offered_work, is_offered_later}
+use Rattle.log_core.specs.Invariant.{Invariant}
 use Rattle.log_core.specs.Knows.{Knows}
 use Rattle.log_core.proofs.Facts.{forgotten, forget_facts}
 use Rattle.log_core.proofs.kinds.Begun.{begun_facts}
@@ -20,6 +21,7 @@ use Rattle.log_core.proofs.kinds.CountsFilled.{count_filled_facts}
 use Rattle.log_core.proofs.kinds.DropsBases.{drop_facts}
 use Rattle.log_core.proofs.kinds.NotesNamed.{named_facts}
 use Rattle.log_core.proofs.kinds.NotesHeld.{held_facts}
+use Rattle.log_core.proofs.kinds.TakesSeal.{seal_facts}
 
 no_begin : (before now : Option Op) → now ≡ None → is_begun before now ≡ false
 no_begin None None e = refl
@@ -60,7 +62,7 @@ runs_on g s (ReadsRun ∷ works) offered may some = cc
 runs_on g s (NextSnapshot ∷ works) offered may some = cc
 runs_on g s (EndsReading ∷ works) offered may some = cc
 runs_on g s (TakesEntry ∷ works) offered may some = cc
-runs_on g s (TakesSeal ∷ works) offered may some = cc
+runs_on g s (TakesSeal ∷ works) offered may some = runs_on g (state_after_work s TakesSeal) works offered may.1 some
 runs_on g s (Follows ∷ works) offered may some = cc
 runs_on g s (OpensBase virt ∷ works) offered may some = cc
 runs_on g s (AddsBaseWord ∷ works) offered may some = cc
@@ -92,48 +94,51 @@ module _ (o : Origin) (c : Core) (n pin number : ℕ) where
       (subst (λ (g : Ghost). Knows o c n s g pin (slice_index (began_at s) n)) same facts) task bytes number
       (is_begun (op_in v.seat) (op_of task bytes)) may higher (begins_from_none (op_in v.seat) (op_of task bytes) (start may.none_runs)))
 
-  -- what a seat computes before a step
-  pub works_hold : (s : Seat) (works : List Work) → list_all is_offered_work works ≡ true → MayWorkAll v.ghost s works → FactsAt s → (op_in s ≡ None → op_in v.seat ≡ None) →
-      MayNumber (is_begun (op_in v.seat) (op_in (state_after_all_work s works))) v.ghost.call.number number → FactsAt (state_after_all_work s works)
-  works_hold s [] offered may facts start higher = facts
-  works_hold s (Begins task bytes ∷ works) offered may facts start higher =
-      works_hold (state_after_work s (Begins task bytes)) works offered may.1
-      (begin_one s task bytes facts start may.0
-      (λ begun. number_higher (is_begun (op_in v.seat) (op_in (state_after_all_work (state_after_work s (Begins task bytes)) works))) v.ghost.call.number number
-      (ap (λ (op : Option Op). is_begun (op_in v.seat) op) (runs_on v.ghost (state_after_work s (Begins task bytes)) works offered may.1 (begun_some (op_in v.seat) (op_of task bytes) begun)) ∙ begun)
-      higher))
-      (λ none. start may.0.none_runs) higher
-  works_hold s (Forgets ∷ works) offered may facts start higher =
-      works_hold (forgotten s) works offered may.1 (forget_facts o c n s (ghost_begun v.ghost v.seat s number) pin (slice_index (began_at s) n) facts) start higher
-  works_hold s (KeepsTable ∷ works) offered may facts start higher = cc
-  works_hold s (StartsFromLog ∷ works) offered may facts start higher = cc
-  works_hold s (StartsFromSnapshot ∷ works) offered may facts start higher = cc
-  works_hold s (ReadsRun ∷ works) offered may facts start higher = cc
-  works_hold s (NextSnapshot ∷ works) offered may facts start higher = cc
-  works_hold s (EndsReading ∷ works) offered may facts start higher = cc
-  works_hold s (TakesEntry ∷ works) offered may facts start higher = cc
-  works_hold s (TakesSeal ∷ works) offered may facts start higher = cc
-  works_hold s (Follows ∷ works) offered may facts start higher = cc
-  works_hold s (OpensBase virt ∷ works) offered may facts start higher = cc
-  works_hold s (AddsBaseWord ∷ works) offered may facts start higher = cc
-  works_hold s (DropsBases ∷ works) offered may facts start higher =
-      works_hold (state_after_work s DropsBases) works offered may.1 (drop_facts o c n s (ghost_begun v.ghost v.seat s number) pin (slice_index (began_at s) n) facts) start higher
-  works_hold s (Lays bytes ∷ works) offered may facts start higher = cc
-  works_hold s (SetsWord place word value ∷ works) offered may facts start higher =
-      works_hold (state_after_work s (SetsWord place word value)) works offered may.1
-      (set_word_facts o c n s (ghost_begun v.ghost v.seat s number) pin (slice_index (began_at s) n) place word value facts may.0) start higher
-  works_hold s (CountsFilled place ∷ works) offered may facts start higher =
-      works_hold (state_after_work s (CountsFilled place)) works offered may.1
-      (count_filled_facts o c n s (ghost_begun v.ghost v.seat s number) pin (slice_index (began_at s) n) place facts (record { owned = may.0.owned; each = may.0.each })) start higher
-  works_hold s (NotesNamed words ∷ works) offered may facts start higher =
-      works_hold (state_after_work s (NotesNamed words)) works offered may.1 (named_facts o c n s (ghost_begun v.ghost v.seat s number) pin (slice_index (began_at s) n) words facts may.0) start higher
-  works_hold s (KeepsReplaced ∷ works) offered may facts start higher = cc
-  works_hold s (NotesHeld held ∷ works) offered may facts start higher =
-      works_hold (state_after_work s (NotesHeld held)) works offered may.1 (held_facts o c n s (ghost_begun v.ghost v.seat s number) pin (slice_index (began_at s) n) held facts) start higher
+  module _ (inv : Invariant o c) where
+    -- what a seat computes before a step
+    pub works_hold : (s : Seat) (works : List Work) → list_all is_offered_work works ≡ true → MayWorkAll v.ghost s works → FactsAt s → (op_in s ≡ None → op_in v.seat ≡ None) →
+        MayNumber (is_begun (op_in v.seat) (op_in (state_after_all_work s works))) v.ghost.call.number number → FactsAt (state_after_all_work s works)
+    works_hold s [] offered may facts start higher = facts
+    works_hold s (Begins task bytes ∷ works) offered may facts start higher =
+        works_hold (state_after_work s (Begins task bytes)) works offered may.1
+        (begin_one s task bytes facts start may.0
+        (λ begun. number_higher (is_begun (op_in v.seat) (op_in (state_after_all_work (state_after_work s (Begins task bytes)) works))) v.ghost.call.number number
+        (ap (λ (op : Option Op). is_begun (op_in v.seat) op) (runs_on v.ghost (state_after_work s (Begins task bytes)) works offered may.1 (begun_some (op_in v.seat) (op_of task bytes) begun)) ∙ begun)
+        higher))
+        (λ none. start may.0.none_runs) higher
+    works_hold s (Forgets ∷ works) offered may facts start higher =
+        works_hold (forgotten s) works offered may.1 (forget_facts o c n s (ghost_begun v.ghost v.seat s number) pin (slice_index (began_at s) n) facts) start higher
+    works_hold s (KeepsTable ∷ works) offered may facts start higher = cc
+    works_hold s (StartsFromLog ∷ works) offered may facts start higher = cc
+    works_hold s (StartsFromSnapshot ∷ works) offered may facts start higher = cc
+    works_hold s (ReadsRun ∷ works) offered may facts start higher = cc
+    works_hold s (NextSnapshot ∷ works) offered may facts start higher = cc
+    works_hold s (EndsReading ∷ works) offered may facts start higher = cc
+    works_hold s (TakesEntry ∷ works) offered may facts start higher = cc
+    works_hold s (TakesSeal ∷ works) offered may facts start higher =
+        works_hold (state_after_work s TakesSeal) works offered may.1
+        (seal_facts o c n s (ghost_begun v.ghost v.seat s number) pin (slice_index (began_at s) n) inv facts may.0.0.valid may.0.0.ready may.0.0.inside may.0.1) start higher
+    works_hold s (Follows ∷ works) offered may facts start higher = cc
+    works_hold s (OpensBase virt ∷ works) offered may facts start higher = cc
+    works_hold s (AddsBaseWord ∷ works) offered may facts start higher = cc
+    works_hold s (DropsBases ∷ works) offered may facts start higher =
+        works_hold (state_after_work s DropsBases) works offered may.1 (drop_facts o c n s (ghost_begun v.ghost v.seat s number) pin (slice_index (began_at s) n) facts) start higher
+    works_hold s (Lays bytes ∷ works) offered may facts start higher = cc
+    works_hold s (SetsWord place word value ∷ works) offered may facts start higher =
+        works_hold (state_after_work s (SetsWord place word value)) works offered may.1
+        (set_word_facts o c n s (ghost_begun v.ghost v.seat s number) pin (slice_index (began_at s) n) place word value facts may.0) start higher
+    works_hold s (CountsFilled place ∷ works) offered may facts start higher =
+        works_hold (state_after_work s (CountsFilled place)) works offered may.1
+        (count_filled_facts o c n s (ghost_begun v.ghost v.seat s number) pin (slice_index (began_at s) n) place facts (record { owned = may.0.owned; each = may.0.each })) start higher
+    works_hold s (NotesNamed words ∷ works) offered may facts start higher =
+        works_hold (state_after_work s (NotesNamed words)) works offered may.1 (named_facts o c n s (ghost_begun v.ghost v.seat s number) pin (slice_index (began_at s) n) words facts may.0) start higher
+    works_hold s (KeepsReplaced ∷ works) offered may facts start higher = cc
+    works_hold s (NotesHeld held ∷ works) offered may facts start higher =
+        works_hold (state_after_work s (NotesHeld held)) works offered may.1 (held_facts o c n s (ghost_begun v.ghost v.seat s number) pin (slice_index (began_at s) n) held facts) start higher
 
 -- what a seat computes after a step: it gives up its kept words, sets words of owned blocks, and counts them as filled
 module _ (o : Origin) (c : Core) (n pin began : ℕ) (g : Ghost) where
-  pub later_hold : (s : Seat) (works : List Work) → list_all is_offered_work works ≡ true → list_all is_going_on works ≡ true → MayWorkAll g s works → Knows o c n s g pin began → Knows o c n (state_after_all_work s works) g pin began
+  pub later_hold : (s : Seat) (works : List Work) → list_all is_offered_later works ≡ true → list_all is_going_on works ≡ true → MayWorkAll g s works → Knows o c n s g pin began → Knows o c n (state_after_all_work s works) g pin began
   later_hold s [] offered going may facts = facts
   later_hold s (Forgets ∷ works) offered going may facts = later_hold (forgotten s) works offered going may.1 (forget_facts o c n s g pin began facts)
   later_hold s (Begins task bytes ∷ works) offered going may facts = cc

@@ -54,7 +54,7 @@ module _ (o : Origin) (start : Invariant o (first_core o)) (seat number : ℕ) w
       (λ (t : Seat). MayNumber (is_begun (op_in (view_of c.views seat).seat) (op_in t)) (view_of c.views seat).ghost.call.number number →
       Knows o c seat t (ghost_begun (view_of c.views seat).ghost (view_of c.views seat).seat t number) (slice_index c.memory.now.pins seat) (slice_index (began_if (is_begun (op_in (view_of c.views seat).seat) (op_in t)) c.began seat (end_of o c.history)) seat))
       (sym begins.gives)
-      (λ higher. works_hold o c seat (slice_index c.memory.now.pins seat) number (view_of c.views seat).seat begins.works offered begins.may
+      (λ higher. works_hold o c seat (slice_index c.memory.now.pins seat) number inv (view_of c.views seat).seat begins.works offered begins.may
       (rw (stays (op_in (view_of c.views seat).seat)) (facts_of o c seat inv here)) (λ e. e) higher)
       number_is
 
