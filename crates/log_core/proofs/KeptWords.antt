@@ -1,5 +1,5 @@
 -- A kept word that is found by its place is one of the list.
-use Rattle.std.proofs.Common.{◌≡◌, ◌≢◌, ◌==◌, ◌&&◌, ℕ, Bool, true, false, if◌then◌else◌, List, [], ◌∷◌, refl, ◌∙◌, ap, subst, Option, Some, None}
+use Rattle.std.proofs.Common.{◌≡◌, ◌≢◌, ◌⊎◌, inl, inr, ◌==◌, ◌&&◌, ℕ, Bool, true, false, if◌then◌else◌, List, [], ◌∷◌, refl, ◌∙◌, ap, subst, Option, Some, None}
 use Rattle.std.specs.List.{AllByRecursion}
 use Rattle.std.specs.Option.{option_or}
 use Rattle.std.proofs.lemmas.Bool.{eqb-true}
@@ -27,3 +27,8 @@ kept_holds P (k ∷ later) block slot word all is = go (kept_at later block slot
     go : (found : Option ℕ) → (found ≡ Some word → P (record { block = block; slot = slot; word = word })) → option_or found (if k.block == block && k.slot == slot then Some k.word else None) ≡ Some word → P (record { block = block; slot = slot; word = word })
     go (Some other) rest is = rest is
     go None rest is = here (k.block == block) (k.slot == slot) refl refl is
+
+-- a word that is not 0 was kept as it is now
+pub present_word : {found now : ℕ} {Listed : Type 0} → found ≢ 0 → (found ≡ now) ⊎ ((found ≡ 0) × Listed) → found ≡ now
+present_word some (inl same) = same
+present_word some (inr none) = absurd (some none.0)

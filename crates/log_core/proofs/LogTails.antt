@@ -31,6 +31,13 @@ log_found (log ∷ logs) base some = go (log.base == base) some (log_found logs 
       subst (λ (k : ℕ). nth_log (log ∷ logs) k ≡ log_at logs base) (let e : suc (number_at logs base) ≡ 1 + number_at logs base = omega arith in e) r.1,
     ))
 
+-- the log block of a number is the one with its base, where no earlier one has that
+pub log_at_base : (logs : List LogBlock) (number : ℕ) → number < length logs → ((other : ℕ) → other < number → (nth_log logs other).base ≢ (nth_log logs number).base) → log_at logs (nth_log logs number).base ≡ nth_log logs number
+log_at_base [] number inside apart = absurd (omega (arith, inside))
+log_at_base (log ∷ logs) zero inside apart = rw (eq-eqb log.base log.base refl) refl
+log_at_base (log ∷ logs) (suc number) inside apart = rw (ne_eqb log.base (nth_log logs number).base (apart 0 (omega arith)))
+    (log_at_base logs number (omega (arith, inside)) (λ other less. apart (suc other) (omega (arith, less))))
+
 -- used slots have no more entries than they are; where each is one, none is a seal; and the first is one, where it is neither empty nor a seal
 pub entries_short : (slots : List ℕ) → length (entry_words slots) ≤ length slots
 entries_short [] = omega arith
@@ -102,6 +109,10 @@ module _ (o : Origin) (c : Core) (inv : Invariant o c) where
       go : (b : Bool) → nat_lt number other ≡ b → other ≤ number
       go true e = (let rise = bases_rise other number (ltb-true number other e) there in absurd (omega (arith, rise, low)))
       go false e = (let late = ltb-false number other e in omega (arith, late))
+
+  -- so it is the one with its base
+  pub log_again : (number : ℕ) → number < length c.logs → log_at c.logs (nth number).base ≡ nth number
+  log_again number inside = log_at_base c.logs number inside (λ other less same. (let rise = bases_rise number other less inside in omega (arith, rise, same)))
 
   module _ (place number : ℕ) (kept : KeptIn o c place) (low : (nth_generation c.generations place).cut ≤ number) (inside : number < length c.logs) where
     -- the last log block's entries end at the end

@@ -7,7 +7,7 @@ use Rattle.persistence.specs.Memory.{found_answer}
 use Rattle.log_core.specs.Views.{View, Ghost, view_of, op_in}
 use Rattle.log_core.specs.Origin.{Origin, q_of_origin}
 use Rattle.log_core.specs.Cores.{Core, first_core}
-use Rattle.log_core.specs.Works.{Work, Begins, Forgets, SetsWord, CountsFilled, DropsBases, NotesNamed, NotesHeld, TakesSeal, Computes}
+use Rattle.log_core.specs.Works.{Work, Begins, Forgets, SetsWord, CountsFilled, DropsBases, NotesNamed, NotesHeld, TakesSeal, Follows, Computes}
 use Rattle.log_core.specs.Steps.{Note, Step, Does, Splits, Joins, Kind, kind_of_ask, effect, is_begun, ghost_begun, ghost_after}
 use Rattle.log_core.specs.After.{after}
 use Rattle.log_core.specs.May.{May, IsOfferedKind}
@@ -79,7 +79,8 @@ MayMakeStep o c (Splits seat) = MaySplit o c seat
 MayMakeStep o c (Joins seat other) = MayJoin c seat other
 
 -- what a call may compute so far before a step that is offered: it begins, gives up its kept words or its bases, sets a word of an owned
--- block or counts one as filled, notes the blocks that its chain names or the pin that holds blocks, or takes in a seal at its tail
+-- block or counts one as filled, notes the blocks that its chain names or the pin that holds blocks, or takes in a seal or
+-- a link at its tail
 abbrev pub is_offered_work : Work → Bool
 is_offered_work (Begins task bytes) = true
 is_offered_work Forgets = true
@@ -89,6 +90,7 @@ is_offered_work DropsBases = true
 is_offered_work (NotesNamed words) = true
 is_offered_work (NotesHeld held) = true
 is_offered_work TakesSeal = true
+is_offered_work Follows = true
 is_offered_work _ = false
 
 -- and what it may compute after one: what needs nothing of the core

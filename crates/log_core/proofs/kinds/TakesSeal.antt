@@ -17,13 +17,8 @@ use Rattle.log_core.specs.Certain.{IsGrowing}
 use Rattle.log_core.specs.Invariant.{Invariant, KeptIn, around}
 use Rattle.log_core.specs.Knows.{Knows}
 use Rattle.log_core.proofs.Heads.{kept_place}
-use Rattle.log_core.proofs.KeptWords.{some_word, kept_holds}
+use Rattle.log_core.proofs.KeptWords.{some_word, present_word, kept_holds}
 use Rattle.log_core.proofs.LogTails.{TailLog, tail_log, entries_short, sealed_at, sealed_short}
-
--- a word that is not 0 was kept as it is now
-present_word : {found now : ℕ} {Listed : Type 0} → found ≢ 0 → (found ≡ now) ⊎ ((found ≡ 0) × Listed) → found ≡ now
-present_word some (inl same) = same
-present_word some (inr none) = absurd (some none.0)
 
 module _ (o : Origin) (c : Core) (n : ℕ) (s : Seat) (g : Ghost) (pin began : ℕ) (inv : Invariant o c) (f : Knows o c n s g pin began)
     (valid_pin : s.hold.valid ≡ true) (ready : s.walk.ready ≡ true) (open_block : s.walk.tail_slot ≢ words_of s) (seal : tail_word s ≡ SEAL) where

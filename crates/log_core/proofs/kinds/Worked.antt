@@ -22,6 +22,7 @@ use Rattle.log_core.proofs.kinds.DropsBases.{drop_facts}
 use Rattle.log_core.proofs.kinds.NotesNamed.{named_facts}
 use Rattle.log_core.proofs.kinds.NotesHeld.{held_facts}
 use Rattle.log_core.proofs.kinds.TakesSeal.{seal_facts}
+use Rattle.log_core.proofs.kinds.Follows.{follow_facts}
 
 no_begin : (before now : Option Op) → now ≡ None → is_begun before now ≡ false
 no_begin None None e = refl
@@ -63,7 +64,7 @@ runs_on g s (NextSnapshot ∷ works) offered may some = cc
 runs_on g s (EndsReading ∷ works) offered may some = cc
 runs_on g s (TakesEntry ∷ works) offered may some = cc
 runs_on g s (TakesSeal ∷ works) offered may some = runs_on g (state_after_work s TakesSeal) works offered may.1 some
-runs_on g s (Follows ∷ works) offered may some = cc
+runs_on g s (Follows ∷ works) offered may some = runs_on g (state_after_work s Follows) works offered may.1 some
 runs_on g s (OpensBase virt ∷ works) offered may some = cc
 runs_on g s (AddsBaseWord ∷ works) offered may some = cc
 runs_on g s (DropsBases ∷ works) offered may some = runs_on g (state_after_work s DropsBases) works offered may.1 some
@@ -118,7 +119,9 @@ module _ (o : Origin) (c : Core) (n pin number : ℕ) where
     works_hold s (TakesSeal ∷ works) offered may facts start higher =
         works_hold (state_after_work s TakesSeal) works offered may.1
         (seal_facts o c n s (ghost_begun v.ghost v.seat s number) pin (slice_index (began_at s) n) inv facts may.0.0.valid may.0.0.ready may.0.0.inside may.0.1) start higher
-    works_hold s (Follows ∷ works) offered may facts start higher = cc
+    works_hold s (Follows ∷ works) offered may facts start higher =
+        works_hold (state_after_work s Follows) works offered may.1
+        (follow_facts o c n s (ghost_begun v.ghost v.seat s number) pin (slice_index (began_at s) n) inv facts may.0.valid may.0.ready may.0.at_end may.0.linked) start higher
     works_hold s (OpensBase virt ∷ works) offered may facts start higher = cc
     works_hold s (AddsBaseWord ∷ works) offered may facts start higher = cc
     works_hold s (DropsBases ∷ works) offered may facts start higher =
