@@ -6,6 +6,7 @@ pub mod BitmapFacts
 pub mod clauses
 pub mod LogTails
 pub mod KeptWords
+pub mod Fronts
 pub mod kinds
 pub mod machines
 pub mod starts

@@ -1,0 +1,90 @@
+-- The kept table is taken again after a valid pin: the view is ready in the pinned chain.
+use Rattle.std.proofs.Common.{◌≡◌, ◌≢◌, ◌<◌, ◌≤◌, ◌+◌, ◌-◌, ℕ, true, false, List, [], refl, sym, ◌∙◌, ap, subst, arith, Option, Some, None}
+use Rattle.log_entry.specs.Fields.{field}
+use Rattle.log_entry.specs.declared.layouts.TheConstants.{HEAD_GENERATION, BLOCK_BASE}
+use Rattle.pmem_words.specs.Seats.{Seat}
+use Rattle.log_core.specs.Views.{Ghost, view_of}
+use Rattle.log_core.specs.Origin.{Origin, shape, first_generation}
+use Rattle.log_core.specs.Files.{entries}
+use Rattle.log_core.specs.Cores.{Core, generation_at, is_named}
+use Rattle.log_core.specs.Works.{KeepsTable, IsAtFront, kept_at, word_or_zero, front, front_base, state_after_work}
+use Rattle.log_core.specs.Order.{nth_generation, front_of}
+use Rattle.log_core.specs.Walks.{WalkHolds, IsKeptWord}
+use Rattle.log_core.specs.Invariant.{Invariant, KeptIn, around}
+use Rattle.log_core.specs.Knows.{Knows}
+use Rattle.log_core.proofs.Heads.{kept_place}
+use Rattle.log_core.proofs.Fronts.{head_front, front_says}
+use Rattle.log_core.proofs.KeptWords.{kept_holds}
+
+module _ (o : Origin) (c : Core) (n : ℕ) (s : Seat) (g : Ghost) (pin began : ℕ) (inv : Invariant o c) (f : Knows o c n s g pin began) (at_front : IsAtFront s) where
+  abbrev place : ℕ
+  place = s.hold.generation - first_generation o
+
+  some_generation : s.hold.generation ≢ 0
+  some_generation = f.pin_holds.valid_some at_front.valid
+
+  from_first : s.hold.generation ≡ first_generation o + place
+  from_first = (let low = f.pin_holds.from_first some_generation in omega (arith, low))
+
+  kept : KeptIn o c place
+  kept = kept_place o c inv place (f.kept place at_front.valid from_first)
+
+  front_is : front s ≡ front_of c.logs (nth_generation c.generations place)
+  front_is = head_front o c inv s.hold.head place (f.pin_holds.was (λ none. some_generation (sym at_front.pinned ∙ ap (field HEAD_GENERATION) none))) (at_front.pinned ∙ from_first)
+
+  module _ (some : (view_of c.views n).parts ≢ []) where
+    w : WalkHolds (around o c) s.hold s.walk
+    w = f.walk some
+
+    base_by : (found : Option ℕ) → kept_at s.walk.kept (front s) 1 ≡ found → found ≢ None → field BLOCK_BASE (word_or_zero found) ≡ (nth_generation c.generations place).base
+    base_by None is none = absurd (none refl)
+    base_by (Some word) is none = front_says o c inv place kept word
+        (subst (λ (block : ℕ). IsKeptWord (shape o) c.memory.now.words (λ named. is_named o c.logs (entries o c.history) (generation_at o c.generations s.hold.generation) named)
+        (Rattle.std.proofs.Common.drop (generation_at o c.generations s.hold.generation).cut c.logs) (record { block = block; slot = 1; word = word })) front_is
+        (kept_holds (IsKeptWord (shape o) c.memory.now.words (λ named. is_named o c.logs (entries o c.history) (generation_at o c.generations s.hold.generation) named)
+        (Rattle.std.proofs.Common.drop (generation_at o c.generations s.hold.generation).cut c.logs)) s.walk.kept (front s) 1 word (w.kept_words at_front.valid) is))
+
+    -- the front's base, as it was read, is the generation's
+    pub base_is : front_base s ≡ (nth_generation c.generations place).base
+    base_is = base_by (kept_at s.walk.kept (front s) 1) refl at_front.front
+
+  pub table_facts : s.walk.tail_block ≢ 0 → s.walk.reading ≡ false → front_base s ≤ s.walk.tail_base → Knows o c n (state_after_work s KeepsTable) g pin began
+  table_facts walked stopped low = record {
+    fits = λ some. (let r = f.fits some in record { number = r.number; seats = r.seats; geometry = r.geometry; first = r.first; found = r.found; named = r.named; map = r.map });
+    kept = f.kept;
+    owns = (let r = f.owns in record { owned = r.owned; left = r.left });
+    pin_is = f.pin_is;
+    pin_holds = f.pin_holds;
+    walk = λ some. (let w = f.walk some in record {
+      unwalked = w.unwalked;
+      to_end = w.to_end;
+      from_first = w.from_first;
+      to_current = w.to_current;
+      read = λ reading in_chain. (let r = w.read reading in_chain in record { block = r.block; from = r.from; upto = r.upto; table = r.table; size_is = r.size_is; position_is = r.position_is });
+      kept_words = w.kept_words;
+      unpinned = w.unpinned;
+      walked = λ some_block still. (let r = w.walked some_block still in record { table = r.table; size_is = r.size_is; base = r.base; block = r.block; from = r.from; upto = r.upto; inside = r.inside; at_end = r.at_end });
+      ready_walked = λ ready. (walked, stopped, some_generation);
+      ready_base = λ ready. base_is some;
+      ready_tail = λ ready. low;
+    });
+    owned = (let r = f.owned in record {
+      contents = r.contents;
+      areas = r.areas;
+      stored = r.stored;
+      filled = λ place inside filled. (let q = r.filled place inside filled in record { owned = q.owned; each = q.each });
+      fenced = r.fenced;
+    });
+    giving = f.giving;
+    scan_others = f.scan_others;
+    scan_self = f.scan_self;
+    scanned = f.scanned;
+    writes = (let r = f.writes in record { recorded = r.recorded; running = r.running });
+    writes_once = f.writes_once;
+    put = f.put;
+    same_put = f.same_put;
+    calls = (let r = f.calls in record { laid = r.laid; bases = r.bases; reading = r.reading; numbers = r.numbers; task = r.task });
+    tail = f.tail;
+    marks = f.marks;
+    syncs = (let r = f.syncs in record { to = r.to; marks = r.marks; valid = r.valid; answered = r.answered });
+  }
