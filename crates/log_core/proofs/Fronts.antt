@@ -4,7 +4,7 @@ use Rattle.std.proofs.lemmas.Bool.{and_parts, not-true}
 use Rattle.log_entry.specs.Fields.{field}
 use Rattle.log_entry.specs.Words.{head_word, block_word}
 use Rattle.log_entry.specs.declared.words.BlockKind.TheVariants.{Log, Snapshot}
-use Rattle.log_entry.specs.declared.layouts.TheConstants.{HEAD_BLOCK, HEAD_GENERATION, BLOCK_BASE}
+use Rattle.log_entry.specs.declared.layouts.TheConstants.{HEAD_BLOCK, HEAD_GENERATION, BLOCK_BASE, BLOCK_KIND, LOG}
 use Rattle.log_image.specs.Chains.{all_different, is_listed}
 use Rattle.persistence.specs.Memory.{cell}
 use Rattle.log_core.specs.Entries.{place_in, head_place}
@@ -27,6 +27,9 @@ log_base base small = omega (arith, small)
 
 snapshot_base : (base : ℕ) → base < 2 ^ 40 → field BLOCK_BASE (block_word (record { kind = Snapshot; base = base })) ≡ base
 snapshot_base base small = omega (arith, small)
+
+snapshot_kind : (base : ℕ) → base < 2 ^ 40 → field BLOCK_KIND (block_word (record { kind = Snapshot; base = base })) ≡ 2
+snapshot_kind base small = omega (arith, small)
 
 -- a block stands once among different ones
 not_again : (block : ℕ) (blocks : List ℕ) → all_different (block ∷ blocks) ≡ true → is_listed blocks block ≡ true → ⊥
@@ -92,3 +95,24 @@ module _ (o : Origin) (c : Core) (inv : Invariant o c) where
             let again : is_listed ((rest ++ logs) ++ data_names o (entries o c.history) g) block ≡ true = has_left (rest ++ logs) (data_names o (entries o c.history) g) block (has_right rest logs block (subst (λ (b : ℕ). is_listed logs b ≡ true) front_is log_word.1)) in
             let once = subst (λ (l : List ℕ). all_different ((l ++ logs) ++ data_names o (entries o c.history) g) ≡ true) some (inv.owners.once place kept).once in
             absurd (not_again block ((rest ++ logs) ++ data_names o (entries o c.history) g) once again))
+
+    -- where its kind is that of a log block, the chain has no snapshot
+    pub front_log : (word : ℕ) → IsKeptWord (shape o) c.memory.now.words (λ block. is_named o c.logs (entries o c.history) g block) (drop g.cut c.logs) (record { block = front_of c.logs g; slot = 1; word = word }) →
+        field BLOCK_KIND word ≡ LOG → length g.snapshots ≡ 0
+    front_log word held log = go g.snapshots refl held.word_is
+      where
+        go : (snapshots : List ℕ) → g.snapshots ≡ snapshots →
+            (word ≡ slice_index c.memory.now.words (place_in (shape o) (front_of c.logs g) 1)) ⊎ ((word ≡ 0) × (is_listed (log_blocks (drop g.cut c.logs)) (front_of c.logs g) ≡ true)) → length g.snapshots ≡ 0
+        go [] none word_is = ap (λ (l : List ℕ). length l) none
+        go (block ∷ rest) some (inr zero_word) = (let none : 0 ≡ LOG = sym (ap (field BLOCK_KIND) zero_word.0) ∙ log in absurd (omega (arith, none)))
+        go (block ∷ rest) some (inl same) =
+            (let front_is : front_of c.logs g ≡ block = ap (λ (l : List ℕ). first_or l (nth_log c.logs g.cut).block) some in
+            let listed : is_listed (g.snapshots ++ data_names o (entries o c.history) g) block ≡ true = has_left g.snapshots (data_names o (entries o c.history) g) block
+            (subst (λ (l : List ℕ). is_listed l block ≡ true) (sym some) (rw (Rattle.std.proofs.lemmas.Bool.eq-eqb block block refl) refl)) in
+            let certain = (inv.contents place kept).words block 1 listed wide in
+            let says = subst (λ (l : List ℕ). Rattle.log_core.specs.Snapshots.AreSnapshotBlocks (shape o) c.recorded g.base g.size l (nth_log c.logs g.cut).block) some
+            ((inv.contents place kept).snapshot.whole (subst (λ (l : List ℕ). 0 < length l) (sym some) (omega arith))).words in
+            let is : word ≡ block_word (record { kind = Snapshot; base = g.base }) = same ∙ (ap (λ (b : ℕ). slice_index c.memory.now.words (place_in (shape o) b 1)) front_is ∙ (certain.present ∙ says.1)) in
+            let kind : field BLOCK_KIND word ≡ 2 = ap (field BLOCK_KIND) is ∙ snapshot_kind g.base base_small in
+            let both : 2 ≡ LOG = sym kind ∙ log in
+            absurd (omega (arith, both)))

@@ -114,6 +114,16 @@ module _ (o : Origin) (c : Core) (inv : Invariant o c) where
   pub log_again : (number : ℕ) → number < length c.logs → log_at c.logs (nth number).base ≡ nth number
   log_again number inside = log_at_base c.logs number inside (λ other less same. (let rise = bases_rise number other less inside in omega (arith, rise, same)))
 
+  -- a log block of a kept generation's chain is not the header's
+  pub some_block : (place number : ℕ) → KeptIn o c place → (nth_generation c.generations place).cut ≤ number → number < length c.logs → (nth number).block ≢ 0
+  some_block place number kept low inside none =
+      (let taken = (inv.contents place kept).taken (nth number).block (log_is_named o c.logs (nth_generation c.generations place) number (entries o c.history) low inside) in
+      no_header (subst (λ (whose : Rattle.log_core.specs.Origin.Owner). IsStillTaken whose) (ap c.owner none ∙ inv.owners.bits.header) taken))
+    where
+      no_header : IsStillTaken Header → ⊥
+      no_header (inl chain) = cc
+      no_header (inr left) = (let e = left.1 in cc)
+
   module _ (place number : ℕ) (kept : KeptIn o c place) (low : (nth_generation c.generations place).cut ≤ number) (inside : number < length c.logs) where
     -- the last log block's entries end at the end
     last_end : number + 1 ≡ length c.logs → (nth number).base + entries_used (nth number) ≡ end_of o c.history
@@ -148,18 +158,12 @@ module _ (o : Origin) (c : Core) (inv : Invariant o c) where
     pub empty_link : (cell c.memory (place_in (shape o) (nth number).block 0)).present ≡ 0 → (nth number).base + entries_used (nth number) ≡ end_of o c.history
     empty_link empty = last_end (go (nat_lt (number + 1) (length c.logs)) refl)
       where
-        no_header : IsStillTaken Header → ⊥
-        no_header (inl chain) = cc
-        no_header (inr left) = (let e = left.1 in cc)
-
         go : (b : Bool) → nat_lt (number + 1) (length c.logs) ≡ b → number + 1 ≡ length c.logs
         go false e = (let late = ltb-false (number + 1) (length c.logs) e in omega (arith, late, inside))
         go true e =
             (let next : number + 1 < length c.logs = ltb-true (number + 1) (length c.logs) e in
             let zero_block : (nth (number + 1)).block ≡ 0 = sym (inv.order.chains place kept number low inside).link.present ∙ empty in
-            let named = log_is_named o c.logs (nth_generation c.generations place) (number + 1) (entries o c.history) (omega (arith, low)) next in
-            let taken = (inv.contents place kept).taken (nth (number + 1)).block named in
-            absurd (no_header (subst (λ (whose : Rattle.log_core.specs.Origin.Owner). IsStillTaken whose) (ap c.owner zero_block ∙ inv.owners.bits.header) taken)))
+            absurd (some_block place (number + 1) kept (omega (arith, low)) next zero_block))
 
 -- the log block of a walk's tail, by its number
 pub record TailLog (c : Core) (w : Walk) (cut : ℕ) : Type 0 where

@@ -21,3 +21,4 @@ pub mod OwnedPlaces
 pub mod SetOwned
 pub mod OwnedBut
 pub mod BitmapLeaves
+pub mod MovedWalks

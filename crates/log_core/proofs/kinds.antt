@@ -5,6 +5,7 @@ pub mod DropsBases
 pub mod NotesNamed
 pub mod NotesHeld
 pub mod KeepsTable
+pub mod StartsFromLog
 pub mod TakesSeal
 pub mod Follows
 pub mod StoresWord

@@ -1,35 +1,35 @@
 -- The kept table is taken again after a valid pin: the view is ready in the pinned chain.
-use Rattle.std.proofs.Common.{◌≡◌, ◌≢◌, ◌<◌, ◌≤◌, ◌+◌, ◌-◌, ℕ, true, false, List, [], refl, sym, ◌∙◌, ap, subst, arith, Option, Some, None}
+use Rattle.std.proofs.Common.{◌≡◌, ◌≢◌, ◌<◌, ◌≤◌, ◌+◌, ◌-◌, ℕ, true, false, List, [], length, refl, sym, ◌∙◌, ap, subst, arith, Option, Some, None}
 use Rattle.log_entry.specs.Fields.{field}
-use Rattle.log_entry.specs.declared.layouts.TheConstants.{HEAD_GENERATION, BLOCK_BASE}
+use Rattle.log_entry.specs.declared.layouts.TheConstants.{HEAD_GENERATION, BLOCK_BASE, BLOCK_KIND, LOG}
 use Rattle.pmem_words.specs.Seats.{Seat}
 use Rattle.log_core.specs.Views.{Ghost, view_of}
 use Rattle.log_core.specs.Origin.{Origin, shape, first_generation}
 use Rattle.log_core.specs.Files.{entries}
 use Rattle.log_core.specs.Cores.{Core, generation_at, is_named}
-use Rattle.log_core.specs.Works.{KeepsTable, IsAtFront, kept_at, word_or_zero, front, front_base, state_after_work}
+use Rattle.log_core.specs.Works.{KeepsTable, IsAtFront, kept_at, word_or_zero, front, front_base, front_kind, state_after_work}
 use Rattle.log_core.specs.Order.{nth_generation, front_of}
 use Rattle.log_core.specs.Walks.{WalkHolds, IsKeptWord}
 use Rattle.log_core.specs.Invariant.{Invariant, KeptIn, around}
 use Rattle.log_core.specs.Knows.{Knows}
 use Rattle.log_core.proofs.Heads.{kept_place}
-use Rattle.log_core.proofs.Fronts.{head_front, front_says}
+use Rattle.log_core.proofs.Fronts.{head_front, front_says, front_log}
 use Rattle.log_core.proofs.KeptWords.{kept_holds}
 
 module _ (o : Origin) (c : Core) (n : ℕ) (s : Seat) (g : Ghost) (pin began : ℕ) (inv : Invariant o c) (f : Knows o c n s g pin began) (at_front : IsAtFront s) where
-  abbrev place : ℕ
+  abbrev pub place : ℕ
   place = s.hold.generation - first_generation o
 
-  some_generation : s.hold.generation ≢ 0
+  pub some_generation : s.hold.generation ≢ 0
   some_generation = f.pin_holds.valid_some at_front.valid
 
-  from_first : s.hold.generation ≡ first_generation o + place
+  pub from_first : s.hold.generation ≡ first_generation o + place
   from_first = (let low = f.pin_holds.from_first some_generation in omega (arith, low))
 
-  kept : KeptIn o c place
+  pub kept : KeptIn o c place
   kept = kept_place o c inv place (f.kept place at_front.valid from_first)
 
-  front_is : front s ≡ front_of c.logs (nth_generation c.generations place)
+  pub front_is : front s ≡ front_of c.logs (nth_generation c.generations place)
   front_is = head_front o c inv s.hold.head place (f.pin_holds.was (λ none. some_generation (sym at_front.pinned ∙ ap (field HEAD_GENERATION) none))) (at_front.pinned ∙ from_first)
 
   module _ (some : (view_of c.views n).parts ≢ []) where
@@ -47,6 +47,18 @@ module _ (o : Origin) (c : Core) (n : ℕ) (s : Seat) (g : Ghost) (pin began : �
     -- the front's base, as it was read, is the generation's
     pub base_is : front_base s ≡ (nth_generation c.generations place).base
     base_is = base_by (kept_at s.walk.kept (front s) 1) refl at_front.front
+
+    kind_by : (found : Option ℕ) → kept_at s.walk.kept (front s) 1 ≡ found → field BLOCK_KIND (word_or_zero found) ≡ LOG → length (nth_generation c.generations place).snapshots ≡ 0
+    kind_by None is log = (let none : 0 ≡ LOG = log in absurd (omega (arith, none)))
+    kind_by (Some word) is log = front_log o c inv place kept word
+        (subst (λ (block : ℕ). IsKeptWord (shape o) c.memory.now.words (λ named. is_named o c.logs (entries o c.history) (generation_at o c.generations s.hold.generation) named)
+        (Rattle.std.proofs.Common.drop (generation_at o c.generations s.hold.generation).cut c.logs) (record { block = block; slot = 1; word = word })) front_is
+        (kept_holds (IsKeptWord (shape o) c.memory.now.words (λ named. is_named o c.logs (entries o c.history) (generation_at o c.generations s.hold.generation) named)
+        (Rattle.std.proofs.Common.drop (generation_at o c.generations s.hold.generation).cut c.logs)) s.walk.kept (front s) 1 word (w.kept_words at_front.valid) is)) log
+
+    -- where it is a log block the chain has no snapshot
+    pub front_kinds : front_kind s ≡ LOG → length (nth_generation c.generations place).snapshots ≡ 0
+    front_kinds log = kind_by (kept_at s.walk.kept (front s) 1) refl log
 
   pub table_facts : s.walk.tail_block ≢ 0 → s.walk.reading ≡ false → front_base s ≤ s.walk.tail_base → Knows o c n (state_after_work s KeepsTable) g pin began
   table_facts walked stopped low = record {

@@ -4,12 +4,12 @@ use Rattle.std.specs.List.{list_all}
 use Rattle.log_entry.specs.declared.calls.Op.{Op}
 use Rattle.pmem_words.specs.declared.keeps.Task.{Task}
 use Rattle.pmem_words.specs.Seats.{Seat}
-use Rattle.log_core.specs.Views.{View, Ghost, view_of, op_in, op_of}
+use Rattle.log_core.specs.Views.{View, Ghost, RunningCall, view_of, op_in, op_of}
 use Rattle.log_core.specs.Origin.{Origin}
 use Rattle.log_core.specs.Files.{end_of}
 use Rattle.log_core.specs.Cores.{Core}
 use Rattle.log_core.specs.Works.{Work, Begins, KeepsTable, StartsFromLog, StartsFromSnapshot, ReadsRun, NextSnapshot, EndsReading, TakesEntry, TakesSeal, Follows, Forgets, OpensBase, AddsBaseWord, DropsBases, Lays, SetsWord, CountsFilled, NotesNamed, KeepsReplaced, NotesHeld, state_after_work, state_after_all_work, MayBegin, MayWorkAll, is_going_on}
-use Rattle.log_core.specs.Steps.{is_begun, ghost_begun}
+use Rattle.log_core.specs.Steps.{is_begun, call_if, ghost_begun}
 use Rattle.log_core.specs.After.{began_if}
 use Rattle.log_core.specs.Runs.{MayNumber, is_offered_work, is_offered_later}
 use Rattle.log_core.specs.Invariant.{Invariant}
@@ -21,6 +21,8 @@ use Rattle.log_core.proofs.kinds.CountsFilled.{count_filled_facts}
 use Rattle.log_core.proofs.kinds.DropsBases.{drop_facts}
 use Rattle.log_core.proofs.kinds.NotesNamed.{named_facts}
 use Rattle.log_core.proofs.kinds.NotesHeld.{held_facts}
+use Rattle.log_core.proofs.kinds.KeepsTable.{table_facts}
+use Rattle.log_core.proofs.kinds.StartsFromLog.{log_facts}
 use Rattle.log_core.proofs.kinds.TakesSeal.{seal_facts}
 use Rattle.log_core.proofs.kinds.Follows.{follow_facts}
 
@@ -43,6 +45,11 @@ number_higher : (begun : Bool) (before number : ℕ) → begun ≡ true → MayN
 number_higher true before number e may = may
 number_higher false before number e may = cc
 
+-- a call that begins has laid no head either
+no_head_begun : (begun : Bool) (call : RunningCall) (number : ℕ) → call.put ≡ None → (call_if begun call number).put ≡ None
+no_head_begun true call number none = refl
+no_head_begun false call number none = none
+
 both_left : (a b : Bool) → (a && b) ≡ true → a ≡ true
 both_left true b e = refl
 both_left false b e = cc
@@ -56,8 +63,8 @@ runs_on : (g : Ghost) (s : Seat) (works : List Work) → list_all is_offered_wor
 runs_on g s [] offered may some = refl
 runs_on g s (Begins task bytes ∷ works) offered may some = absurd (some may.0.none_runs)
 runs_on g s (Forgets ∷ works) offered may some = runs_on g (forgotten s) works offered may.1 some
-runs_on g s (KeepsTable ∷ works) offered may some = cc
-runs_on g s (StartsFromLog ∷ works) offered may some = cc
+runs_on g s (KeepsTable ∷ works) offered may some = runs_on g (state_after_work s KeepsTable) works offered may.1 some
+runs_on g s (StartsFromLog ∷ works) offered may some = runs_on g (state_after_work s StartsFromLog) works offered may.1 some
 runs_on g s (StartsFromSnapshot ∷ works) offered may some = cc
 runs_on g s (ReadsRun ∷ works) offered may some = cc
 runs_on g s (NextSnapshot ∷ works) offered may some = cc
@@ -109,8 +116,17 @@ module _ (o : Origin) (c : Core) (n pin number : ℕ) where
         (λ none. start may.0.none_runs) higher
     works_hold s (Forgets ∷ works) offered may facts start higher =
         works_hold (forgotten s) works offered may.1 (forget_facts o c n s (ghost_begun v.ghost v.seat s number) pin (slice_index (began_at s) n) facts) start higher
-    works_hold s (KeepsTable ∷ works) offered may facts start higher = cc
-    works_hold s (StartsFromLog ∷ works) offered may facts start higher = cc
+    works_hold s (KeepsTable ∷ works) offered may facts start higher =
+        works_hold (state_after_work s KeepsTable) works offered may.1
+        (table_facts o c n s (ghost_begun v.ghost v.seat s number) pin (slice_index (began_at s) n) inv facts may.0.0 may.0.1 may.0.2 may.0.3) start higher
+    works_hold s (StartsFromLog ∷ works) offered may facts start higher =
+        works_hold (state_after_work s StartsFromLog) works offered may.1
+        (log_facts o c n s (ghost_begun v.ghost v.seat s number) pin (slice_index (began_at s) n) inv facts (record {
+          at_front = may.0.at_front;
+          free = (let r = may.0.free in record { not_won = r.not_won; none_laid = r.none_laid; no_sync = r.no_sync; no_head = no_head_begun (is_begun (op_in v.seat) (op_in s)) v.ghost.call number r.no_head });
+          no_bases = may.0.no_bases;
+          kind_is = may.0.kind_is;
+        })) start higher
     works_hold s (StartsFromSnapshot ∷ works) offered may facts start higher = cc
     works_hold s (ReadsRun ∷ works) offered may facts start higher = cc
     works_hold s (NextSnapshot ∷ works) offered may facts start higher = cc

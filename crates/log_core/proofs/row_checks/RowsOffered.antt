@@ -7,7 +7,7 @@ use Rattle.asks.specs.declared.ask.Ask.{Ask}
 use Rattle.log_core.specs.Views.{view_of, op_in}
 use Rattle.log_core.specs.Origin.{Origin, q_of_origin}
 use Rattle.log_core.specs.Cores.{Core}
-use Rattle.log_core.specs.Works.{Work, SetsWord, CountsFilled, state_after_all_work, MayWorkAll}
+use Rattle.log_core.specs.Works.{StartsFromLog, Work, SetsWord, CountsFilled, state_after_all_work, MayWorkAll}
 use Rattle.log_core.specs.Steps.{is_begun, ghost_begun, kind_of_ask}
 use Rattle.log_core.specs.May.{May, IsOfferedKind, OfHead, OfTrail, OfNewHead}
 use Rattle.log_core.specs.Runs.{MayMakeStep, Allowed, MayNumber, is_offered_work}
@@ -60,6 +60,9 @@ module _ (o : Origin) (c : Core) (seat number : ℕ) (ask : Ask) (works : List W
 pub offered_kinds : OfferedKinds
 offered_kinds = (
   step_allowed _ _ 0 _ _ [] (omega arith) (one_part 0) tt refl (record { valid = refl; named = refl }) tt refl,
+  step_allowed _ _ 0 _ _ (StartsFromLog ∷ []) (omega arith) (one_part 0)
+      (record { at_front = record { valid = refl; pinned = refl; front = λ none. cc }; free = record { not_won = refl; none_laid = refl; no_sync = refl; no_head = refl }; no_bases = refl; kind_is = refl }, tt)
+      refl (record { valid = refl; named = refl }) tt refl,
   step_allowed _ _ 0 _ _ [] (omega arith) (one_part 0) tt refl bitmap_may_be_read.0 tt refl,
   step_allowed _ _ 0 _ _ [] (omega arith) (one_part 0) tt refl bits_taken.7 tt refl,
   step_allowed _ _ 0 _ _ (SetsWord 0 0 170 ∷ []) (omega arith) (one_part 0) (record { owned = omega arith; inside = omega arith; small = omega arith }, tt) refl (record { owned = refl; small = omega arith }) tt refl,

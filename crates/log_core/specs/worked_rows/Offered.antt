@@ -8,7 +8,7 @@ use Rattle.persistence.specs.Memory.{cell}
 use Rattle.log_core.specs.Views.{view_of}
 use Rattle.log_core.specs.Origin.{Free, Header, InChain, OwnedBy}
 use Rattle.log_core.specs.Cores.{Core}
-use Rattle.log_core.specs.Works.{Work, SetsWord, CountsFilled, stored_at, state_after_work}
+use Rattle.log_core.specs.Works.{Work, StartsFromLog, SetsWord, CountsFilled, stored_at, state_after_work}
 use Rattle.log_core.specs.May.{MayLoadBitmapWord, MaySetBits}
 use Rattle.log_core.specs.Runs.{MayMakeStep, Allowed, IsReached}
 use Rattle.log_core.specs.Starts.{IsStart}
@@ -47,11 +47,16 @@ MayBeMade c seat ask works = MayMakeStep image_a c (step_of image_a c seat ask (
 abbrev pub IsAllowed : Core → ℕ → Ask → List Work → Type 0
 IsAllowed c seat ask works = Allowed image_a c (step_of image_a c seat ask (number_in c seat) works [] [])
 
--- allowed are a load of a word of the pinned chain, a load of a bitmap word, a setting of bits, a store into an own block, a mark of a word of it, a fence in a write, and a
+-- the second word of the first block of its chain is read
+abbrev pub front_read : Core
+front_read = stepping image_a pinned 0 (Load (Image 25)) 1 [] []
+
+-- allowed are a load of a word of the pinned chain, also where a walk begins at the first log block before it, a load of a bitmap word, a setting of bits, a store into an own block, a mark of a word of it, a fence in a write, and a
 -- clearing of the bits of own blocks
 abbrev pub OfferedKinds : Type 0
 OfferedKinds =
     IsAllowed pinned 0 (Load (Image 25)) []
+    × IsAllowed front_read 0 (Load (Image 27)) (StartsFromLog ∷ [])
     × IsAllowed walked 0 (Load (Map 0)) []
     × IsAllowed walked 0 (SetBits (Map 0) 2) []
     × IsAllowed taken_by_one 0 (Store (Image 8) 170) (SetsWord 0 0 170 ∷ [])

@@ -1,0 +1,72 @@
+-- A walk that moves, away from its tail, while its call may still take in what it finds: what a core knows of the seat.
+use Rattle.std.proofs.Common.{◌≡◌, ◌≢◌, ◌==◌, ◌&&◌, ◌+◌, ℕ, Bool, true, false, List, [], length, sym, ◌∙◌, ap, subst, arith, Some, None}
+use Rattle.log_entry.specs.ByteFile.{read}
+use Rattle.pmem_words.specs.declared.keeps.Task.{Task}
+use Rattle.pmem_words.specs.declared.keeps.Task.TheVariants.{Pread}
+use Rattle.pmem_words.specs.Seats.{Seat, Walk}
+use Rattle.log_core.specs.Views.{Ghost, view_of, op_in}
+use Rattle.log_core.specs.Origin.{Origin}
+use Rattle.log_core.specs.Files.{file_at}
+use Rattle.log_core.specs.Cores.{Core}
+use Rattle.log_core.specs.Works.{IsFree, laid_bytes, words_of}
+use Rattle.log_core.specs.Walks.{WalkHolds}
+use Rattle.log_core.specs.Records.{BasesHold, one_if, writes_at}
+use Rattle.log_core.specs.Invariant.{around}
+use Rattle.log_core.specs.Knows.{Knows}
+
+-- a read that has laid nothing has no bytes
+no_bytes : (task : Task) (offset count : ℕ) (bytes : List ℕ) → laid_bytes task bytes ≡ [] → task ≡ Pread offset count → bytes ≡ []
+no_bytes task offset count bytes none is = subst (λ (t : Task). laid_bytes t bytes ≡ []) is none
+
+pub move_facts : (o : Origin) (c : Core) (n : ℕ) (s : Seat) (g : Ghost) (pin began : ℕ) (w : Walk) → Knows o c n s g pin began → IsFree g s.calling → (op_in s ≢ None → s.calling.bases ≡ []) →
+    BasesHold o c.history (view_of c.views n).first (words_of s) w.position s.calling → w.at_tail ≡ false → length w.map ≡ 65536 → ((view_of c.views n).parts ≢ [] → WalkHolds (around o c) s.hold w) →
+    Knows o c n (record s { walk = w }) g pin began
+move_facts o c n s g pin began w f free no_bases bases away long walks = record {
+  fits = λ some. (let r = f.fits some in record { number = r.number; seats = r.seats; geometry = r.geometry; first = r.first; found = r.found; named = r.named; map = long });
+  kept = f.kept;
+  owns = (let r = f.owns in record { owned = r.owned; left = r.left });
+  pin_is = f.pin_is;
+  pin_holds = f.pin_holds;
+  walk = walks;
+  owned = (let r = f.owned in record {
+    contents = r.contents;
+    areas = r.areas;
+    stored = r.stored;
+    filled = λ place inside filled. (let q = r.filled place inside filled in record { owned = q.owned; each = q.each });
+    fenced = r.fenced;
+  });
+  giving = f.giving;
+  scan_others = f.scan_others;
+  scan_self = f.scan_self;
+  scanned = f.scanned;
+  writes = (let r = f.writes in record { recorded = r.recorded; running = λ won. (let both : true ≡ false = sym won ∙ free.not_won in cc) });
+  writes_once = λ some position low upto. ap (λ (won : Bool). writes_at position (view_of c.views n).done + one_if (won && (w.position == position))) free.not_won
+      ∙ (ap (λ (won : Bool). writes_at position (view_of c.views n).done + one_if (won && (s.walk.position == position))) (sym free.not_won) ∙ f.writes_once some position low upto);
+  put = record { own = λ head is. (let both : None ≡ Some head = sym free.no_head ∙ is in cc); found = f.put.found };
+  same_put = f.same_put;
+  calls = (let r = f.calls in record {
+    laid = λ offset count is. (let none = no_bytes s.calling.job offset count s.calling.bytes free.none_laid is in
+        none ∙ ap (λ (bytes : List ℕ). read (file_at o c.history w.position) offset (length bytes)) (sym none));
+    bases = bases;
+    reading = λ reading. (away, free.none_laid, free.not_won, free.no_sync, free.no_head, no_bases);
+    numbers = r.numbers;
+    task = r.task;
+  });
+  tail = λ at. (let both : true ≡ false = sym at ∙ away in cc);
+  marks = f.marks;
+  syncs = (let r = f.syncs in record {
+    to = λ position is. (let both : None ≡ Some position = sym free.no_sync ∙ is in cc);
+    marks = r.marks;
+    valid = r.valid;
+    answered = r.answered;
+  });
+}
+
+-- of no bases everything holds
+pub no_bases_hold : (o : Origin) (c : Core) (n : ℕ) (s : Seat) (g : Ghost) (pin began position : ℕ) → Knows o c n s g pin began → s.calling.bases ≡ [] → BasesHold o c.history (view_of c.views n).first (words_of s) position s.calling
+no_bases_hold o c n s g pin began position f none = (let r = f.calls.bases in record {
+  most = r.most;
+  whole = r.whole;
+  from_first = λ some. absurd (some none);
+  bytes = λ running place at inside. (let empty : length s.calling.bases ≡ 0 = ap (λ (l : List ℕ). length l) none in absurd (omega (arith, inside, empty)));
+})
