@@ -51,8 +51,8 @@ IsAllowed c seat ask works = Allowed image_a c (step_of image_a c seat ask (numb
 abbrev pub front_read : Core
 front_read = stepping image_a pinned 0 (Load (Image 25)) 1 [] []
 
--- allowed are a load of a word of the pinned chain, also where a walk begins at the first log block before it, a load of a bitmap word, a setting of bits, a store into an own block, a mark of a word of it, a fence in a write, and a
--- clearing of the bits of own blocks
+-- allowed are a load of a word of the pinned chain, also where a walk begins at the first log block before it, a load of a bitmap
+-- word, a setting of bits, a store into an own block, a mark of a word of it, a fence in a write, and a clearing of the bits of own blocks
 abbrev pub OfferedKinds : Type 0
 OfferedKinds =
     IsAllowed pinned 0 (Load (Image 25)) []
