@@ -1,10 +1,12 @@
 -- What holds of a seat's state by the invariant; and it stays where the seat gives up its kept words.
-use Rattle.std.proofs.Common.{◌<◌, ℕ, List, [], length, refl, arith, inr, slice_index}
-use Rattle.pmem_words.specs.Seats.{Seat}
+use Rattle.std.proofs.Common.{◌<◌, ◌≡◌, ◌≢◌, ℕ, Bool, true, false, List, [], length, refl, arith, inr, slice_index}
+use Rattle.pmem_words.specs.declared.keeps.KeptWord.{KeptWord}
+use Rattle.pmem_words.specs.Seats.{Seat, Walk}
 use Rattle.log_core.specs.Views.{View, Ghost, view_of}
 use Rattle.log_core.specs.Origin.{Origin}
 use Rattle.log_core.specs.Cores.{Core}
 use Rattle.log_core.specs.Walks.{WalkHolds}
+use Rattle.log_core.specs.Records.{StandsAtTail}
 use Rattle.log_core.specs.Invariant.{Invariant, around}
 use Rattle.log_core.specs.Knows.{Knows}
 use Rattle.log_core.proofs.clauses.Leaves.{moved}
@@ -36,34 +38,45 @@ module _ (o : Origin) (c : Core) (n : ℕ) (inv : Invariant o c) (here : n < len
     syncs = inv.syncs.views_hold n;
   }
 
+-- the walk with other kept words, elsewhere in the chain, with another base of its table, or found to be at the tail or not; its
+-- position and its table stay
+abbrev pub placed : Walk → List KeptWord → (block base slot : ℕ) → (ready : Bool) → (snapshot_base : ℕ) → (at_tail : Bool) → Walk
+placed w kept block base slot ready snapshot_base at_tail =
+    record w { kept = kept; tail_block = block; tail_base = base; tail_slot = slot; ready = ready; snapshot_base = snapshot_base; at_tail = at_tail }
+
 -- the seat with no kept words
 abbrev pub forgotten : Seat → Seat
 forgotten s = record s { walk = record (s.walk) { kept = [] } }
 
-module _ (o : Origin) (c : Core) (n : ℕ) (s : Seat) (g : Ghost) (pin began : ℕ) (f : Knows o c n s g pin began) where
-  walk_forgotten : WalkHolds (around o c) s.hold s.walk → WalkHolds (around o c) s.hold (forgotten s).walk
-  walk_forgotten w = record {
-    unwalked = w.unwalked;
-    to_end = w.to_end;
-    from_first = w.from_first;
-    to_current = w.to_current;
-    read = λ reading kept. (let r = w.read reading kept in record { block = r.block; from = r.from; upto = r.upto; table = r.table; size_is = r.size_is; position_is = r.position_is });
-    kept_words = λ valid. tt;
-    unpinned = λ invalid. refl;
-    walked = λ some stopped. (let r = w.walked some stopped in record { table = r.table; size_is = r.size_is; base = r.base; block = r.block; from = r.from; upto = r.upto; inside = r.inside; at_end = r.at_end });
-    ready_walked = w.ready_walked;
-    ready_base = w.ready_base;
-    ready_tail = w.ready_tail;
-  }
+-- without kept words, at the tail or not, and with a pin that may be valid no more, the walk is where it was
+pub without_kept : (o : Origin) (c : Core) (s : Seat) (pin : ℕ) (valid at_tail : Bool) → WalkHolds (around o c) s.hold s.walk →
+    WalkHolds (around o c) (record (s.hold) { pin = pin; valid = valid }) (record (s.walk) { kept = []; at_tail = at_tail })
+without_kept o c s pin valid at_tail w = record {
+  unwalked = w.unwalked;
+  to_end = w.to_end;
+  from_first = w.from_first;
+  to_current = w.to_current;
+  read = λ reading kept. (let r = w.read reading kept in record { block = r.block; from = r.from; upto = r.upto; table = r.table; size_is = r.size_is; position_is = r.position_is });
+  kept_words = λ valid. tt;
+  unpinned = λ invalid. refl;
+  walked = λ some stopped. (let r = w.walked some stopped in record { table = r.table; size_is = r.size_is; base = r.base; block = r.block; from = r.from; upto = r.upto; inside = r.inside; at_end = r.at_end });
+  ready_walked = w.ready_walked;
+  ready_base = w.ready_base;
+  ready_tail = w.ready_tail;
+}
 
-  pub forget_facts : Knows o c n (forgotten s) g pin began
-  forget_facts = record {
+module _ (o : Origin) (c : Core) (n : ℕ) (s : Seat) (g : Ghost) (pin began : ℕ) (f : Knows o c n s g pin began) where
+  pub place_facts : (kept : List KeptWord) (block base slot : ℕ) (ready : Bool) (snapshot_base : ℕ) (at_tail : Bool) → (s.walk.reading ≡ true → at_tail ≡ false) →
+      (at_tail ≡ true → StandsAtTail (view_of c.views n).first began s.walk.position block (view_of c.views n).done) →
+      ((view_of c.views n).parts ≢ [] → WalkHolds (around o c) s.hold (placed s.walk kept block base slot ready snapshot_base at_tail)) →
+      Knows o c n (record s { walk = placed s.walk kept block base slot ready snapshot_base at_tail }) g pin began
+  place_facts kept block base slot ready snapshot_base at_tail away tail walks = record {
     fits = λ some. (let r = f.fits some in record { number = r.number; seats = r.seats; geometry = r.geometry; first = r.first; found = r.found; named = r.named; map = r.map });
     kept = f.kept;
     owns = (let r = f.owns in record { owned = r.owned; left = r.left });
     pin_is = f.pin_is;
     pin_holds = f.pin_holds;
-    walk = λ some. walk_forgotten (f.walk some);
+    walk = walks;
     owned = (let r = f.owned in record {
       contents = r.contents;
       areas = r.areas;
@@ -79,11 +92,24 @@ module _ (o : Origin) (c : Core) (n : ℕ) (s : Seat) (g : Ghost) (pin began : �
     writes_once = f.writes_once;
     put = f.put;
     same_put = f.same_put;
-    calls = (let r = f.calls in record { laid = r.laid; bases = r.bases; reading = r.reading; numbers = r.numbers; task = r.task });
-    tail = f.tail;
+    calls = (let r = f.calls in record {
+      laid = r.laid;
+      bases = r.bases;
+      reading = λ reading. (let q = r.reading reading in (away reading, q.1, q.2, q.3, q.4, q.5));
+      numbers = r.numbers;
+      task = r.task;
+    });
+    tail = tail;
     marks = f.marks;
     syncs = (let r = f.syncs in record { to = r.to; marks = r.marks; valid = r.valid; answered = r.answered });
   }
+
+  pub stays_away : s.walk.reading ≡ true → s.walk.at_tail ≡ false
+  stays_away reading = (f.calls.reading reading).0
+
+  pub forget_facts : Knows o c n (forgotten s) g pin began
+  forget_facts = place_facts [] s.walk.tail_block s.walk.tail_base s.walk.tail_slot s.walk.ready s.walk.snapshot_base s.walk.at_tail stays_away f.tail
+      (λ some. without_kept o c s s.hold.pin s.hold.valid s.walk.at_tail (f.walk some))
 
 -- and with other pin words of the memory
 pub pins_known : (o : Origin) (c : Core) (n : ℕ) (s : Seat) (g : Ghost) (pin began : ℕ) (pins : List ℕ) → Knows o c n s g pin began →

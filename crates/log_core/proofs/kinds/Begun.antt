@@ -14,12 +14,12 @@ use Rattle.log_core.specs.Files.{file_at, entries}
 use Rattle.log_core.specs.Cores.{Core}
 use Rattle.log_core.specs.Works.{Begins, state_after_work, laid_bytes, MayBegin}
 use Rattle.log_core.specs.Steps.{call_if}
-use Rattle.log_core.specs.Walks.{WalkHolds}
 use Rattle.log_core.specs.Giving.{ScanHolds}
 use Rattle.log_core.specs.Records.{running_at, writes_at, one_if, mark_of, WritesOnce, CallHolds}
 use Rattle.log_core.specs.Synced.{SyncMarkHolds}
-use Rattle.log_core.specs.Invariant.{around, names_by}
+use Rattle.log_core.specs.Invariant.{names_by}
 use Rattle.log_core.specs.Knows.{with_seat, Knows}
+use Rattle.log_core.proofs.Facts.{without_kept}
 
 -- a read that begins has no bytes
 begins_bare : (task : Task) (bytes : List ℕ) (offset count : ℕ) → laid_bytes task bytes ≡ [] → task ≡ Pread offset count → bytes ≡ []
@@ -70,21 +70,6 @@ module _ (o : Origin) (c : Core) (n : ℕ) (s : Seat) (g : Ghost) (pin began now
   passed [] low high lt all = all
   passed (call ∷ calls) low high lt all = ((λ same. (let h = all.0 same in omega (arith, h, lt))), passed calls low high lt all.1)
 
-  walk_begun : WalkHolds (around o c) s.hold s.walk → WalkHolds (around o c) s.hold new.walk
-  walk_begun w = record {
-    unwalked = w.unwalked;
-    to_end = w.to_end;
-    from_first = w.from_first;
-    to_current = w.to_current;
-    read = λ reading kept. (let r = w.read reading kept in record { block = r.block; from = r.from; upto = r.upto; table = r.table; size_is = r.size_is; position_is = r.position_is });
-    kept_words = λ valid. tt;
-    unpinned = λ invalid. refl;
-    walked = λ some stopped. (let r = w.walked some stopped in record { table = r.table; size_is = r.size_is; base = r.base; block = r.block; from = r.from; upto = r.upto; inside = r.inside; at_end = r.at_end });
-    ready_walked = w.ready_walked;
-    ready_base = w.ready_base;
-    ready_tail = w.ready_tail;
-  }
-
   scan_begun : (k : ℕ) (h : Rattle.pmem_words.specs.Seats.Hold) → ScanHolds s.giving k h → ScanHolds new.giving k h
   scan_begun k h r = record { replaced = r.replaced; limbo = r.limbo }
 
@@ -117,7 +102,7 @@ module _ (o : Origin) (c : Core) (n : ℕ) (s : Seat) (g : Ghost) (pin began now
     owns = (let r = f.owns in record { owned = r.owned; left = r.left });
     pin_is = f.pin_is;
     pin_holds = f.pin_holds;
-    walk = λ some. walk_begun (f.walk some);
+    walk = λ some. without_kept o c s s.hold.pin s.hold.valid false (f.walk some);
     owned = (let r = f.owned in record {
       contents = r.contents;
       areas = r.areas;

@@ -12,6 +12,7 @@ use Rattle.log_core.specs.Order.{nth_generation, front_of}
 use Rattle.log_core.specs.Walks.{WalkHolds, IsKeptWord}
 use Rattle.log_core.specs.Invariant.{Invariant, KeptIn, around}
 use Rattle.log_core.specs.Knows.{Knows}
+use Rattle.log_core.proofs.Facts.{place_facts, stays_away}
 use Rattle.log_core.proofs.Heads.{kept_place}
 use Rattle.log_core.proofs.Fronts.{head_front, front_says, front_log}
 use Rattle.log_core.proofs.KeptWords.{kept_holds}
@@ -61,42 +62,18 @@ module _ (o : Origin) (c : Core) (n : ℕ) (s : Seat) (g : Ghost) (pin began : �
     front_kinds log = kind_by (kept_at s.walk.kept (front s) 1) refl log
 
   pub table_facts : s.walk.tail_block ≢ 0 → s.walk.reading ≡ false → front_base s ≤ s.walk.tail_base → Knows o c n (state_after_work s KeepsTable) g pin began
-  table_facts walked stopped low = record {
-    fits = λ some. (let r = f.fits some in record { number = r.number; seats = r.seats; geometry = r.geometry; first = r.first; found = r.found; named = r.named; map = r.map });
-    kept = f.kept;
-    owns = (let r = f.owns in record { owned = r.owned; left = r.left });
-    pin_is = f.pin_is;
-    pin_holds = f.pin_holds;
-    walk = λ some. (let w = f.walk some in record {
-      unwalked = w.unwalked;
-      to_end = w.to_end;
-      from_first = w.from_first;
-      to_current = w.to_current;
-      read = λ reading in_chain. (let r = w.read reading in_chain in record { block = r.block; from = r.from; upto = r.upto; table = r.table; size_is = r.size_is; position_is = r.position_is });
-      kept_words = w.kept_words;
-      unpinned = w.unpinned;
-      walked = λ some_block still. (let r = w.walked some_block still in record { table = r.table; size_is = r.size_is; base = r.base; block = r.block; from = r.from; upto = r.upto; inside = r.inside; at_end = r.at_end });
-      ready_walked = λ ready. (walked, stopped, some_generation);
-      ready_base = λ ready. base_is some;
-      ready_tail = λ ready. low;
-    });
-    owned = (let r = f.owned in record {
-      contents = r.contents;
-      areas = r.areas;
-      stored = r.stored;
-      filled = λ place inside filled. (let q = r.filled place inside filled in record { owned = q.owned; each = q.each });
-      fenced = r.fenced;
-    });
-    giving = f.giving;
-    scan_others = f.scan_others;
-    scan_self = f.scan_self;
-    scanned = f.scanned;
-    writes = (let r = f.writes in record { recorded = r.recorded; running = r.running });
-    writes_once = f.writes_once;
-    put = f.put;
-    same_put = f.same_put;
-    calls = (let r = f.calls in record { laid = r.laid; bases = r.bases; reading = r.reading; numbers = r.numbers; task = r.task });
-    tail = f.tail;
-    marks = f.marks;
-    syncs = (let r = f.syncs in record { to = r.to; marks = r.marks; valid = r.valid; answered = r.answered });
-  }
+  table_facts walked stopped low = place_facts o c n s g pin began f s.walk.kept s.walk.tail_block s.walk.tail_base s.walk.tail_slot true (front_base s) s.walk.at_tail
+      (stays_away o c n s g pin began f) f.tail
+      (λ some. (let w = f.walk some in record {
+        unwalked = w.unwalked;
+        to_end = w.to_end;
+        from_first = w.from_first;
+        to_current = w.to_current;
+        read = λ reading in_chain. (let r = w.read reading in_chain in record { block = r.block; from = r.from; upto = r.upto; table = r.table; size_is = r.size_is; position_is = r.position_is });
+        kept_words = w.kept_words;
+        unpinned = w.unpinned;
+        walked = λ some_block still. (let r = w.walked some_block still in record { table = r.table; size_is = r.size_is; base = r.base; block = r.block; from = r.from; upto = r.upto; inside = r.inside; at_end = r.at_end });
+        ready_walked = λ ready. (walked, stopped, some_generation);
+        ready_base = λ ready. base_is some;
+        ready_tail = λ ready. low;
+      }))

@@ -19,6 +19,7 @@ use Rattle.log_core.specs.Walks.{WalkHolds, HasWalked, IsKeptWord}
 use Rattle.log_core.specs.Records.{RecordHolds, StandsAtTail}
 use Rattle.log_core.specs.Invariant.{Invariant, KeptIn, around}
 use Rattle.log_core.specs.Knows.{Knows}
+use Rattle.log_core.proofs.Facts.{place_facts, stays_away}
 use Rattle.log_core.proofs.Each.{each_weaker, each_push}
 use Rattle.log_core.proofs.Heads.{kept_place}
 use Rattle.log_core.proofs.LogTails.{tail_log, empty_slot, empty_link}
@@ -167,36 +168,7 @@ module _ (o : Origin) (c : Core) (n : ℕ) (s : Seat) (g : Ghost) (pin began wor
   loaded = record s { walk = record (s.walk) { kept = kept_with (words_of s) s.walk.kept word value; at_tail = s.walk.at_tail || found } }
 
   pub image_facts : began ≤ end_of o c.history → Knows o c n loaded g pin began
-  image_facts low = record {
-    fits = λ some. (let r = f.fits some in record { number = r.number; seats = r.seats; geometry = r.geometry; first = r.first; found = r.found; named = r.named; map = r.map });
-    kept = f.kept;
-    owns = (let r = f.owns in record { owned = r.owned; left = r.left });
-    pin_is = f.pin_is;
-    pin_holds = f.pin_holds;
-    walk = λ some. walk_loaded (s.walk.at_tail || found);
-    owned = (let r = f.owned in record {
-      contents = r.contents;
-      areas = r.areas;
-      stored = r.stored;
-      filled = λ place inside filled. (let q = r.filled place inside filled in record { owned = q.owned; each = q.each });
-      fenced = r.fenced;
-    });
-    giving = f.giving;
-    scan_others = f.scan_others;
-    scan_self = f.scan_self;
-    scanned = f.scanned;
-    writes = (let r = f.writes in record { recorded = r.recorded; running = r.running });
-    writes_once = f.writes_once;
-    put = f.put;
-    same_put = f.same_put;
-    calls = (let r = f.calls in record {
-      laid = r.laid;
-      bases = r.bases;
-      reading = λ reading. (let q = r.reading reading in (or_from s.walk.at_tail found q.0 (not_found reading), q.1, q.2, q.3, q.4, q.5));
-      numbers = r.numbers;
-      task = r.task;
-    });
-    tail = λ at. either_of s.walk.at_tail found at f.tail (λ here. stands_at_tail low here);
-    marks = f.marks;
-    syncs = (let r = f.syncs in record { to = r.to; marks = r.marks; valid = r.valid; answered = r.answered });
-  }
+  image_facts low = place_facts o c n s g pin began f (kept_with (words_of s) s.walk.kept word value) s.walk.tail_block s.walk.tail_base s.walk.tail_slot s.walk.ready s.walk.snapshot_base (s.walk.at_tail || found)
+      (λ reading. or_from s.walk.at_tail found (stays_away o c n s g pin began f reading) (not_found reading))
+      (λ at. either_of s.walk.at_tail found at f.tail (λ here. stands_at_tail low here))
+      (λ some. walk_loaded (s.walk.at_tail || found))

@@ -7,32 +7,16 @@ use Rattle.log_core.specs.Views.{Ghost, view_of}
 use Rattle.log_core.specs.Origin.{Origin}
 use Rattle.log_core.specs.Cores.{Core}
 use Rattle.log_core.specs.May.{MayStoreOwnPin}
-use Rattle.log_core.specs.Walks.{WalkHolds}
 use Rattle.log_core.specs.Giving.{ScanHolds}
 use Rattle.log_core.specs.Records.{mark_of}
-use Rattle.log_core.specs.Invariant.{around}
 use Rattle.log_core.specs.Knows.{Knows}
+use Rattle.log_core.proofs.Facts.{without_kept}
 use Rattle.log_core.proofs.kinds.Begun.{no_notes}
 
 abbrev pub pinned_at : Seat → ℕ → Seat
 pinned_at s value = record s { hold = record (s.hold) { pin = value; valid = false }; walk = record (s.walk) { kept = [] } }
 
 module _ (o : Origin) (c : Core) (n : ℕ) (s : Seat) (g : Ghost) (pin began value : ℕ) (f : Knows o c n s g pin began) (may : MayStoreOwnPin s g.marks value) where
-  walk_pinned : WalkHolds (around o c) s.hold s.walk → WalkHolds (around o c) (pinned_at s value).hold (pinned_at s value).walk
-  walk_pinned w = record {
-    unwalked = w.unwalked;
-    to_end = w.to_end;
-    from_first = w.from_first;
-    to_current = w.to_current;
-    read = λ reading kept. (let r = w.read reading kept in record { block = r.block; from = r.from; upto = r.upto; table = r.table; size_is = r.size_is; position_is = r.position_is });
-    kept_words = λ valid. tt;
-    unpinned = λ invalid. refl;
-    walked = λ some stopped. (let r = w.walked some stopped in record { table = r.table; size_is = r.size_is; base = r.base; block = r.block; from = r.from; upto = r.upto; inside = r.inside; at_end = r.at_end });
-    ready_walked = w.ready_walked;
-    ready_base = w.ready_base;
-    ready_tail = w.ready_tail;
-  }
-
   -- with no valid pin there is none that a scan has missed
   unseen : (giving : Giving) → ScanHolds giving n (pinned_at s value).hold
   unseen giving = record { replaced = λ inside free valid. cc; limbo = λ inside free valid. cc }
@@ -47,7 +31,7 @@ module _ (o : Origin) (c : Core) (n : ℕ) (s : Seat) (g : Ghost) (pin began val
     owns = (let r = f.owns in record { owned = r.owned; left = r.left });
     pin_is = refl;
     pin_holds = (let r = f.pin_holds in record { was = r.was; valid_is = λ valid. cc; valid_some = λ valid. cc; from_first = r.from_first; to_current = r.to_current });
-    walk = λ some. walk_pinned (f.walk some);
+    walk = λ some. without_kept o c s value false s.walk.at_tail (f.walk some);
     owned = (let r = f.owned in record {
       contents = r.contents;
       areas = r.areas;

@@ -16,6 +16,7 @@ use Rattle.log_core.specs.Walks.{WalkHolds, HasWalked, IsKeptWord}
 use Rattle.log_core.specs.Certain.{IsGrowing}
 use Rattle.log_core.specs.Invariant.{Invariant, KeptIn, around}
 use Rattle.log_core.specs.Knows.{Knows}
+use Rattle.log_core.proofs.Facts.{place_facts, stays_away}
 use Rattle.log_core.proofs.Heads.{kept_place}
 use Rattle.log_core.proofs.KeptWords.{some_word, present_word, kept_holds}
 use Rattle.log_core.proofs.LogTails.{TailLog, tail_log, entries_short, sealed_at, sealed_short}
@@ -115,30 +116,5 @@ module _ (o : Origin) (c : Core) (n : ℕ) (s : Seat) (g : Ghost) (pin began : �
     }
 
   pub seal_facts : Knows o c n (state_after_work s TakesSeal) g pin began
-  seal_facts = record {
-    fits = λ some. (let r = f.fits some in record { number = r.number; seats = r.seats; geometry = r.geometry; first = r.first; found = r.found; named = r.named; map = r.map });
-    kept = f.kept;
-    owns = (let r = f.owns in record { owned = r.owned; left = r.left });
-    pin_is = f.pin_is;
-    pin_holds = f.pin_holds;
-    walk = λ some. walk_sealed some;
-    owned = (let r = f.owned in record {
-      contents = r.contents;
-      areas = r.areas;
-      stored = r.stored;
-      filled = λ place inside filled. (let q = r.filled place inside filled in record { owned = q.owned; each = q.each });
-      fenced = r.fenced;
-    });
-    giving = f.giving;
-    scan_others = f.scan_others;
-    scan_self = f.scan_self;
-    scanned = f.scanned;
-    writes = (let r = f.writes in record { recorded = r.recorded; running = r.running });
-    writes_once = f.writes_once;
-    put = f.put;
-    same_put = f.same_put;
-    calls = (let r = f.calls in record { laid = r.laid; bases = r.bases; reading = r.reading; numbers = r.numbers; task = r.task });
-    tail = f.tail;
-    marks = f.marks;
-    syncs = (let r = f.syncs in record { to = r.to; marks = r.marks; valid = r.valid; answered = r.answered });
-  }
+  seal_facts = place_facts o c n s g pin began f [] s.walk.tail_block s.walk.tail_base (words_of s) s.walk.ready s.walk.snapshot_base s.walk.at_tail (stays_away o c n s g pin began f) f.tail
+      (λ some. walk_sealed some)
