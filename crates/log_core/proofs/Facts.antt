@@ -1,14 +1,19 @@
 -- What holds of a seat's state by the invariant; and it stays where the seat gives up its kept words.
-use Rattle.std.proofs.Common.{◌<◌, ◌≡◌, ◌≢◌, ℕ, Bool, true, false, List, [], length, refl, arith, inr, slice_index}
+use Rattle.std.proofs.Common.{◌<◌, ◌≡◌, ◌≢◌, ℕ, Bool, true, false, List, [], length, refl, arith, inr, slice_index, Option}
+use Rattle.log_entry.specs.declared.calls.Held.{Held}
 use Rattle.pmem_words.specs.declared.keeps.KeptWord.{KeptWord}
-use Rattle.pmem_words.specs.Seats.{Seat, Walk}
+use Rattle.pmem_words.specs.Seats.{Seat, Walk, Calling}
+use Rattle.persistence.specs.Memory.{cell}
 use Rattle.log_core.specs.Views.{View, Ghost, view_of}
-use Rattle.log_core.specs.Origin.{Origin}
+use Rattle.log_core.specs.Origin.{Origin, q_of_origin}
+use Rattle.log_core.specs.Files.{entries}
 use Rattle.log_core.specs.Cores.{Core}
 use Rattle.log_core.specs.Walks.{WalkHolds}
-use Rattle.log_core.specs.Records.{StandsAtTail}
-use Rattle.log_core.specs.Invariant.{Invariant, around}
-use Rattle.log_core.specs.Knows.{Knows}
+use Rattle.log_core.specs.Giving.{ScanHolds}
+use Rattle.log_core.specs.Records.{WritesFit, WritesOnce, PutFits, CallHolds, TailHolds, StandsAtTail}
+use Rattle.log_core.specs.Synced.{SyncHolds}
+use Rattle.log_core.specs.Invariant.{Invariant, around, names_by}
+use Rattle.log_core.specs.Knows.{Knows, with_seat}
 use Rattle.log_core.proofs.clauses.Leaves.{moved}
 
 module _ (o : Origin) (c : Core) (n : ℕ) (inv : Invariant o c) (here : n < length c.views) where
@@ -65,18 +70,33 @@ without_kept o c s pin valid at_tail w = record {
   ready_tail = w.ready_tail;
 }
 
+-- what is to be shown of a seat where its walk or its call moved, or its scan or what it noted of one, and neither its pin nor its blocks
+pub record Moves (o : Origin) (c : Core) (n : ℕ) (s : Seat) (g : Ghost) (began : ℕ) : Type 0 where
+  pub map : (view_of c.views n).parts ≢ [] → length s.walk.map ≡ 65536
+  pub walk : (view_of c.views n).parts ≢ [] → WalkHolds (around o c) s.hold s.walk
+  pub scan_others : (k : ℕ) → k ≢ n → ScanHolds s.giving k (view_of c.views k).seat.hold
+  pub scan_self : ScanHolds s.giving n s.hold
+  pub writes : WritesFit o c.history (with_seat (view_of c.views n) s g)
+  pub writes_once : WritesOnce o c.history (with_seat (view_of c.views n) s g)
+  pub put : PutFits o c.generations (with_seat (view_of c.views n) s g)
+  pub calls : CallHolds o c.history (with_seat (view_of c.views n) s g)
+  pub tail : TailHolds (with_seat (view_of c.views n) s g) began
+  pub syncs : SyncHolds (q_of_origin o) (names_by o c.logs (entries o c.history) c.generations) (λ word. cell c.memory word) c.memory.past c.memory.pending c.synced n (with_seat (view_of c.views n) s g)
+
 module _ (o : Origin) (c : Core) (n : ℕ) (s : Seat) (g : Ghost) (pin began : ℕ) (f : Knows o c n s g pin began) where
-  pub place_facts : (kept : List KeptWord) (block base slot : ℕ) (ready : Bool) (snapshot_base : ℕ) (at_tail : Bool) → (s.walk.reading ≡ true → at_tail ≡ false) →
-      (at_tail ≡ true → StandsAtTail (view_of c.views n).first began s.walk.position block (view_of c.views n).done) →
-      ((view_of c.views n).parts ≢ [] → WalkHolds (around o c) s.hold (placed s.walk kept block base slot ready snapshot_base at_tail)) →
-      Knows o c n (record s { walk = placed s.walk kept block base slot ready snapshot_base at_tail }) g pin began
-  place_facts kept block base slot ready snapshot_base at_tail away tail walks = record {
-    fits = λ some. (let r = f.fits some in record { number = r.number; seats = r.seats; geometry = r.geometry; first = r.first; found = r.found; named = r.named; map = r.map });
+  -- the seat after such a move
+  abbrev pub moved_to : Walk → Calling → (pins_seen : List ℕ) → (limbo_held : Option Held) → Seat
+  moved_to walk calling pins_seen limbo_held = record s { walk = walk; calling = calling; giving = record (s.giving) { pins_seen = pins_seen; limbo_held = limbo_held } }
+
+  pub moved_facts : (walk : Walk) (calling : Calling) (pins_seen : List ℕ) (limbo_held : Option Held) → Moves o c n (moved_to walk calling pins_seen limbo_held) g began →
+      Knows o c n (moved_to walk calling pins_seen limbo_held) g pin began
+  moved_facts walk calling pins_seen limbo_held m = record {
+    fits = λ some. (let r = f.fits some in record { number = r.number; seats = r.seats; geometry = r.geometry; first = r.first; found = r.found; named = r.named; map = m.map some });
     kept = f.kept;
     owns = (let r = f.owns in record { owned = r.owned; left = r.left });
     pin_is = f.pin_is;
     pin_holds = f.pin_holds;
-    walk = walks;
+    walk = m.walk;
     owned = (let r = f.owned in record {
       contents = r.contents;
       areas = r.areas;
@@ -84,25 +104,59 @@ module _ (o : Origin) (c : Core) (n : ℕ) (s : Seat) (g : Ghost) (pin began : �
       filled = λ place inside filled. (let q = r.filled place inside filled in record { owned = q.owned; each = q.each });
       fenced = r.fenced;
     });
-    giving = f.giving;
-    scan_others = f.scan_others;
-    scan_self = f.scan_self;
+    giving = (let r = f.giving in record { replaced_past = r.replaced_past; replaced = r.replaced; limbo = r.limbo; replaced_sure = r.replaced_sure; limbo_sure = r.limbo_sure });
+    scan_others = m.scan_others;
+    scan_self = m.scan_self;
     scanned = f.scanned;
+    writes = m.writes;
+    writes_once = m.writes_once;
+    put = m.put;
+    same_put = f.same_put;
+    calls = m.calls;
+    tail = m.tail;
+    marks = f.marks;
+    syncs = m.syncs;
+  }
+
+  -- a seat whose scan moved, or what it noted of one
+  pub scan_facts : (pins_seen : List ℕ) (limbo_held : Option Held) → ((k : ℕ) → k ≢ n → ScanHolds (moved_to s.walk s.calling pins_seen limbo_held).giving k (view_of c.views k).seat.hold) →
+      ScanHolds (moved_to s.walk s.calling pins_seen limbo_held).giving n s.hold → Knows o c n (moved_to s.walk s.calling pins_seen limbo_held) g pin began
+  scan_facts pins_seen limbo_held others own = moved_facts s.walk s.calling pins_seen limbo_held (record {
+    map = λ some. (f.fits some).map;
+    walk = f.walk;
+    scan_others = others;
+    scan_self = own;
     writes = (let r = f.writes in record { recorded = r.recorded; running = r.running });
     writes_once = f.writes_once;
     put = f.put;
-    same_put = f.same_put;
-    calls = (let r = f.calls in record {
-      laid = r.laid;
-      bases = r.bases;
-      reading = λ reading. (let q = r.reading reading in (away reading, q.1, q.2, q.3, q.4, q.5));
-      numbers = r.numbers;
-      task = r.task;
-    });
-    tail = tail;
-    marks = f.marks;
+    calls = (let r = f.calls in record { laid = r.laid; bases = r.bases; reading = r.reading; numbers = r.numbers; task = r.task });
+    tail = f.tail;
     syncs = (let r = f.syncs in record { to = r.to; marks = r.marks; valid = r.valid; answered = r.answered });
-  }
+  })
+
+  pub place_facts : (kept : List KeptWord) (block base slot : ℕ) (ready : Bool) (snapshot_base : ℕ) (at_tail : Bool) → (s.walk.reading ≡ true → at_tail ≡ false) →
+      (at_tail ≡ true → StandsAtTail (view_of c.views n).first began s.walk.position block (view_of c.views n).done) →
+      ((view_of c.views n).parts ≢ [] → WalkHolds (around o c) s.hold (placed s.walk kept block base slot ready snapshot_base at_tail)) →
+      Knows o c n (record s { walk = placed s.walk kept block base slot ready snapshot_base at_tail }) g pin began
+  place_facts kept block base slot ready snapshot_base at_tail away tail walks =
+      moved_facts (placed s.walk kept block base slot ready snapshot_base at_tail) s.calling s.giving.pins_seen s.giving.limbo_held (record {
+        map = λ some. (f.fits some).map;
+        walk = walks;
+        scan_others = f.scan_others;
+        scan_self = f.scan_self;
+        writes = (let r = f.writes in record { recorded = r.recorded; running = r.running });
+        writes_once = f.writes_once;
+        put = f.put;
+        calls = (let r = f.calls in record {
+          laid = r.laid;
+          bases = r.bases;
+          reading = λ reading. (let q = r.reading reading in (away reading, q.1, q.2, q.3, q.4, q.5));
+          numbers = r.numbers;
+          task = r.task;
+        });
+        tail = tail;
+        syncs = (let r = f.syncs in record { to = r.to; marks = r.marks; valid = r.valid; answered = r.answered });
+      })
 
   pub stays_away : s.walk.reading ≡ true → s.walk.at_tail ≡ false
   stays_away reading = (f.calls.reading reading).0

@@ -13,6 +13,7 @@ use Rattle.log_core.specs.Walks.{WalkHolds}
 use Rattle.log_core.specs.Records.{BasesHold, one_if, writes_at}
 use Rattle.log_core.specs.Invariant.{around}
 use Rattle.log_core.specs.Knows.{Knows}
+use Rattle.log_core.proofs.Facts.{moved_facts}
 
 -- a read that has laid nothing has no bytes
 no_bytes : (task : Task) (offset count : ℕ) (bytes : List ℕ) → laid_bytes task bytes ≡ [] → task ≡ Pread offset count → bytes ≡ []
@@ -21,29 +22,15 @@ no_bytes task offset count bytes none is = subst (λ (t : Task). laid_bytes t by
 pub move_facts : (o : Origin) (c : Core) (n : ℕ) (s : Seat) (g : Ghost) (pin began : ℕ) (w : Walk) → Knows o c n s g pin began → IsFree g s.calling → (op_in s ≢ None → s.calling.bases ≡ []) →
     BasesHold o c.history (view_of c.views n).first (words_of s) w.position s.calling → w.at_tail ≡ false → length w.map ≡ 65536 → ((view_of c.views n).parts ≢ [] → WalkHolds (around o c) s.hold w) →
     Knows o c n (record s { walk = w }) g pin began
-move_facts o c n s g pin began w f free no_bases bases away long walks = record {
-  fits = λ some. (let r = f.fits some in record { number = r.number; seats = r.seats; geometry = r.geometry; first = r.first; found = r.found; named = r.named; map = long });
-  kept = f.kept;
-  owns = (let r = f.owns in record { owned = r.owned; left = r.left });
-  pin_is = f.pin_is;
-  pin_holds = f.pin_holds;
+move_facts o c n s g pin began w f free no_bases bases away long walks = moved_facts o c n s g pin began f w s.calling s.giving.pins_seen s.giving.limbo_held (record {
+  map = λ some. long;
   walk = walks;
-  owned = (let r = f.owned in record {
-    contents = r.contents;
-    areas = r.areas;
-    stored = r.stored;
-    filled = λ place inside filled. (let q = r.filled place inside filled in record { owned = q.owned; each = q.each });
-    fenced = r.fenced;
-  });
-  giving = f.giving;
   scan_others = f.scan_others;
   scan_self = f.scan_self;
-  scanned = f.scanned;
   writes = (let r = f.writes in record { recorded = r.recorded; running = λ won. (let both : true ≡ false = sym won ∙ free.not_won in cc) });
   writes_once = λ some position low upto. ap (λ (won : Bool). writes_at position (view_of c.views n).done + one_if (won && (w.position == position))) free.not_won
       ∙ (ap (λ (won : Bool). writes_at position (view_of c.views n).done + one_if (won && (s.walk.position == position))) (sym free.not_won) ∙ f.writes_once some position low upto);
   put = record { own = λ head is. (let both : None ≡ Some head = sym free.no_head ∙ is in cc); found = f.put.found };
-  same_put = f.same_put;
   calls = (let r = f.calls in record {
     laid = λ offset count is. (let none = no_bytes s.calling.job offset count s.calling.bytes free.none_laid is in
         none ∙ ap (λ (bytes : List ℕ). read (file_at o c.history w.position) offset (length bytes)) (sym none));
@@ -53,14 +40,13 @@ move_facts o c n s g pin began w f free no_bases bases away long walks = record 
     task = r.task;
   });
   tail = λ at. (let both : true ≡ false = sym at ∙ away in cc);
-  marks = f.marks;
   syncs = (let r = f.syncs in record {
     to = λ position is. (let both : None ≡ Some position = sym free.no_sync ∙ is in cc);
     marks = r.marks;
     valid = r.valid;
     answered = r.answered;
   });
-}
+})
 
 -- of no bases everything holds
 pub no_bases_hold : (o : Origin) (c : Core) (n : ℕ) (s : Seat) (g : Ghost) (pin began position : ℕ) → Knows o c n s g pin began → s.calling.bases ≡ [] → BasesHold o c.history (view_of c.views n).first (words_of s) position s.calling

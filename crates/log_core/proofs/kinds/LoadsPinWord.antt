@@ -11,6 +11,7 @@ use Rattle.log_core.specs.Pins.{PinHolds}
 use Rattle.log_core.specs.Giving.{ScanHolds}
 use Rattle.log_core.specs.Invariant.{Invariant}
 use Rattle.log_core.specs.Knows.{Knows}
+use Rattle.log_core.proofs.Facts.{scan_facts}
 use Rattle.log_core.proofs.clauses.OneView.{same_or_other}
 
 abbrev pub seen_at : Seat → ℕ → ℕ → Seat
@@ -56,30 +57,5 @@ module _ (o : Origin) (c : Core) (n : ℕ) (s : Seat) (g : Ghost) (pin began oth
   other_pin k apart same = is_others (λ e. apart (same ∙ e)) ∙ ap (λ (j : ℕ). (view_of c.views j).seat.hold.pin) (sym same)
 
   pub seen_facts : Knows o c n (seen_at s other found) g pin began
-  seen_facts = record {
-    fits = λ some. (let r = f.fits some in record { number = r.number; seats = r.seats; geometry = r.geometry; first = r.first; found = r.found; named = r.named; map = r.map });
-    kept = f.kept;
-    owns = (let r = f.owns in record { owned = r.owned; left = r.left });
-    pin_is = f.pin_is;
-    pin_holds = f.pin_holds;
-    walk = f.walk;
-    owned = (let r = f.owned in record {
-      contents = r.contents;
-      areas = r.areas;
-      stored = r.stored;
-      filled = λ place inside filled. (let q = r.filled place inside filled in record { owned = q.owned; each = q.each });
-      fenced = r.fenced;
-    });
-    giving = (let r = f.giving in record { replaced_past = r.replaced_past; replaced = r.replaced; limbo = r.limbo; replaced_sure = r.replaced_sure; limbo_sure = r.limbo_sure });
-    scan_others = λ k apart. scan_seen k (view_of c.views k).seat.hold (other_pin k apart) (inv.pins.holds k) (f.scan_others k apart);
-    scan_self = scan_seen n s.hold (λ same. is_own (sym same)) f.pin_holds f.scan_self;
-    scanned = f.scanned;
-    writes = (let r = f.writes in record { recorded = r.recorded; running = r.running });
-    writes_once = f.writes_once;
-    put = f.put;
-    same_put = f.same_put;
-    calls = (let r = f.calls in record { laid = r.laid; bases = r.bases; reading = r.reading; numbers = r.numbers; task = r.task });
-    tail = f.tail;
-    marks = f.marks;
-    syncs = (let r = f.syncs in record { to = r.to; marks = r.marks; valid = r.valid; answered = r.answered });
-  }
+  seen_facts = scan_facts o c n s g pin began f (take other s.giving.pins_seen ++ found ∷ []) s.giving.limbo_held
+      (λ k apart. scan_seen k (view_of c.views k).seat.hold (other_pin k apart) (inv.pins.holds k) (f.scan_others k apart)) (scan_seen n s.hold (λ same. is_own (sym same)) f.pin_holds f.scan_self)
