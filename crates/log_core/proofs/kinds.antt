@@ -6,8 +6,7 @@ pub mod NotesNamed
 pub mod NotesHeld
 pub mod KeepsTable
 pub mod StartsFromLog
-pub mod TakesSeal
-pub mod Follows
+pub mod AtTail
 pub mod StoresWord
 pub mod MarksWord
 pub mod Fences

@@ -23,8 +23,7 @@ use Rattle.log_core.proofs.kinds.NotesNamed.{named_facts}
 use Rattle.log_core.proofs.kinds.NotesHeld.{held_facts}
 use Rattle.log_core.proofs.kinds.KeepsTable.{table_facts}
 use Rattle.log_core.proofs.kinds.StartsFromLog.{log_facts}
-use Rattle.log_core.proofs.kinds.TakesSeal.{seal_facts}
-use Rattle.log_core.proofs.kinds.Follows.{follow_facts}
+use Rattle.log_core.proofs.kinds.AtTail.{seal_facts, follow_facts}
 
 no_begin : (before now : Option Op) → now ≡ None → is_begun before now ≡ false
 no_begin None None e = refl
