@@ -15,7 +15,9 @@ pub mod LoadsHead
 pub mod LoadsImageWord
 pub mod StoresOwnPin
 pub mod LoadsPinWord
+pub mod GoingOn
 pub mod Worked
+pub mod Entered
 pub mod LoadsBitmapWord
 pub mod SetsBits
 pub mod ClearsBits

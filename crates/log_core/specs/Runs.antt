@@ -78,7 +78,7 @@ MayMakeStep o c (Does seat ask note) = MayDo o c seat ask note
 MayMakeStep o c (Splits seat) = MaySplit o c seat
 MayMakeStep o c (Joins seat other) = MayJoin c seat other
 
--- what a call may compute so far before a step that is offered: it begins, gives up its kept words or its bases, sets a word of an owned
+-- what a call may compute so far, before a step and after one: it begins, gives up its kept words or its bases, sets a word of an owned
 -- block or counts one as filled, notes the blocks that its chain names or the pin that holds blocks, begins a walk at the
 -- front of its chain (with the table that it keeps, or at the first log block of a chain without a snapshot), or takes in a
 -- seal or a link at its tail
@@ -96,21 +96,11 @@ is_offered_work TakesSeal = true
 is_offered_work Follows = true
 is_offered_work _ = false
 
--- and what it may compute after one: what needs nothing of the core
-abbrev pub is_offered_later : Work → Bool
-is_offered_later Forgets = true
-is_offered_later (SetsWord place word value) = true
-is_offered_later (CountsFilled place) = true
-is_offered_later DropsBases = true
-is_offered_later (NotesNamed words) = true
-is_offered_later (NotesHeld held) = true
-is_offered_later _ = false
-
 -- a step of an offered kind, with offered computations, and no record yet
 pub record DoesOffered (o : Origin) (c : Core) (seat : ℕ) (ask : Ask) (note : Note) (fits : MayDo o c seat ask note) : Type 0 where
   pub kind : IsOfferedKind note.before (kind_of_ask (q_of_origin o) seat ask)
   pub before : list_all is_offered_work fits.step.begins.works ≡ true
-  pub later : list_all is_offered_later fits.step.enters.computed.works ≡ true
+  pub later : list_all is_offered_work fits.step.enters.computed.works ≡ true
   pub no_record : note.adds ≡ []
 
 -- the steps that are proved to keep the invariant; no other is allowed yet

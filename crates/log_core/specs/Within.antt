@@ -18,7 +18,7 @@ use Rattle.log_core.specs.Works.{Computes}
 use Rattle.log_core.specs.Steps.{Note, Does, kind_of_ask, effect, is_begun, ghost_begun, ghost_after, view_after}
 use Rattle.log_core.specs.May.{May, IsOfferedKind}
 use Rattle.log_core.specs.Answers.{Enters}
-use Rattle.log_core.specs.Runs.{MayNumber, Allowed, IsReached, is_offered_work, is_offered_later}
+use Rattle.log_core.specs.Runs.{MayNumber, Allowed, IsReached, is_offered_work}
 use Rattle.log_core.specs.Invariant.{Invariant}
 use Rattle.log_core.specs.Knows.{Knows}
 
@@ -71,7 +71,7 @@ ghost_found o seat ask s g f = ghost_after g s (seat_found o seat ask s g f) (ki
 -- what enters after a step, by computations that are offered
 pub record EntersOffered (g : Ghost) (e t : Seat) (adds : List Call) : Type 0 where
   pub enters : Enters g e t adds
-  pub offered : list_all is_offered_later enters.computed.works ≡ true
+  pub offered : list_all is_offered_work enters.computed.works ≡ true
 
 -- this may be found: it is the answer to the ask in some core in which the seat is not spent, and that knows it so
 pub record IsFound (o : Origin) (seat : ℕ) (s : Seat) (g : Ghost) (ask : Ask) (f : ℕ) : Type 0 where

@@ -14,7 +14,7 @@ use Rattle.log_core.specs.Cores.{Core, first_core}
 use Rattle.log_core.specs.Steps.{Note, Step, Does, Splits, Joins, Kind, LoadsHead, StoresOwnPin, LoadsImageWord, NoKind, ExchangesHead, ExchangesLink, ExchangesSlot, kind_of_ask, exchange_kind}
 use Rattle.log_core.specs.After.{stepped}
 use Rattle.log_core.specs.May.{IsOfferedKind}
-use Rattle.log_core.specs.Runs.{MayStep, IsRun, end, is_offered_work, is_offered_later}
+use Rattle.log_core.specs.Runs.{MayStep, IsRun, end, is_offered_work}
 use Rattle.log_core.specs.Invariant.{Invariant}
 use Rattle.log_core.specs.Laws.{StepKeeps}
 use Rattle.log_core.proofs.kinds.StepHolds.{head_holds, image_word_holds, pin_holds, seen_holds, bitmap_word_holds, set_bits_holds, clear_bits_holds, stored_holds, mark_holds, fence_holds}
@@ -36,7 +36,7 @@ module _ (o : Origin) (c : Core) (n : ℕ) (inv : Invariant o c) (here : n < len
   -- what a step of this kind, with this ask and what it finds, has to keep
   abbrev KeepsAsk : Ask → Kind → ℕ → ℕ → Type 0
   KeepsAsk ask kind f answered = IsOfferedKind note.before kind → (step : MayStep o c mine kind note answered) → list_all is_offered_work step.begins.works ≡ true →
-      list_all is_offered_later step.enters.computed.works ≡ true → note.adds ≡ [] → Invariant o (stepped o c n ask note kind f)
+      list_all is_offered_work step.enters.computed.works ≡ true → note.adds ≡ [] → Invariant o (stepped o c n ask note kind f)
 
   by_head : (word : ℕ) (b : Bool) → (word == head_place) ≡ b → KeepsAsk (Load (Image word)) (if b then LoadsHead else LoadsImageWord word) (slice_index c.memory.now.words word) (slice_index c.memory.now.words word)
   by_head word true e = subst (λ (w : ℕ). KeepsAsk (Load (Image w)) LoadsHead (slice_index c.memory.now.words w) (slice_index c.memory.now.words w)) (sym (eqb-true word head_place e))

@@ -1,9 +1,8 @@
 -- Each step that is offered keeps the invariant.
-use Rattle.std.proofs.Common.{◌≡◌, ◌≢◌, ◌<◌, ◌≤◌, ℕ, zero, suc, Bool, true, false, List, [], ◌∷◌, ◌++◌, length, refl, sym, ◌∙◌, ap, subst, arith, ⊎_elim, slice_index, slice_set, Option, Some, None, append-nil}
+use Rattle.std.proofs.Common.{◌≡◌, ◌≢◌, ◌<◌, ◌≤◌, ℕ, zero, suc, Bool, true, false, List, [], ◌∷◌, length, refl, sym, ◌∙◌, ap, subst, arith, ⊎_elim, slice_index, slice_set, Option, Some, None}
 use Rattle.std.specs.List.{list_all}
 use Rattle.std.proofs.lemmas.List.{get_or-set_same, get_or-set_other, length-set, set-get_or}
 use Rattle.log_entry.specs.declared.calls.Op.{Op}
-use Rattle.log_entry.specs.declared.calls.Call.{Call}
 use Rattle.pmem_words.specs.declared.keeps.Task.TheVariants.{Sync}
 use Rattle.pmem_words.specs.Seats.{Seat}
 use Rattle.asks.specs.declared.ask.Place.TheVariants.{Image, Pin, Map}
@@ -15,17 +14,17 @@ use Rattle.log_core.specs.Origin.{Origin, shape, Owner}
 use Rattle.log_core.specs.Files.{end_of}
 use Rattle.log_core.specs.Cores.{Core}
 use Rattle.log_core.specs.Owners.{BitsFit}
-use Rattle.log_core.specs.Works.{ended}
-use Rattle.log_core.specs.Steps.{Note, Kind, LoadsHead, LoadsImageWord, StoresOwnPin, LoadsPinWord, LoadsBitmapWord, SetsBits, ClearsBits, StoresWord, MarksWord, Fences, is_begun, is_of_owned, ghost_begun, ghost_ended, view_after}
+use Rattle.log_core.specs.Steps.{Note, Kind, LoadsHead, LoadsImageWord, StoresOwnPin, LoadsPinWord, LoadsBitmapWord, SetsBits, ClearsBits, StoresWord, MarksWord, Fences, is_begun, is_of_owned, ghost_begun, view_after}
 use Rattle.log_core.specs.After.{stepped, began_if, owner_after, synced_to, synced_after}
 use Rattle.log_core.specs.May.{IsOwnMark}
-use Rattle.log_core.specs.Runs.{MayNumber, MayStep, ghost_at, effect_at, ghost_left, is_offered_work, is_offered_later}
+use Rattle.log_core.specs.Runs.{MayNumber, MayStep, ghost_at, effect_at, ghost_left, is_offered_work}
 use Rattle.log_core.specs.Invariant.{Invariant}
-use Rattle.log_core.specs.Knows.{with_seat, Knows}
+use Rattle.log_core.specs.Knows.{Knows}
 use Rattle.log_core.proofs.clauses.Leaves.{Leaves, Changes, moved, no_changes, pins_leave}
 use Rattle.log_core.proofs.clauses.SetCore.{set_core}
 use Rattle.log_core.proofs.Facts.{facts_of, pins_known}
-use Rattle.log_core.proofs.kinds.Worked.{FactsAt, works_hold, later_hold}
+use Rattle.log_core.proofs.kinds.Worked.{FactsAt, works_hold}
+use Rattle.log_core.proofs.kinds.Entered.{entered}
 use Rattle.log_core.proofs.kinds.LoadsHead.{load_facts}
 use Rattle.log_core.proofs.kinds.LoadsImageWord.{image_facts}
 use Rattle.log_core.proofs.kinds.StoresOwnPin.{store_facts}
@@ -74,11 +73,7 @@ module _ (o : Origin) (c : Core) (n : ℕ) (inv : Invariant o c) (here : n < len
   began_lows : (k : ℕ) → slice_index began k ≤ end_of o c.history
   began_lows k = began_low (is_begun (op_in mine.seat) (op_in note.before)) c.began n (end_of o c.history) k (inv.records.begun k)
 
-  ended_none : (adds : List Call) (last : Seat) → adds ≡ [] → ended adds last ≡ last
-  ended_none [] last e = refl
-  ended_none (call ∷ calls) last e = cc
-
-  module _ (kind : Kind) (f : ℕ) (step : MayStep o c mine kind note f) (before : list_all is_offered_work step.begins.works ≡ true) (later : list_all is_offered_later step.enters.computed.works ≡ true) (no_record : note.adds ≡ []) where
+  module _ (kind : Kind) (f : ℕ) (step : MayStep o c mine kind note f) (before : list_all is_offered_work step.begins.works ≡ true) (later : list_all is_offered_work step.enters.computed.works ≡ true) (no_record : note.adds ≡ []) where
     -- what holds at the ask
     pub at_ask : Knows o c n note.before (ghost_at mine note) (slice_index c.memory.now.pins n) (slice_index began n)
     at_ask = subst (λ (s : Seat). Knows o c n s (ghost_begun mine.ghost mine.seat s note.number) (slice_index c.memory.now.pins n) (slice_index (began_if (is_begun (op_in mine.seat) (op_in s)) c.began n (end_of o c.history)) n))
@@ -93,27 +88,16 @@ module _ (o : Origin) (c : Core) (n : ℕ) (inv : Invariant o c) (here : n < len
         start : FactsAt o c n (slice_index c.memory.now.pins n) note.number mine.seat
         start = rw (begun_same (op_in mine.seat)) (facts_of o c n inv here)
 
-    -- what the call computes after it, and that it goes on
-    at_end : (core : Core) (pin : ℕ) → Knows o core n (effect_at mine note kind f) (ghost_left mine note kind f) pin (slice_index began n) → Knows o core n note.seat (ghost_left mine note kind f) pin (slice_index began n)
-    at_end core pin facts = subst (λ (s : Seat). Knows o core n s (ghost_left mine note kind f) pin (slice_index began n))
-        (sym (step.enters.seat_is ∙ (ended_none note.adds step.enters.last no_record ∙ step.enters.computed.gives)))
-        (later_hold o core n pin (slice_index began n) (ghost_left mine note kind f) (effect_at mine note kind f) step.enters.computed.works later step.enters.going_on step.enters.computed.may facts)
-
-    -- the view that the step leaves
-    view_is : view_after mine kind note f ≡ with_seat mine note.seat (ghost_left mine note kind f)
-    view_is = ap (λ (adds : List Call). record mine { seat = note.seat; ghost = ghost_ended adds (ghost_left mine note kind f); done = mine.done ++ adds }) no_record
-        ∙ ap (λ (calls : List Call). record mine { seat = note.seat; ghost = ghost_left mine note kind f; done = calls }) (append-nil mine.done)
-
     -- so the step keeps the invariant, where it leaves to the others what they know, and its effect is known
     pub kind_holds : (m : Memory) (owner : ℕ → Owner) → Leaves o c n m → Changes c n owner → BitsFit (shape o) m.now.taken owner →
         Knows o (moved c m owner) n (effect_at mine note kind f) (ghost_left mine note kind f) (slice_index m.now.pins n) (slice_index began n) →
         Invariant o (record c { memory = m; views = slice_set c.views n (view_after mine kind note f); owner = owner; began = began })
-    kind_holds m owner leaves changes bits facts = subst (λ (w : View). Invariant o (record c { memory = m; views = slice_set c.views n w; owner = owner; began = began })) (sym view_is)
-        (set_core o c n note.seat (ghost_left mine note kind f) m owner began inv here unspent leaves changes bits (at_end (moved c m owner) (slice_index m.now.pins n) facts) began_fits began_others began_lows)
+    kind_holds m owner leaves changes bits facts = entered o c n note kind f here unspent step (record c { memory = m; owner = owner; began = began })
+        (set_core o c n (effect_at mine note kind f) (ghost_left mine note kind f) m owner began inv here unspent leaves changes bits facts began_fits began_others began_lows) later no_record
 
   -- the premises of a step of a kind
   abbrev Keeps : Kind → ℕ → Type 0 → Type 0
-  Keeps kind f Holds = (step : MayStep o c mine kind note f) → list_all is_offered_work step.begins.works ≡ true → list_all is_offered_later step.enters.computed.works ≡ true → note.adds ≡ [] → Holds
+  Keeps kind f Holds = (step : MayStep o c mine kind note f) → list_all is_offered_work step.begins.works ≡ true → list_all is_offered_work step.enters.computed.works ≡ true → note.adds ≡ [] → Holds
 
   -- the memory with other pin words
   abbrev with_pins : List ℕ → Memory
@@ -121,7 +105,7 @@ module _ (o : Origin) (c : Core) (n : ℕ) (inv : Invariant o c) (here : n < len
 
   -- a step that changes at most the own pin word
   pins_hold : (kind : Kind) (f : ℕ) (pins : List ℕ) → length pins ≡ length c.memory.now.pins → ((k : ℕ) → k ≢ n → slice_index pins k ≡ slice_index c.memory.now.pins k) →
-      (step : MayStep o c mine kind note f) (before : list_all is_offered_work step.begins.works ≡ true) (later : list_all is_offered_later step.enters.computed.works ≡ true) (no_record : note.adds ≡ []) →
+      (step : MayStep o c mine kind note f) (before : list_all is_offered_work step.begins.works ≡ true) (later : list_all is_offered_work step.enters.computed.works ≡ true) (no_record : note.adds ≡ []) →
       Knows o c n (effect_at mine note kind f) (ghost_left mine note kind f) (slice_index pins n) (slice_index began n) →
       Invariant o (record c { memory = with_pins pins; views = slice_set c.views n (view_after mine kind note f); began = began })
   pins_hold kind f pins same others step before later no_record facts =

@@ -7,7 +7,7 @@ use Rattle.pmem_words.specs.declared.machine.Turn.{Turn}
 use Rattle.pmem_words.specs.declared.machine.Turn.TheVariants.{Go, Done}
 use Rattle.log_core.specs.Views.{Ghost}
 use Rattle.log_core.specs.Works.{Work, MayWorkAll, state_after_all_work, is_going_on}
-use Rattle.log_core.specs.Runs.{is_offered_later}
+use Rattle.log_core.specs.Runs.{is_offered_work}
 use Rattle.log_core.specs.Within.{no_record, adds_at, EntersOffered}
 
 -- a part of a call adds no record
@@ -27,7 +27,7 @@ pub enters_turn : {Out : Type 0} → (g : Ghost) (e t : Seat) (turn : Turn Out) 
 enters_turn g e t turn same = subst (λ (adds : List Call). EntersOffered g e t adds) (sym (none_at t turn)) (enters_same g e t same)
 
 -- where the machine computes after the step
-pub enters_works : (g : Ghost) (e : Seat) (works : List Work) → MayWorkAll g e works → list_all is_offered_later works ≡ true → list_all is_going_on works ≡ true → EntersOffered g e (state_after_all_work e works) []
+pub enters_works : (g : Ghost) (e : Seat) (works : List Work) → MayWorkAll g e works → list_all is_offered_work works ≡ true → list_all is_going_on works ≡ true → EntersOffered g e (state_after_all_work e works) []
 enters_works g e works may offered going_on = record {
   enters = record { last = state_after_all_work e works; computed = record { works = works; may = may; gives = refl }; going_on = going_on; adds_are = tt; seat_is = refl };
   offered = offered;

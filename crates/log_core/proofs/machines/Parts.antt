@@ -14,7 +14,7 @@ use Rattle.log_core.specs.Origin.{Origin, q_of_origin}
 use Rattle.log_core.specs.Works.{Work, MayWorkAll, state_after_work, state_after_all_work, is_going_on}
 use Rattle.log_core.specs.Steps.{kind_of_ask}
 use Rattle.log_core.specs.May.{May, IsOfferedKind}
-use Rattle.log_core.specs.Runs.{is_offered_later}
+use Rattle.log_core.specs.Runs.{is_offered_work}
 use Rattle.log_core.specs.Within.{no_record, adds_at, seat_found, ghost_found, IsFound, EntersOffered, Lawful, Serves, FitsNext}
 use Rattle.log_core.proofs.machines.Entering.{none_at}
 
@@ -53,7 +53,7 @@ enters_more g e t u adds part more =
         adds_are = more.enters.adds_are;
         seat_is = more.enters.seat_is;
       };
-      offered = all_more is_offered_later first second part.offered more.offered;
+      offered = all_more is_offered_work first second part.offered more.offered;
     })
 
 module _ {A C OutA Out : Type 0} (o : Origin) (seat : ℕ) (part : Script A OutA) (whole : Script C Out) (rec : Out → Seat → List Call) (inject : A → C) (next : OutA → Seat → Next C Out)

@@ -1,0 +1,71 @@
+-- What enters a view after a step: from the state that the kind of step leaves the call computes on, and the core that has it keeps the
+-- invariant.
+use Rattle.std.proofs.Common.{◌≡◌, ◌≢◌, ◌<◌, ℕ, true, List, [], ◌∷◌, ◌++◌, length, refl, sym, ◌∙◌, ap, subst, slice_set, slice_index, append-nil}
+use Rattle.std.specs.List.{list_all}
+use Rattle.std.proofs.lemmas.List.{length-set, get_or-set_same, set-set}
+use Rattle.log_entry.specs.declared.calls.Call.{Call}
+use Rattle.pmem_words.specs.Seats.{Seat}
+use Rattle.log_core.specs.Views.{View, view_of, spent_view}
+use Rattle.log_core.specs.Origin.{Origin}
+use Rattle.log_core.specs.Cores.{Core}
+use Rattle.log_core.specs.Works.{Computes, ended, is_going_on}
+use Rattle.log_core.specs.Steps.{Note, Kind, ghost_ended, view_after}
+use Rattle.log_core.specs.Runs.{MayStep, effect_at, ghost_left, is_offered_work}
+use Rattle.log_core.specs.Invariant.{Invariant}
+use Rattle.log_core.specs.Knows.{with_seat}
+use Rattle.log_core.proofs.clauses.Leaves.{no_changes, pins_leave}
+use Rattle.log_core.proofs.clauses.SetCore.{set_core}
+use Rattle.log_core.proofs.Facts.{facts_of}
+use Rattle.log_core.proofs.kinds.Worked.{later_hold}
+
+-- a seat of a core computes
+module _ (o : Origin) (d : Core) (n : ℕ) (inv : Invariant o d) (here : n < length d.views) (unspent : (view_of d.views n).parts ≢ []) where
+  abbrev v : View
+  v = view_of d.views n
+
+  pub computed : (t : Seat) → (computes : Computes v.ghost v.seat t) → list_all is_offered_work computes.works ≡ true → list_all is_going_on computes.works ≡ true →
+      Invariant o (record d { views = slice_set d.views n (with_seat v t v.ghost) })
+  computed t computes offered going = subst (λ (s : Seat). Invariant o (record d { views = slice_set d.views n (with_seat v s v.ghost) })) (sym computes.gives)
+      (set_core o d n _ v.ghost d.memory d.owner d.began inv here unspent (pins_leave o d n inv d.memory.now.pins refl (λ k other. refl)) (no_changes d n) inv.owners.bits
+      (later_hold o d n (slice_index d.memory.now.pins n) (slice_index d.began n) v.ghost inv v.seat computes.works offered going computes.may (facts_of o d n inv here))
+      refl (λ k other. refl) inv.records.begun)
+
+  -- so it is with a view that the core has
+  pub computed_from : (u : View) → v ≡ u → (t : Seat) → (computes : Computes u.ghost u.seat t) → list_all is_offered_work computes.works ≡ true → list_all is_going_on computes.works ≡ true →
+      Invariant o (record d { views = slice_set d.views n (with_seat u t u.ghost) })
+  computed_from u is t = subst (λ (w : View). (computes : Computes w.ghost w.seat t) → list_all is_offered_work computes.works ≡ true → list_all is_going_on computes.works ≡ true →
+      Invariant o (record d { views = slice_set d.views n (with_seat w t w.ghost) })) is (λ computes offered going. computed t computes offered going)
+
+-- after a step of a kind
+module _ (o : Origin) (c : Core) (n : ℕ) (note : Note) (kind : Kind) (f : ℕ) (here : n < length c.views) (unspent : (view_of c.views n).parts ≢ [])
+    (step : MayStep o c (view_of c.views n) kind note f) where
+  abbrev mine : View
+  mine = view_of c.views n
+
+  -- the view that the kind leaves, and all views with it
+  abbrev pub left : View
+  left = with_seat mine (effect_at mine note kind f) (ghost_left mine note kind f)
+
+  abbrev pub views_left : List View
+  views_left = slice_set c.views n left
+
+  ended_none : (adds : List Call) (last : Seat) → adds ≡ [] → ended adds last ≡ last
+  ended_none [] last e = refl
+  ended_none (call ∷ calls) last e = cc
+
+  -- the view that the step leaves
+  view_is : note.adds ≡ [] → view_after mine kind note f ≡ with_seat left note.seat (ghost_left mine note kind f)
+  view_is no_record = ap (λ (adds : List Call). record mine { seat = note.seat; ghost = ghost_ended adds (ghost_left mine note kind f); done = mine.done ++ adds }) no_record
+      ∙ ap (λ (calls : List Call). record mine { seat = note.seat; ghost = ghost_left mine note kind f; done = calls }) (append-nil mine.done)
+
+  pub entered : (d : Core) → Invariant o (record d { views = views_left }) → list_all is_offered_work step.enters.computed.works ≡ true → note.adds ≡ [] →
+      Invariant o (record d { views = slice_set c.views n (view_after mine kind note f) })
+  entered d inv later no_record = subst (λ (views : List View). Invariant o (record d { views = views }))
+      (set-set c.views n left (with_seat left note.seat left.ghost) ∙ ap (λ (v : View). slice_set c.views n v) (sym (view_is no_record)))
+      (computed_from o (record d { views = views_left }) n inv (subst (λ (k : ℕ). n < k) (sym (length-set c.views n left)) here)
+      (λ none. unspent (ap (λ (v : View). v.parts) (sym is_left) ∙ none)) left is_left note.seat
+      (record { works = step.enters.computed.works; may = step.enters.computed.may; gives = step.enters.seat_is ∙ (ended_none note.adds step.enters.last no_record ∙ step.enters.computed.gives) })
+      later step.enters.going_on)
+    where
+      is_left : view_of views_left n ≡ left
+      is_left = get_or-set_same c.views n left spent_view here
