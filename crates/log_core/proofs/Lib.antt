@@ -7,6 +7,7 @@ pub mod clauses
 pub mod LogTails
 pub mod KeptWords
 pub mod Fronts
+pub mod FileLimits
 pub mod kinds
 pub mod machines
 pub mod starts

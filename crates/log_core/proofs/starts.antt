@@ -12,5 +12,6 @@ pub mod StartOwners
 pub mod StartSnapshots
 pub mod StartFiles
 pub mod StartContents
+pub mod StartHistory
 pub mod StartMeets
 pub mod StartKept

@@ -40,7 +40,7 @@ module _ (o : Origin) (s : Facts o) where
   entry_is : (k : ℕ) → k < length (first_entries o) → get_or (first_entries o) k no_entry ≡ entry_by (first_recorded o) (get_or (log_words o.words (shape o) o.chain) k 0)
   entry_is k inside = get_or-map (λ (word : ℕ). entry_by (first_recorded o) word) (log_words o.words (shape o) o.chain) k 0 no_entry (omega (arith, inside, length-map (log_words o.words (shape o) o.chain) (λ (word : ℕ). entry_by (first_recorded o) word)))
 
-  says : (from : ℕ) → EntriesSay (shape o) (first_recorded o) from (first_entries o)
+  pub says : (from : ℕ) → EntriesSay (shape o) (first_recorded o) from (first_entries o)
   says from = record {
     same = λ k later inside. subst (λ (e : LogEntry). e ≡ entry_by (first_recorded o) e.word) (sym (entry_is k inside)) refl;
     form = λ k later inside.

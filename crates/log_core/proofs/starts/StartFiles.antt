@@ -12,7 +12,6 @@ use Rattle.log_core.specs.Entries.{LogEntry, entry_by, meanings}
 use Rattle.log_core.specs.Origin.{Origin, shape, first_recorded, first_snapshot, first_entries, first_position, start_base, start_size}
 use Rattle.log_core.specs.Files.{Write, entries, history_entries_to, history_map_at, history_size_at, byte_in, early_file, file_at, Holds, HoldsBelow}
 use Rattle.log_core.specs.Contents.{HoldsFileAt}
-use Rattle.log_core.specs.Writes.{HistoryHolds}
 use Rattle.log_core.proofs.starts.StartFacts.{Facts}
 
 -- the meanings of entries are those of their words
@@ -25,7 +24,7 @@ no_writes zero = refl
 no_writes (suc count) = refl
 
 module _ (o : Origin) (s : Facts o) where
-  same_entries : entries o [] ≡ first_entries o
+  pub same_entries : entries o [] ≡ first_entries o
   same_entries = append-nil (first_entries o)
 
   -- the file before the start's position, and from it on
@@ -77,7 +76,7 @@ module _ (o : Origin) (s : Facts o) where
         ∙ ap (λ (file : List ℕ). get_or file (virt * (shape o).block_bytes + at) 0) (sym (late position past));
   }
 
-  same_size : (position : ℕ) → (position < first_position o) ⊎ (first_position o ≤ position) → length (file_at o [] position) ≡ history_size_at o (entries o []) position
+  pub same_size : (position : ℕ) → (position < first_position o) ⊎ (first_position o ≤ position) → length (file_at o [] position) ≡ history_size_at o (entries o []) position
   same_size position (inl before) =
       ap (λ (file : List ℕ). length file) (early position before)
       ∙ length-map-range_with_len (byte_at position) 0 (history_size_at o (first_entries o) position)
@@ -89,7 +88,3 @@ module _ (o : Origin) (s : Facts o) where
 
   pub start_file : (position : ℕ) → HoldsFileAt o [] (first_recorded o) position
   start_file position = record { early = early_holds position; held = late_holds position; size_is = same_size position (cases_lt position (first_position o)) }
-
-  -- nothing is written yet
-  pub start_history : HistoryHolds o []
-  start_history = record { writes = λ place inside. absurd (omega (arith, inside)); sizes = λ position from to. same_size position (cases_lt position (first_position o)) }

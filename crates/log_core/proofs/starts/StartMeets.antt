@@ -11,7 +11,7 @@ use Rattle.log_core.proofs.starts.StartOrder.{start_heads, start_rises, start_lo
 use Rattle.log_core.proofs.starts.StartChains.{start_chains, start_synced}
 use Rattle.log_core.proofs.starts.StartOwners.{start_owners}
 use Rattle.log_core.proofs.starts.StartContents.{start_contents}
-use Rattle.log_core.proofs.starts.StartFiles.{start_history}
+use Rattle.log_core.proofs.starts.StartHistory.{start_history}
 
 meets : (o : Origin) → IsStart o → Facts o → Invariant o (first_core o)
 meets o start s = record {
