@@ -1,5 +1,5 @@
 -- No entry of a log ends past the greatest size that a file may have, so entries make no greater one.
-use Rattle.std.proofs.Common.{◌≡◌, ◌<◌, ◌≤◌, ◌+◌, ◌-◌, ◌*◌, ◌&&◌, nat_le, nat_lt, max, ℕ, zero, suc, true, List, [], ◌∷◌, length, take, arith, slice_index_or, if◌then◌else◌, mul-le-mul_right}
+use Rattle.std.proofs.Common.{◌≡◌, ◌<◌, ◌≤◌, ◌+◌, ◌*◌, ◌&&◌, nat_le, nat_lt, max, ℕ, zero, suc, true, List, [], ◌∷◌, length, take, arith, slice_index_or, if◌then◌else◌, mul-le-mul_right}
 use Rattle.std.specs.List.{list_all}
 use Rattle.std.proofs.lemmas.Bool.{and_parts, leb-true}
 use Rattle.log_entry.specs.Fields.{field}

@@ -8,6 +8,7 @@ pub mod LogTails
 pub mod KeptWords
 pub mod Fronts
 pub mod FileLimits
+pub mod ChainWords
 pub mod kinds
 pub mod machines
 pub mod starts

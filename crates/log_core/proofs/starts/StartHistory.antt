@@ -1,5 +1,5 @@
 -- Nothing is written yet at a start, and the files of its log are within the limit.
-use Rattle.std.proofs.Common.{◌≡◌, ◌<◌, ◌≤◌, ◌-◌, ◌&&◌, nat_le, ℕ, true, List, [], ◌∷◌, length, take, drop, sym, ap, subst, arith, slice_index_or}
+use Rattle.std.proofs.Common.{◌≡◌, ◌<◌, ◌≤◌, ◌-◌, ◌&&◌, nat_le, ℕ, true, List, [], ◌∷◌, length, take, drop, sym, subst, arith, slice_index_or}
 use Rattle.std.specs.List.{list_all}
 use Rattle.std.proofs.lemmas.Bool.{and_parts, leb-true, cases_lt}
 use Rattle.log_entry.specs.Shape.{limit_of}
@@ -8,7 +8,7 @@ use Rattle.log_image.specs.Blocks.{entry_count, file_size, slots_of, kept_words}
 use Rattle.log_image.specs.Chains.{snapshots_of, first_size}
 use Rattle.log_image.specs.Format.{is_snapshot_block, is_snapshot_entry, all_zero}
 use Rattle.log_image.specs.Maps.{entry_end, size_after}
-use Rattle.log_core.specs.Entries.{LogEntry, no_entry, entry_by, meanings}
+use Rattle.log_core.specs.Entries.{LogEntry, no_entry, meanings}
 use Rattle.log_core.specs.Origin.{Origin, shape, first_recorded, first_entries, first_position, start_base, start_size}
 use Rattle.log_core.specs.Files.{entries, history_size_at}
 use Rattle.log_core.specs.Contents.{EntriesSay}
