@@ -1,9 +1,9 @@
 -- No entry of a log ends past the greatest size that a file may have, so entries make no greater one.
-use Rattle.std.proofs.Common.{◌≡◌, ◌<◌, ◌≤◌, ◌+◌, ◌*◌, ◌&&◌, nat_le, nat_lt, max, ℕ, zero, suc, true, List, [], ◌∷◌, length, take, arith, slice_index_or, if◌then◌else◌, mul-le-mul_right}
+use Rattle.std.proofs.Common.{◌≡◌, ◌<◌, ◌≤◌, ◌+◌, ◌*◌, ◌^◌, ◌||◌, ◌==◌, Bool, false, refl, ◌&&◌, nat_le, nat_lt, max, ℕ, zero, suc, true, List, [], ◌∷◌, length, take, arith, slice_index_or, if◌then◌else◌, mul-le-mul_right}
 use Rattle.std.specs.List.{list_all}
-use Rattle.std.proofs.lemmas.Bool.{and_parts, leb-true}
+use Rattle.std.proofs.lemmas.Bool.{and_parts, leb-true, eqb-true}
 use Rattle.log_entry.specs.Fields.{field}
-use Rattle.log_entry.specs.Shape.{longest_of, limit_of}
+use Rattle.log_entry.specs.Shape.{longest_of, limit_of, is_block_bytes}
 use Rattle.log_entry.specs.declared.layouts.TheConstants.{INDIRECT_BLOCK}
 use Rattle.log_image.specs.Image.{Shape, is_in_data}
 use Rattle.log_image.specs.Entries.{Meaning}
@@ -39,3 +39,13 @@ sizes_within image most zero size es low each = low
 sizes_within image most (suc count) size [] low each = low
 sizes_within image most (suc count) size (e ∷ es) low each = sizes_within image most count (max size (entry_end image e.meaning)) es
     (larger size (entry_end image e.meaning) most low (each 0 (omega arith))) (λ k inside. each (suc k) (omega (arith, inside)))
+
+-- a size that a file may have is of at most 48 bits
+pub limit_small : (bytes : ℕ) → is_block_bytes bytes ≡ true → limit_of bytes < 2 ^ 48
+limit_small bytes allowed = by (bytes == 64) (bytes == 512) (bytes == 4096) refl refl refl allowed
+  where
+    by : (small middle large : Bool) → (bytes == 64) ≡ small → (bytes == 512) ≡ middle → (bytes == 4096) ≡ large → (small || middle || large) ≡ true → limit_of bytes < 2 ^ 48
+    by true middle large is other another some = (let e = eqb-true bytes 64 is in omega (arith, e))
+    by false true large is other another some = (let e = eqb-true bytes 512 other in omega (arith, e))
+    by false false true is other another some = (let e = eqb-true bytes 4096 another in omega (arith, e))
+    by false false false is other another some = cc

@@ -4,7 +4,7 @@ use Rattle.std.proofs.lemmas.Bool.{and_parts, not-true}
 use Rattle.log_entry.specs.Fields.{field}
 use Rattle.log_entry.specs.Words.{head_word, block_word}
 use Rattle.log_entry.specs.declared.words.BlockKind.TheVariants.{Log, Snapshot}
-use Rattle.log_entry.specs.declared.layouts.TheConstants.{HEAD_BLOCK, HEAD_GENERATION, BLOCK_BASE, BLOCK_KIND, LOG}
+use Rattle.log_entry.specs.declared.layouts.TheConstants.{HEAD_BLOCK, HEAD_GENERATION, BLOCK_BASE, BLOCK_KIND, LOG, SNAPSHOT}
 use Rattle.log_image.specs.Chains.{all_different, is_listed}
 use Rattle.persistence.specs.Memory.{cell}
 use Rattle.log_core.specs.Entries.{place_in, head_place}
@@ -27,6 +27,9 @@ log_base base small = omega (arith, small)
 
 snapshot_base : (base : ℕ) → base < 2 ^ 40 → field BLOCK_BASE (block_word (record { kind = Snapshot; base = base })) ≡ base
 snapshot_base base small = omega (arith, small)
+
+log_kind : (base : ℕ) → base < 2 ^ 40 → field BLOCK_KIND (block_word (record { kind = Log; base = base })) ≡ 1
+log_kind base small = omega (arith, small)
 
 snapshot_kind : (base : ℕ) → base < 2 ^ 40 → field BLOCK_KIND (block_word (record { kind = Snapshot; base = base })) ≡ 2
 snapshot_kind base small = omega (arith, small)
@@ -115,4 +118,23 @@ module _ (o : Origin) (c : Core) (inv : Invariant o c) where
             let is : word ≡ block_word (record { kind = Snapshot; base = g.base }) = same ∙ (ap (λ (b : ℕ). slice_index c.memory.now.words (place_in (shape o) b 1)) front_is ∙ (certain.present ∙ says.1)) in
             let kind : field BLOCK_KIND word ≡ 2 = ap (field BLOCK_KIND) is ∙ snapshot_kind g.base base_small in
             let both : 2 ≡ LOG = sym kind ∙ log in
+            absurd (omega (arith, both)))
+
+    -- and where it is that of a snapshot block, the chain has one
+    pub front_snapshot : (word : ℕ) → IsKeptWord (shape o) c.memory.now.words (λ block. is_named o c.logs (entries o c.history) g block) (drop g.cut c.logs) (record { block = front_of c.logs g; slot = 1; word = word }) →
+        field BLOCK_KIND word ≡ SNAPSHOT → 0 < length g.snapshots
+    front_snapshot word held is_snapshot = go g.snapshots refl held.word_is
+      where
+        go : (snapshots : List ℕ) → g.snapshots ≡ snapshots →
+            (word ≡ slice_index c.memory.now.words (place_in (shape o) (front_of c.logs g) 1)) ⊎ ((word ≡ 0) × (is_listed (log_blocks (drop g.cut c.logs)) (front_of c.logs g) ≡ true)) → 0 < length g.snapshots
+        go (block ∷ rest) some word_is = subst (λ (l : List ℕ). 0 < length l) (sym some) (omega arith)
+        go [] none (inr zero_word) = (let none : 0 ≡ SNAPSHOT = sym (ap (field BLOCK_KIND) zero_word.0) ∙ is_snapshot in absurd (omega (arith, none)))
+        go [] none (inl same) =
+            (let cut_base = inv.order.generations_rise.cut_base place kept.inside in
+            let certain = (inv.order.chains place kept g.cut (omega arith) (inv.order.generations_rise.cut_inside place kept.inside)).base in
+            let is : word ≡ block_word (record { kind = Log; base = (nth_log c.logs g.cut).base }) =
+            same ∙ (ap (λ (b : ℕ). slice_index c.memory.now.words (place_in (shape o) b 1)) (ap (λ (l : List ℕ). first_or l (nth_log c.logs g.cut).block) none) ∙ certain.present) in
+            let small = base_small in
+            let kind : field BLOCK_KIND word ≡ 1 = ap (field BLOCK_KIND) is ∙ log_kind (nth_log c.logs g.cut).base (omega (arith, small, cut_base)) in
+            let both : 1 ≡ SNAPSHOT = sym kind ∙ is_snapshot in
             absurd (omega (arith, both)))

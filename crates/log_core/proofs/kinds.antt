@@ -6,6 +6,7 @@ pub mod NotesNamed
 pub mod NotesHeld
 pub mod KeepsTable
 pub mod StartsFromLog
+pub mod StartsFromSnapshot
 pub mod AtTail
 pub mod StoresWord
 pub mod MarksWord

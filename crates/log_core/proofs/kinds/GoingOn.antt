@@ -18,6 +18,7 @@ use Rattle.log_core.proofs.kinds.NotesNamed.{named_facts}
 use Rattle.log_core.proofs.kinds.NotesHeld.{held_facts}
 use Rattle.log_core.proofs.kinds.KeepsTable.{table_facts}
 use Rattle.log_core.proofs.kinds.StartsFromLog.{log_facts}
+use Rattle.log_core.proofs.kinds.StartsFromSnapshot.{snapshot_facts}
 use Rattle.log_core.proofs.kinds.AtTail.{seal_facts, follow_facts}
 
 -- a computation begins a call, or goes on with one
@@ -111,7 +112,7 @@ module _ (o : Origin) (c : Core) (n pin began : ℕ) (g : Ghost) (inv : Invarian
   going_facts s (Begins task bytes) offered going may f = cc
   going_facts s KeepsTable offered going may f = table_facts o c n s g pin began inv f may.0 may.1 may.2 may.3
   going_facts s StartsFromLog offered going may f = log_facts o c n s g pin began inv f may
-  going_facts s StartsFromSnapshot offered going may f = cc
+  going_facts s StartsFromSnapshot offered going may f = snapshot_facts o c n s g pin began inv f may.0 may.1
   going_facts s ReadsRun offered going may f = cc
   going_facts s NextSnapshot offered going may f = cc
   going_facts s EndsReading offered going may f = cc
