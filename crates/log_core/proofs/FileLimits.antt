@@ -12,16 +12,20 @@ use Rattle.log_image.specs.Format.{fits, is_direct, is_indirect, is_indirect_blo
 use Rattle.log_core.specs.Entries.{LogEntry, no_entry, meaning_by, meanings}
 use Rattle.log_core.specs.May.{is_log_entry_by}
 
-pub fits_end : (image : Shape) (longest : ℕ) (meaning : Meaning) → fits image longest meaning ≡ true → entry_end image meaning ≤ limit_of image.block_bytes
-fits_end image longest meaning good =
+-- an entry's virtual blocks are the file's
+pub fits_inside : (image : Shape) (longest : ℕ) (meaning : Meaning) → fits image longest meaning ≡ true → meaning.virt + length meaning.blocks ≤ 65536
+fits_inside image longest meaning good =
     (let some = nat_le 1 (length meaning.blocks) in
     let few = nat_le (length meaning.blocks) longest in
     let inside = nat_le (meaning.virt + length meaning.blocks) 65536 in
     let area = list_all (is_in_data image) meaning.blocks in
     let four = and_parts (some && few && inside && area) (nat_lt meaning.leftover image.block_bytes) good in
     let three = and_parts (some && few && inside) area four.0 in
-    let within = leb-true (meaning.virt + length meaning.blocks) 65536 (and_parts (some && few) inside three.0).1 in
-    let most : (meaning.virt + length meaning.blocks) * image.block_bytes ≤ 65536 * image.block_bytes = mul-le-mul_right image.block_bytes within in
+    leb-true (meaning.virt + length meaning.blocks) 65536 (and_parts (some && few) inside three.0).1)
+
+pub fits_end : (image : Shape) (longest : ℕ) (meaning : Meaning) → fits image longest meaning ≡ true → entry_end image meaning ≤ limit_of image.block_bytes
+fits_end image longest meaning good =
+    (let most : (meaning.virt + length meaning.blocks) * image.block_bytes ≤ 65536 * image.block_bytes = mul-le-mul_right image.block_bytes (fits_inside image longest meaning good) in
     omega (arith, most))
 
 pub entry_within : (content : ℕ → List ℕ) (image : Shape) (word : ℕ) → is_log_entry_by content image word ≡ true → entry_end image (meaning_by content word) ≤ limit_of image.block_bytes

@@ -31,7 +31,7 @@ snapshot_base base small = omega (arith, small)
 log_kind : (base : ℕ) → base < 2 ^ 40 → field BLOCK_KIND (block_word (record { kind = Log; base = base })) ≡ 1
 log_kind base small = omega (arith, small)
 
-snapshot_kind : (base : ℕ) → base < 2 ^ 40 → field BLOCK_KIND (block_word (record { kind = Snapshot; base = base })) ≡ 2
+pub snapshot_kind : (base : ℕ) → base < 2 ^ 40 → field BLOCK_KIND (block_word (record { kind = Snapshot; base = base })) ≡ 2
 snapshot_kind base small = omega (arith, small)
 
 -- a block stands once among different ones
@@ -60,7 +60,7 @@ module _ (o : Origin) (c : Core) (inv : Invariant o c) where
     abbrev g : Generation
     g = nth_generation c.generations place
 
-    base_small : g.base < 2 ^ 40
+    pub base_small : g.base < 2 ^ 40
     base_small = (let upto = inv.order.generations_rise.to_end place kept.inside in let limit = inv.order.log.limit in omega (arith, upto, limit))
 
     wide : 1 < Rattle.log_image.specs.Image.words_in (shape o)
@@ -120,6 +120,21 @@ module _ (o : Origin) (c : Core) (inv : Invariant o c) where
             let both : 2 ≡ LOG = sym kind ∙ log in
             absurd (omega (arith, both)))
 
+    -- the first log block's kind is not that of a snapshot block
+    pub no_snapshot : (word : ℕ) → IsKeptWord (shape o) c.memory.now.words (λ block. is_named o c.logs (entries o c.history) g block) (drop g.cut c.logs) (record { block = (nth_log c.logs g.cut).block; slot = 1; word = word }) →
+        field BLOCK_KIND word ≡ SNAPSHOT → ⊥
+    no_snapshot word held is_snapshot = go held.word_is
+      where
+        go : (word ≡ slice_index c.memory.now.words (place_in (shape o) (nth_log c.logs g.cut).block 1)) ⊎ ((word ≡ 0) × (is_listed (log_blocks (drop g.cut c.logs)) (nth_log c.logs g.cut).block ≡ true)) → ⊥
+        go (inr zero_word) = (let none : 0 ≡ SNAPSHOT = sym (ap (field BLOCK_KIND) zero_word.0) ∙ is_snapshot in omega (arith, none))
+        go (inl same) =
+            (let cut_base = inv.order.generations_rise.cut_base place kept.inside in
+            let certain = (inv.order.chains place kept g.cut (omega arith) (inv.order.generations_rise.cut_inside place kept.inside)).base in
+            let small = base_small in
+            let kind : field BLOCK_KIND word ≡ 1 = ap (field BLOCK_KIND) (same ∙ certain.present) ∙ log_kind (nth_log c.logs g.cut).base (omega (arith, small, cut_base)) in
+            let both : 1 ≡ SNAPSHOT = sym kind ∙ is_snapshot in
+            omega (arith, both))
+
     -- and where it is that of a snapshot block, the chain has one
     pub front_snapshot : (word : ℕ) → IsKeptWord (shape o) c.memory.now.words (λ block. is_named o c.logs (entries o c.history) g block) (drop g.cut c.logs) (record { block = front_of c.logs g; slot = 1; word = word }) →
         field BLOCK_KIND word ≡ SNAPSHOT → 0 < length g.snapshots
@@ -128,13 +143,9 @@ module _ (o : Origin) (c : Core) (inv : Invariant o c) where
         go : (snapshots : List ℕ) → g.snapshots ≡ snapshots →
             (word ≡ slice_index c.memory.now.words (place_in (shape o) (front_of c.logs g) 1)) ⊎ ((word ≡ 0) × (is_listed (log_blocks (drop g.cut c.logs)) (front_of c.logs g) ≡ true)) → 0 < length g.snapshots
         go (block ∷ rest) some word_is = subst (λ (l : List ℕ). 0 < length l) (sym some) (omega arith)
-        go [] none (inr zero_word) = (let none : 0 ≡ SNAPSHOT = sym (ap (field BLOCK_KIND) zero_word.0) ∙ is_snapshot in absurd (omega (arith, none)))
-        go [] none (inl same) =
-            (let cut_base = inv.order.generations_rise.cut_base place kept.inside in
-            let certain = (inv.order.chains place kept g.cut (omega arith) (inv.order.generations_rise.cut_inside place kept.inside)).base in
-            let is : word ≡ block_word (record { kind = Log; base = (nth_log c.logs g.cut).base }) =
-            same ∙ (ap (λ (b : ℕ). slice_index c.memory.now.words (place_in (shape o) b 1)) (ap (λ (l : List ℕ). first_or l (nth_log c.logs g.cut).block) none) ∙ certain.present) in
-            let small = base_small in
-            let kind : field BLOCK_KIND word ≡ 1 = ap (field BLOCK_KIND) is ∙ log_kind (nth_log c.logs g.cut).base (omega (arith, small, cut_base)) in
-            let both : 1 ≡ SNAPSHOT = sym kind ∙ is_snapshot in
-            absurd (omega (arith, both)))
+        go [] none word_is = absurd (no_snapshot word (record {
+          named = subst (λ (b : ℕ). is_named o c.logs (entries o c.history) g b ≡ true) (ap (λ (l : List ℕ). first_or l (nth_log c.logs g.cut).block) none) held.named;
+          inside = held.inside;
+          word_is = subst (λ (b : ℕ). (word ≡ slice_index c.memory.now.words (place_in (shape o) b 1)) ⊎ ((word ≡ 0) × (is_listed (log_blocks (drop g.cut c.logs)) b ≡ true)))
+              (ap (λ (l : List ℕ). first_or l (nth_log c.logs g.cut).block) none) word_is;
+        }) is_snapshot)

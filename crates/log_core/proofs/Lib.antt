@@ -9,6 +9,9 @@ pub mod KeptWords
 pub mod Fronts
 pub mod FileLimits
 pub mod ChainWords
+pub mod PinnedChains
+pub mod WalkMaps
+pub mod SnapshotReads
 pub mod kinds
 pub mod machines
 pub mod starts

@@ -7,6 +7,7 @@ pub mod NotesHeld
 pub mod KeepsTable
 pub mod StartsFromLog
 pub mod StartsFromSnapshot
+pub mod ReadsSnapshot
 pub mod AtTail
 pub mod StoresWord
 pub mod MarksWord

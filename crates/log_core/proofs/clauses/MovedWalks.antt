@@ -20,10 +20,10 @@ no_bytes : (task : Task) (offset count : ℕ) (bytes : List ℕ) → laid_bytes 
 no_bytes task offset count bytes none is = subst (λ (t : Task). laid_bytes t bytes ≡ []) is none
 
 pub move_facts : (o : Origin) (c : Core) (n : ℕ) (s : Seat) (g : Ghost) (pin began : ℕ) (w : Walk) → Knows o c n s g pin began → IsFree g s.calling → (op_in s ≢ None → s.calling.bases ≡ []) →
-    BasesHold o c.history (view_of c.views n).first (words_of s) w.position s.calling → w.at_tail ≡ false → length w.map ≡ 65536 → ((view_of c.views n).parts ≢ [] → WalkHolds (around o c) s.hold w) →
+    BasesHold o c.history (view_of c.views n).first (words_of s) w.position s.calling → w.at_tail ≡ false → ((view_of c.views n).parts ≢ [] → length w.map ≡ 65536) → ((view_of c.views n).parts ≢ [] → WalkHolds (around o c) s.hold w) →
     Knows o c n (record s { walk = w }) g pin began
 move_facts o c n s g pin began w f free no_bases bases away long walks = moved_facts o c n s g pin began f w s.calling s.giving.pins_seen s.giving.limbo_held (record {
-  map = λ some. long;
+  map = long;
   walk = walks;
   scan_others = f.scan_others;
   scan_self = f.scan_self;

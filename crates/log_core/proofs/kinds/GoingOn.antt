@@ -19,6 +19,7 @@ use Rattle.log_core.proofs.kinds.NotesHeld.{held_facts}
 use Rattle.log_core.proofs.kinds.KeepsTable.{table_facts}
 use Rattle.log_core.proofs.kinds.StartsFromLog.{log_facts}
 use Rattle.log_core.proofs.kinds.StartsFromSnapshot.{snapshot_facts}
+use Rattle.log_core.proofs.kinds.ReadsSnapshot.{run_facts, next_facts, end_facts}
 use Rattle.log_core.proofs.kinds.AtTail.{seal_facts, follow_facts}
 
 -- a computation begins a call, or goes on with one
@@ -113,9 +114,9 @@ module _ (o : Origin) (c : Core) (n pin began : ℕ) (g : Ghost) (inv : Invarian
   going_facts s KeepsTable offered going may f = table_facts o c n s g pin began inv f may.0 may.1 may.2 may.3
   going_facts s StartsFromLog offered going may f = log_facts o c n s g pin began inv f may
   going_facts s StartsFromSnapshot offered going may f = snapshot_facts o c n s g pin began inv f may.0 may.1
-  going_facts s ReadsRun offered going may f = cc
-  going_facts s NextSnapshot offered going may f = cc
-  going_facts s EndsReading offered going may f = cc
+  going_facts s ReadsRun offered going may f = run_facts o c n s g pin began inv f may.0 may.1
+  going_facts s NextSnapshot offered going may f = next_facts o c n s g pin began inv f may.reading may
+  going_facts s EndsReading offered going may f = end_facts o c n s g pin began inv f may.reading may
   going_facts s TakesEntry offered going may f = cc
   going_facts s TakesSeal offered going may f = seal_facts o c n s g pin began inv f may.0.valid may.0.ready may.0.inside may.1
   going_facts s Follows offered going may f = follow_facts o c n s g pin began inv f may.valid may.ready may.at_end may.linked

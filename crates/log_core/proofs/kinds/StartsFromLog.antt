@@ -15,11 +15,12 @@ use Rattle.log_core.specs.Invariant.{Invariant, around}
 use Rattle.log_core.specs.Knows.{Knows}
 use Rattle.log_core.proofs.LogTails.{log_again}
 use Rattle.log_core.proofs.clauses.MovedWalks.{move_facts, no_bases_hold}
-use Rattle.log_core.proofs.kinds.KeepsTable.{place, kept, some_generation, front_is, front_kinds, base_is}
+use Rattle.log_core.proofs.PinnedChains.{place, kept, some_generation}
+use Rattle.log_core.proofs.kinds.KeepsTable.{front_is, front_kinds, base_is}
 
 module _ (o : Origin) (c : Core) (n : ℕ) (s : Seat) (g : Ghost) (pin began : ℕ) (inv : Invariant o c) (f : Knows o c n s g pin began) (may : MayStart g s LOG) where
   abbrev pinned : Generation
-  pinned = nth_generation c.generations (place o c n s g pin began inv f may.at_front)
+  pinned = nth_generation c.generations (place o c n s g pin began inv f may.at_front.valid)
 
   module _ (some : (view_of c.views n).parts ≢ []) where
     w : WalkHolds (around o c) s.hold s.walk
@@ -30,7 +31,7 @@ module _ (o : Origin) (c : Core) (n : ℕ) (s : Seat) (g : Ghost) (pin began : �
     no_snapshot = front_kinds o c n s g pin began inv f may.at_front some may.kind_is
 
     empty : (pinned.base ≡ 0) × (pinned.size ≡ 0) × ((virt : ℕ) → Rattle.log_core.specs.Files.history_map_at o (entries o c.history) pinned.base virt ≡ None)
-    empty = (inv.contents (place o c n s g pin began inv f may.at_front) (kept o c n s g pin began inv f may.at_front)).snapshot.empty no_snapshot
+    empty = (inv.contents (place o c n s g pin began inv f may.at_front.valid) (kept o c n s g pin began inv f may.at_front.valid)).snapshot.empty no_snapshot
 
     base : front_base s ≡ pinned.base
     base = base_is o c n s g pin began inv f may.at_front some
@@ -43,15 +44,15 @@ module _ (o : Origin) (c : Core) (n : ℕ) (s : Seat) (g : Ghost) (pin began : �
         first_of (block ∷ rest) none = absurd (omega (arith, none))
 
     cut_log : log_at c.logs (front_base s) ≡ nth_log c.logs pinned.cut
-    cut_log = (let inside = (kept o c n s g pin began inv f may.at_front).inside in
-        ap (λ (b : ℕ). log_at c.logs b) (base ∙ sym (inv.order.generations_rise.cut_base (place o c n s g pin began inv f may.at_front) inside))
-        ∙ log_again o c inv pinned.cut (inv.order.generations_rise.cut_inside (place o c n s g pin began inv f may.at_front) inside))
+    cut_log = (let inside = (kept o c n s g pin began inv f may.at_front.valid).inside in
+        ap (λ (b : ℕ). log_at c.logs b) (base ∙ sym (inv.order.generations_rise.cut_base (place o c n s g pin began inv f may.at_front.valid) inside))
+        ∙ log_again o c inv pinned.cut (inv.order.generations_rise.cut_inside (place o c n s g pin began inv f may.at_front.valid) inside))
 
     walk_begun : WalkHolds (around o c) s.hold (state_after_work s StartsFromLog).walk
     walk_begun = record {
       unwalked = λ none. absurd (no_zero none);
       to_end = subst (λ (b : ℕ). b ≤ Rattle.log_core.specs.Files.end_of o c.history) (sym base)
-          (inv.order.generations_rise.to_end (place o c n s g pin began inv f may.at_front) (kept o c n s g pin began inv f may.at_front).inside);
+          (inv.order.generations_rise.to_end (place o c n s g pin began inv f may.at_front.valid) (kept o c n s g pin began inv f may.at_front.valid).inside);
       from_first = λ reading. cc;
       to_current = λ reading. cc;
       read = λ reading. cc;
@@ -60,23 +61,23 @@ module _ (o : Origin) (c : Core) (n : ℕ) (s : Seat) (g : Ghost) (pin began : �
       walked = λ some_block stopped. record {
         table = λ virt. map_at_unmapped virt ∙ sym (subst (λ (b : ℕ). Rattle.log_core.specs.Files.history_map_at o (entries o c.history) b virt ≡ None) (sym base) (empty.2 virt));
         size_is = sym (subst (λ (b : ℕ). Rattle.log_core.specs.Files.history_size_at o (entries o c.history) b ≡ 0) (sym base)
-            (sym (inv.contents (place o c n s g pin began inv f may.at_front) (kept o c n s g pin began inv f may.at_front)).snapshot.size_is ∙ empty.1));
-        base = ap (λ (l : LogBlock). l.base) cut_log ∙ (inv.order.generations_rise.cut_base (place o c n s g pin began inv f may.at_front) (kept o c n s g pin began inv f may.at_front).inside ∙ sym base);
+            (sym (inv.contents (place o c n s g pin began inv f may.at_front.valid) (kept o c n s g pin began inv f may.at_front.valid)).snapshot.size_is ∙ empty.1));
+        base = ap (λ (l : LogBlock). l.base) cut_log ∙ (inv.order.generations_rise.cut_base (place o c n s g pin began inv f may.at_front.valid) (kept o c n s g pin began inv f may.at_front.valid).inside ∙ sym base);
         block = ap (λ (l : LogBlock). l.block) cut_log ∙ sym front_log;
         from = omega arith;
         upto = (let wide = inv.sizes.image.wide in omega (arith, wide));
         inside = λ other. (omega arith, omega arith);
         at_end = λ short. (let wide = inv.sizes.image.wide in absurd (omega (arith, wide, short)));
       };
-      ready_walked = λ ready. (no_zero, refl, some_generation o c n s g pin began inv f may.at_front);
+      ready_walked = λ ready. (no_zero, refl, some_generation o c n s g pin began inv f may.at_front.valid);
       ready_base = λ ready. base;
       ready_tail = λ ready. omega arith;
     }
       where
         no_zero : front s ≢ 0
-        no_zero none = Rattle.log_core.proofs.LogTails.some_block o c inv (place o c n s g pin began inv f may.at_front) pinned.cut (kept o c n s g pin began inv f may.at_front) (omega arith)
-            (inv.order.generations_rise.cut_inside (place o c n s g pin began inv f may.at_front) (kept o c n s g pin began inv f may.at_front).inside) (sym front_log ∙ none)
+        no_zero none = Rattle.log_core.proofs.LogTails.some_block o c inv (place o c n s g pin began inv f may.at_front.valid) pinned.cut (kept o c n s g pin began inv f may.at_front.valid) (omega arith)
+            (inv.order.generations_rise.cut_inside (place o c n s g pin began inv f may.at_front.valid) (kept o c n s g pin began inv f may.at_front.valid).inside) (sym front_log ∙ none)
 
   pub log_facts : Knows o c n (state_after_work s StartsFromLog) g pin began
   log_facts = move_facts o c n s g pin began (state_after_work s StartsFromLog).walk f may.free (λ running. may.no_bases)
-      (no_bases_hold o c n s g pin began (front_base s) f may.no_bases) refl length_unmapped (λ some. walk_begun some)
+      (no_bases_hold o c n s g pin began (front_base s) f may.no_bases) refl (λ some. length_unmapped) (λ some. walk_begun some)

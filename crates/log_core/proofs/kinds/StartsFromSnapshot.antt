@@ -1,5 +1,5 @@
 -- A walk begins to read the snapshot at the front of its chain.
-use Rattle.std.proofs.Common.{◌≡◌, ◌≢◌, ◌<◌, ◌≤◌, ◌^◌, ℕ, true, List, [], ◌∷◌, length, refl, sym, ◌∙◌, ap, subst, arith, slice_index, Option, Some, None}
+use Rattle.std.proofs.Common.{◌≡◌, ◌≢◌, ◌<◌, ◌≤◌, ◌^◌, ℕ, true, List, [], ◌∷◌, length, refl, sym, ◌∙◌, ap, subst, arith, slice_index, None}
 use Rattle.std.proofs.lemmas.Bool.{eq-eqb}
 use Rattle.log_entry.specs.Fields.{field}
 use Rattle.log_entry.specs.Words.{snapshot_word}
@@ -13,17 +13,17 @@ use Rattle.log_core.specs.Views.{Ghost, view_of}
 use Rattle.log_core.specs.Origin.{Origin, shape, Generation}
 use Rattle.log_core.specs.Files.{entries, end_of}
 use Rattle.log_core.specs.Cores.{Core, nth_log, data_names}
-use Rattle.log_core.specs.Works.{StartsFromSnapshot, MayStart, kept_at, word_or_zero, front, front_base, state_after_work}
+use Rattle.log_core.specs.Works.{StartsFromSnapshot, MayStart, kept_at, front, front_base, front_size, state_after_work}
 use Rattle.log_core.specs.Order.{nth_generation}
 use Rattle.log_core.specs.Snapshots.{first_or, AreSnapshotBlocks}
 use Rattle.log_core.specs.Walks.{WalkHolds, HasRead, read_meanings}
 use Rattle.log_core.specs.Invariant.{Invariant, KeptIn, around}
 use Rattle.log_core.specs.Knows.{Knows}
 use Rattle.log_core.proofs.FileLimits.{limit_small}
-use Rattle.log_core.proofs.ChainWords.{chain_word}
 use Rattle.log_core.proofs.clauses.Apart.{has_left}
 use Rattle.log_core.proofs.clauses.MovedWalks.{move_facts, no_bases_hold}
-use Rattle.log_core.proofs.kinds.KeepsTable.{place, kept, from_first, front_is, base_is, chain_kept, snapshot_front}
+use Rattle.log_core.proofs.PinnedChains.{place, kept, from_first, chain_says}
+use Rattle.log_core.proofs.kinds.KeepsTable.{front_is, base_is, snapshot_front}
 
 -- the size of a snapshot's third word
 size_field : (count size : ℕ) → count < 2 ^ 16 → size < 2 ^ 48 → field SNAPSHOT_SIZE (snapshot_word (record { count = count; size = size })) ≡ size
@@ -48,13 +48,13 @@ generation_size o c inv place kept =
 
 module _ (o : Origin) (c : Core) (n : ℕ) (s : Seat) (g : Ghost) (pin began : ℕ) (inv : Invariant o c) (f : Knows o c n s g pin began) (may : MayStart g s SNAPSHOT) (third : kept_at s.walk.kept (front s) 2 ≢ None) where
   abbrev at : ℕ
-  at = place o c n s g pin began inv f may.at_front
+  at = place o c n s g pin began inv f may.at_front.valid
 
   abbrev pinned : Generation
   pinned = nth_generation c.generations at
 
   in_chain : KeptIn o c at
-  in_chain = kept o c n s g pin began inv f may.at_front
+  in_chain = kept o c n s g pin began inv f may.at_front.valid
 
   module _ (some : (view_of c.views n).parts ≢ []) where
     -- the first block of the snapshot
@@ -69,14 +69,11 @@ module _ (o : Origin) (c : Core) (n : ℕ) (s : Seat) (g : Ghost) (pin began : �
       third_says = (subst (λ (l : List ℕ). AreSnapshotBlocks (shape o) c.recorded pinned.base pinned.size l (nth_log c.logs pinned.cut).block) snapshots_are
           ((inv.contents at in_chain).snapshot.whole (subst (λ (l : List ℕ). 0 < length l) (sym snapshots_are) (omega arith))).words).2
 
-      size_by : (found : Option ℕ) → kept_at s.walk.kept (front s) 2 ≡ found → found ≢ None → field SNAPSHOT_SIZE (word_or_zero found) ≡ pinned.size
-      size_by None is none = absurd (none refl)
-      size_by (Some word) is none =
-          (let recorded : word ≡ slice_index (c.recorded (front s)) 2 = chain_word o c inv at in_chain (front s) 2 word
-          (has_left pinned.snapshots (data_names o (entries o c.history) pinned) (front s) listed)
-          (chain_kept o c n s g pin began inv f may.at_front some (front s) 2 word is) in
-          ap (field SNAPSHOT_SIZE) (recorded ∙ (ap (λ (b : ℕ). slice_index (c.recorded b) 2) front_block ∙ third_says))
-          ∙ size_field (entry_count (c.recorded block)) pinned.size (count_few (slice_index (c.recorded block) 2)) (generation_size o c inv at in_chain))
+      size_says : front_size s ≡ pinned.size
+      size_says =
+          ap (field SNAPSHOT_SIZE) (chain_says o c n s g pin began inv f may.at_front.valid some (front s) 2 (has_left pinned.snapshots (data_names o (entries o c.history) pinned) (front s) listed) third
+          ∙ (ap (λ (b : ℕ). slice_index (c.recorded b) 2) front_block ∙ third_says))
+          ∙ size_field (entry_count (c.recorded block)) pinned.size (count_few (slice_index (c.recorded block) 2)) (generation_size o c inv at in_chain)
 
       has_read : HasRead c.recorded pinned (state_after_work s StartsFromSnapshot).walk
       has_read = record {
@@ -85,7 +82,7 @@ module _ (o : Origin) (c : Core) (n : ℕ) (s : Seat) (g : Ghost) (pin began : �
         upto = omega arith;
         table = λ virt. map_at_unmapped virt ∙ sym (ap (λ (l : List ℕ). map_of (read_meanings c.recorded l (front s) 3) virt) snapshots_are
             ∙ (ap (λ (b : ℕ). map_of (read_meanings c.recorded (block ∷ blocks) b 3) virt) front_block ∙ none_read c.recorded block blocks virt));
-        size_is = size_by (kept_at s.walk.kept (front s) 2) refl third;
+        size_is = size_says;
         position_is = base_is o c n s g pin began inv f may.at_front some;
       }
 
@@ -93,8 +90,8 @@ module _ (o : Origin) (c : Core) (n : ℕ) (s : Seat) (g : Ghost) (pin began : �
     walk_begun = record {
       unwalked = λ none reading. cc;
       to_end = subst (λ (b : ℕ). b ≤ end_of o c.history) (sym (base_is o c n s g pin began inv f may.at_front some)) (inv.order.generations_rise.to_end at in_chain.inside);
-      from_first = λ reading. (let is = from_first o c n s g pin began inv f may.at_front in omega (arith, is));
-      to_current = λ reading. (let is = from_first o c n s g pin began inv f may.at_front in let low = in_chain.inside in omega (arith, is, low));
+      from_first = λ reading. (let is = from_first o c n s g pin began inv f may.at_front.valid in omega (arith, is));
+      to_current = λ reading. (let is = from_first o c n s g pin began inv f may.at_front.valid in let low = in_chain.inside in omega (arith, is, low));
       read = λ reading again. by pinned.snapshots refl (snapshot_front o c n s g pin began inv f may.at_front some may.kind_is);
       kept_words = λ valid. tt;
       unpinned = λ invalid. refl;
@@ -110,4 +107,4 @@ module _ (o : Origin) (c : Core) (n : ℕ) (s : Seat) (g : Ghost) (pin began : �
 
   pub snapshot_facts : Knows o c n (state_after_work s StartsFromSnapshot) g pin began
   snapshot_facts = move_facts o c n s g pin began (state_after_work s StartsFromSnapshot).walk f may.free (λ running. may.no_bases)
-      (no_bases_hold o c n s g pin began (front_base s) f may.no_bases) refl length_unmapped (λ some. walk_begun some)
+      (no_bases_hold o c n s g pin began (front_base s) f may.no_bases) refl (λ some. length_unmapped) (λ some. walk_begun some)
