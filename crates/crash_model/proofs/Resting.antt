@@ -73,7 +73,7 @@ known_at_rest w o c seat inside rests =
       holds = inv;
       pin = slice_index c.memory.now.pins seat;
       began = slice_index (began_if (is_begun (op_in v.seat) (op_in (seat_of w seat))) c.began seat (end_of o c.history)) seat;
-      knows = knows_here o start seat (number_next v (seat_of w seat)) c (seat_of w seat) inv at.made at.computed.begins at.computed.offered (next_may v (seat_of w seat));
+      knows = knows_here o start seat (number_next v (seat_of w seat)) c (seat_of w seat) inv at.made at.computed.unspent at.computed.begins at.computed.offered (next_may v (seat_of w seat));
     })
 
 none_unless : {A : Type 0} (x : Option A) → (x ≢ None → ⊥) → x ≡ None

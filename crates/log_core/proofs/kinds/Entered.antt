@@ -27,7 +27,7 @@ module _ (o : Origin) (d : Core) (n : ℕ) (inv : Invariant o d) (here : n < len
       Invariant o (record d { views = slice_set d.views n (with_seat v t v.ghost) })
   computed t computes offered going = subst (λ (s : Seat). Invariant o (record d { views = slice_set d.views n (with_seat v s v.ghost) })) (sym computes.gives)
       (set_core o d n _ v.ghost d.memory d.owner d.began inv here unspent (pins_leave o d n inv d.memory.now.pins refl (λ k other. refl)) (no_changes d n) inv.owners.bits
-      (later_hold o d n (slice_index d.memory.now.pins n) (slice_index d.began n) v.ghost inv v.seat computes.works offered going computes.may (facts_of o d n inv here))
+      (later_hold o d n (slice_index d.memory.now.pins n) (slice_index d.began n) v.ghost inv unspent v.seat computes.works offered going computes.may (facts_of o d n inv here))
       refl (λ k other. refl) inv.records.begun)
 
   -- so it is with a view that the core has

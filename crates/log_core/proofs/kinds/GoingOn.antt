@@ -2,7 +2,7 @@
 use Rattle.std.proofs.Common.{◌≡◌, ◌≢◌, ℕ, Bool, true, false, List, [], ◌∷◌, refl, sym, ap, Option, Some, None}
 use Rattle.pmem_words.specs.declared.keeps.Task.{Task}
 use Rattle.pmem_words.specs.Seats.{Seat}
-use Rattle.log_core.specs.Views.{Ghost, op_in, op_of}
+use Rattle.log_core.specs.Views.{Ghost, view_of, op_in, op_of}
 use Rattle.log_core.specs.Origin.{Origin}
 use Rattle.log_core.specs.Cores.{Core}
 use Rattle.log_core.specs.Works.{Work, Begins, KeepsTable, StartsFromLog, StartsFromSnapshot, ReadsRun, NextSnapshot, EndsReading, TakesEntry, TakesSeal, Follows, Forgets, OpensBase, AddsBaseWord, DropsBases, Lays, SetsWord, CountsFilled, NotesNamed, KeepsReplaced, NotesHeld, IsFree, state_after_work, MayWork, is_going_on}
@@ -108,7 +108,7 @@ module _ (g : Ghost) (begun : Bool) (number : ℕ) where
   may_begun s KeepsReplaced going may = may
   may_begun s (NotesHeld held) going may = may
 
-module _ (o : Origin) (c : Core) (n pin began : ℕ) (g : Ghost) (inv : Invariant o c) where
+module _ (o : Origin) (c : Core) (n pin began : ℕ) (g : Ghost) (inv : Invariant o c) (unspent : (view_of c.views n).parts ≢ []) where
   pub going_facts : (s : Seat) (work : Work) → is_offered_work work ≡ true → is_going_on work ≡ true → MayWork g s work → Knows o c n s g pin began → Knows o c n (state_after_work s work) g pin began
   going_facts s (Begins task bytes) offered going may f = cc
   going_facts s KeepsTable offered going may f = table_facts o c n s g pin began inv f may.0 may.1 may.2 may.3

@@ -78,7 +78,7 @@ module _ (o : Origin) (c : Core) (n : ℕ) (inv : Invariant o c) (here : n < len
     pub at_ask : Knows o c n note.before (ghost_at mine note) (slice_index c.memory.now.pins n) (slice_index began n)
     at_ask = subst (λ (s : Seat). Knows o c n s (ghost_begun mine.ghost mine.seat s note.number) (slice_index c.memory.now.pins n) (slice_index (began_if (is_begun (op_in mine.seat) (op_in s)) c.began n (end_of o c.history)) n))
         (sym step.begins.gives)
-        (works_hold o c n (slice_index c.memory.now.pins n) note.number inv mine.seat step.begins.works before step.begins.may start (λ e. e)
+        (works_hold o c n (slice_index c.memory.now.pins n) note.number inv unspent mine.seat step.begins.works before step.begins.may start (λ e. e)
         (subst (λ (s : Seat). MayNumber (is_begun (op_in mine.seat) (op_in s)) mine.ghost.call.number note.number) step.begins.gives step.number))
       where
         begun_same : (op : Option Op) → is_begun op op ≡ false

@@ -72,12 +72,12 @@ module _ (o : Origin) (c : Core) (n pin number : ℕ) where
       (subst (λ (g : Ghost). Knows o c n s g pin (slice_index (began_at s) n)) same facts) task bytes number
       (is_begun (op_in v.seat) (op_of task bytes)) may higher (begins_from_none (op_in v.seat) (op_of task bytes) (start may.none_runs)))
 
-  module _ (inv : Invariant o c) where
+  module _ (inv : Invariant o c) (unspent : (view_of c.views n).parts ≢ []) where
     -- a computation that goes on
     go_on : (s : Seat) (work : Work) → is_offered_work work ≡ true → is_going_on work ≡ true → MayWork v.ghost s work → FactsAt s → FactsAt (state_after_work s work)
     go_on s work offered going may facts = subst (λ (op : Option Op). Knows o c n (state_after_work s work) (ghost_if v.ghost (is_begun (op_in v.seat) op) number) pin
         (slice_index (began_if (is_begun (op_in v.seat) op) c.began n (end_of o c.history)) n)) (sym (op_stays v.ghost s work going may))
-        (going_facts o c n pin (slice_index (began_at s) n) (ghost_begun v.ghost v.seat s number) inv s work offered going
+        (going_facts o c n pin (slice_index (began_at s) n) (ghost_begun v.ghost v.seat s number) inv unspent s work offered going
         (may_begun v.ghost (is_begun (op_in v.seat) (op_in s)) number s work going may) facts)
 
     -- what a seat computes before a step
@@ -98,9 +98,9 @@ module _ (o : Origin) (c : Core) (n pin number : ℕ) where
         work (both_left (is_offered_work work) (list_all is_offered_work works) offered) may.0 may.1 higher
 
 -- and what it computes after one
-pub later_hold : (o : Origin) (c : Core) (n pin began : ℕ) (g : Ghost) → Invariant o c → (s : Seat) (works : List Work) → list_all is_offered_work works ≡ true → list_all is_going_on works ≡ true → MayWorkAll g s works →
+pub later_hold : (o : Origin) (c : Core) (n pin began : ℕ) (g : Ghost) → Invariant o c → (view_of c.views n).parts ≢ [] → (s : Seat) (works : List Work) → list_all is_offered_work works ≡ true → list_all is_going_on works ≡ true → MayWorkAll g s works →
     Knows o c n s g pin began → Knows o c n (state_after_all_work s works) g pin began
-later_hold o c n pin began g inv s [] offered going may facts = facts
-later_hold o c n pin began g inv s (work ∷ works) offered going may facts =
-    later_hold o c n pin began g inv (state_after_work s work) works (both_right (is_offered_work work) (list_all is_offered_work works) offered) (both_right (is_going_on work) (list_all is_going_on works) going) may.1
-    (going_facts o c n pin began g inv s work (both_left (is_offered_work work) (list_all is_offered_work works) offered) (both_left (is_going_on work) (list_all is_going_on works) going) may.0 facts)
+later_hold o c n pin began g inv unspent s [] offered going may facts = facts
+later_hold o c n pin began g inv unspent s (work ∷ works) offered going may facts =
+    later_hold o c n pin began g inv unspent (state_after_work s work) works (both_right (is_offered_work work) (list_all is_offered_work works) offered) (both_right (is_going_on work) (list_all is_going_on works) going) may.1
+    (going_facts o c n pin began g inv unspent s work (both_left (is_offered_work work) (list_all is_offered_work works) offered) (both_left (is_going_on work) (list_all is_going_on works) going) may.0 facts)

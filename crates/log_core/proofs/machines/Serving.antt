@@ -1,6 +1,6 @@
 -- A machine that is lawful leads to its end within a core, whatever others do. `OverPlain` says the same over a plain memory whose
 -- words are a core's.
-use Rattle.std.proofs.Common.{◌≡◌, ◌<◌, ℕ, Bool, true, false, List, [], ◌++◌, length, refl, sym, ◌∙◌, ap, subst, slice_index, Option, Some, None, append-nil}
+use Rattle.std.proofs.Common.{◌≡◌, ◌≢◌, ◌<◌, ℕ, Bool, true, false, List, [], ◌++◌, length, refl, sym, ◌∙◌, ap, subst, slice_index, Option, Some, None, append-nil}
 use Rattle.std.specs.List.{list_all}
 use Rattle.log_entry.specs.declared.calls.Op.{Op}
 use Rattle.log_entry.specs.declared.calls.Call.{Call}
@@ -46,15 +46,15 @@ reached_keeps o start c reached = subst (λ (x : Core). Invariant o x) reached.e
 
 module _ (o : Origin) (start : Invariant o (first_core o)) (seat number : ℕ) where
   -- what a core knows of the state that a seat has computed from its view
-  pub knows_here : (c : Core) (s : Seat) → Invariant o c → seat < length c.views → (begins : Computes (view_of c.views seat).ghost (view_of c.views seat).seat s) → list_all is_offered_work begins.works ≡ true →
+  pub knows_here : (c : Core) (s : Seat) → Invariant o c → seat < length c.views → (view_of c.views seat).parts ≢ [] → (begins : Computes (view_of c.views seat).ghost (view_of c.views seat).seat s) → list_all is_offered_work begins.works ≡ true →
       MayNumber (is_begun (op_in (view_of c.views seat).seat) (op_in s)) (view_of c.views seat).ghost.call.number number →
       Knows o c seat s (ghost_begun (view_of c.views seat).ghost (view_of c.views seat).seat s number) (slice_index c.memory.now.pins seat)
       (slice_index (began_if (is_begun (op_in (view_of c.views seat).seat) (op_in s)) c.began seat (end_of o c.history)) seat)
-  knows_here c s inv here begins offered number_is = subst
+  knows_here c s inv here unspent begins offered number_is = subst
       (λ (t : Seat). MayNumber (is_begun (op_in (view_of c.views seat).seat) (op_in t)) (view_of c.views seat).ghost.call.number number →
       Knows o c seat t (ghost_begun (view_of c.views seat).ghost (view_of c.views seat).seat t number) (slice_index c.memory.now.pins seat) (slice_index (began_if (is_begun (op_in (view_of c.views seat).seat) (op_in t)) c.began seat (end_of o c.history)) seat))
       (sym begins.gives)
-      (λ higher. works_hold o c seat (slice_index c.memory.now.pins seat) number inv (view_of c.views seat).seat begins.works offered begins.may
+      (λ higher. works_hold o c seat (slice_index c.memory.now.pins seat) number inv unspent (view_of c.views seat).seat begins.works offered begins.may
       (rw (stays (op_in (view_of c.views seat).seat)) (facts_of o c seat inv here)) (λ e. e) higher)
       number_is
 
@@ -71,7 +71,7 @@ module _ (o : Origin) (start : Invariant o (first_core o)) (seat number : ℕ) w
     admitted_at m s c inv here linked =
         (serves m s (ghost_begun (view_of c.views seat).ghost (view_of c.views seat).seat s number) linked.fits).admitted c (slice_index c.memory.now.pins seat)
         (slice_index (began_if (is_begun (op_in (view_of c.views seat).seat) (op_in s)) c.began seat (end_of o c.history)) seat) inv linked.unspent
-        (knows_here c s inv here linked.begins linked.offered linked.number_is)
+        (knows_here c s inv here linked.unspent linked.begins linked.offered linked.number_is)
 
     -- it is what may be found
     found_at : (m : M) (s : Seat) (c : Core) → Invariant o c → seat < length c.views → IsLinkedToView number rest (P m) s (view_of c.views seat) →
@@ -82,7 +82,7 @@ module _ (o : Origin) (start : Invariant o (first_core o)) (seat number : ℕ) w
       began = slice_index (began_if (is_begun (op_in (view_of c.views seat).seat) (op_in s)) c.began seat (end_of o c.history)) seat;
       holds = inv;
       unspent = linked.unspent;
-      knows = knows_here c s inv here linked.begins linked.offered linked.number_is;
+      knows = knows_here c s inv here linked.unspent linked.begins linked.offered linked.number_is;
       is = refl;
     }
 
@@ -102,7 +102,7 @@ module _ (o : Origin) (start : Invariant o (first_core o)) (seat number : ℕ) w
               begins = linked.begins;
               number = linked.number_is;
               may = laws.may c (slice_index c.memory.now.pins seat) (slice_index (began_if (is_begun (op_in (view_of c.views seat).seat) (op_in s)) c.began seat (end_of o c.history)) seat) inv linked.unspent
-                  (knows_here c s inv here linked.begins linked.offered linked.number_is);
+                  (knows_here c s inv here linked.unspent linked.begins linked.offered linked.number_is);
               enters = (laws.enters f is admits).enters;
             };
           };
