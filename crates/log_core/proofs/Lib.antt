@@ -11,6 +11,7 @@ pub mod FileLimits
 pub mod ChainWords
 pub mod PinnedChains
 pub mod WalkMaps
+pub mod BaseWords
 pub mod SnapshotReads
 pub mod kinds
 pub mod machines

@@ -1,5 +1,5 @@
 -- Log blocks by their bases: these rise; and a walk whose tail is found 0 is at the end.
-use Rattle.std.proofs.Common.{◌≡◌, ◌≢◌, inl, inr, ◌<◌, ◌≤◌, ◌+◌, ◌==◌, ◌||◌, nat_lt, ℕ, zero, suc, Bool, true, false, if◌then◌else◌, List, [], ◌∷◌, length, refl, sym, ◌∙◌, ap, subst, arith, slice_index}
+use Rattle.std.proofs.Common.{◌≡◌, ◌≢◌, inl, inr, ◌<◌, ◌≤◌, ◌+◌, ◌-◌, ◌==◌, ◌||◌, nat_lt, ℕ, zero, suc, Bool, true, false, if◌then◌else◌, List, [], ◌∷◌, length, refl, sym, ◌∙◌, ap, subst, arith, slice_index}
 use Rattle.std.proofs.lemmas.Bool.{ltb-true, ltb-false, eqb-true, eqb-false, eq-eqb, ne_eqb, or_from, or_right}
 use Rattle.log_entry.specs.declared.layouts.TheConstants.{EMPTY, SEAL}
 use Rattle.log_image.specs.Image.{words_in}
@@ -61,6 +61,18 @@ first_entry : (slots : List ℕ) → 0 < length slots → slice_index slots 0 �
 first_entry [] some used other = absurd (omega (arith, some))
 first_entry (slot ∷ slots) some used other = rw (ne_eqb slot EMPTY used, ne_eqb slot SEAL other) (omega arith)
 
+-- a slot in use that is no seal is an entry, where those before it are
+pub entry_counts : (slots : List ℕ) (k : ℕ) → k ≤ length (entry_words slots) → slice_index slots k ≢ EMPTY → slice_index slots k ≢ SEAL → k < length (entry_words slots)
+entry_counts [] k few used other = absurd (used refl)
+entry_counts (slot ∷ slots) zero few used other = rw (ne_eqb slot EMPTY used, ne_eqb slot SEAL other) (omega arith)
+entry_counts (slot ∷ slots) (suc k) few used other = go (slot == EMPTY) (slot == SEAL) few (λ less. entry_counts slots k less used other)
+  where
+    go : (empty seal : Bool) → suc k ≤ length (if empty then [] else if seal then [] else slot ∷ entry_words slots) → (k ≤ length (entry_words slots) → k < length (entry_words slots)) →
+        suc k < length (if empty then [] else if seal then [] else slot ∷ entry_words slots)
+    go true seal less rest = absurd (omega (arith, less))
+    go false true less rest = absurd (omega (arith, less))
+    go false false less rest = (let more = rest (omega (arith, less)) in omega (arith, more))
+
 -- a seal among used slots
 pub sealed_at : (slots : List ℕ) (k : ℕ) → slice_index slots k ≡ SEAL → is_sealed slots ≡ true
 sealed_at [] k is = cc
@@ -113,6 +125,22 @@ module _ (o : Origin) (c : Core) (inv : Invariant o c) where
   -- so it is the one with its base
   pub log_again : (number : ℕ) → number < length c.logs → log_at c.logs (nth number).base ≡ nth number
   log_again number inside = log_at_base c.logs number inside (λ other less same. (let rise = bases_rise number other less inside in omega (arith, rise, same)))
+
+  -- no entry of a log block is past the end
+  pub log_to_end : (number : ℕ) → number < length c.logs → (nth number).base + entries_used (nth number) ≤ end_of o c.history
+  log_to_end number inside = go (nat_lt (number + 1) (length c.logs)) refl
+    where
+      go : (b : Bool) → nat_lt (number + 1) (length c.logs) ≡ b → (nth number).base + entries_used (nth number) ≤ end_of o c.history
+      go false e = (let late = ltb-false (number + 1) (length c.logs) e in
+          let ends = inv.order.log.last in
+          let same : number ≡ length c.logs - 1 = omega (arith, late, inside) in
+          subst (λ (k : ℕ). (nth k).base + entries_used (nth k) ≤ end_of o c.history) (sym same) (omega (arith, ends)))
+      go true e = (let next = inv.order.log.next number (ltb-true (number + 1) (length c.logs) e) in
+          let less = ltb-true (number + 1) (length c.logs) e in
+          let ends = inv.order.log.last in
+          same_or_other (number + 1) (length c.logs - 1)
+          (λ same. (let base = ap (λ (k : ℕ). (nth k).base) same in omega (arith, next, ends, base)))
+          (λ other. (let rise = bases_rise (length c.logs - 1) (number + 1) (omega (arith, less, other)) (omega (arith, less)) in omega (arith, next, ends, rise))))
 
   -- a log block of a kept generation's chain is not the header's
   pub some_block : (place number : ℕ) → KeptIn o c place → (nth_generation c.generations place).cut ≤ number → number < length c.logs → (nth number).block ≢ 0

@@ -9,6 +9,7 @@ pub mod StartsFromLog
 pub mod StartsFromSnapshot
 pub mod ReadsSnapshot
 pub mod AtTail
+pub mod TakesEntry
 pub mod StoresWord
 pub mod MarksWord
 pub mod Fences

@@ -1,5 +1,5 @@
 -- A walk that moves, away from its tail, while its call may still take in what it finds: what a core knows of the seat.
-use Rattle.std.proofs.Common.{◌≡◌, ◌≢◌, ◌==◌, ◌&&◌, ◌+◌, ℕ, Bool, true, false, List, [], length, sym, ◌∙◌, ap, subst, arith, Some, None}
+use Rattle.std.proofs.Common.{◌≡◌, ◌≢◌, ◌==◌, ◌&&◌, ◌+◌, ◌⊎◌, inl, ⊎_elim, ℕ, Bool, true, false, List, [], length, sym, ◌∙◌, ap, subst, arith, Some, None}
 use Rattle.log_entry.specs.ByteFile.{read}
 use Rattle.pmem_words.specs.declared.keeps.Task.{Task}
 use Rattle.pmem_words.specs.declared.keeps.Task.TheVariants.{Pread}
@@ -19,34 +19,42 @@ use Rattle.log_core.proofs.Facts.{moved_facts}
 no_bytes : (task : Task) (offset count : ℕ) (bytes : List ℕ) → laid_bytes task bytes ≡ [] → task ≡ Pread offset count → bytes ≡ []
 no_bytes task offset count bytes none is = subst (λ (t : Task). laid_bytes t bytes ≡ []) is none
 
+-- and bases of the call may have been given up
+pub move_with_bases : (o : Origin) (c : Core) (n : ℕ) (s : Seat) (g : Ghost) (pin began : ℕ) (w : Walk) (bases base_words : List ℕ) → Knows o c n s g pin began → IsFree g s.calling → (op_in s ≢ None → bases ≡ []) ⊎ (w.reading ≡ false) →
+    BasesHold o c.history (view_of c.views n).first (words_of s) w.position (record (s.calling) { bases = bases; base_words = base_words }) → w.at_tail ≡ false →
+    ((view_of c.views n).parts ≢ [] → length w.map ≡ 65536) → ((view_of c.views n).parts ≢ [] → WalkHolds (around o c) s.hold w) →
+    Knows o c n (record s { walk = w; calling = record (s.calling) { bases = bases; base_words = base_words } }) g pin began
+move_with_bases o c n s g pin began w bases base_words f free no_bases hold away long walks =
+    moved_facts o c n s g pin began f w (record (s.calling) { bases = bases; base_words = base_words }) s.giving.pins_seen s.giving.limbo_held (record {
+      map = long;
+      walk = walks;
+      scan_others = f.scan_others;
+      scan_self = f.scan_self;
+      writes = (let r = f.writes in record { recorded = r.recorded; running = λ won. (let both : true ≡ false = sym won ∙ free.not_won in cc) });
+      writes_once = λ some position low upto. ap (λ (won : Bool). writes_at position (view_of c.views n).done + one_if (won && (w.position == position))) free.not_won
+          ∙ (ap (λ (won : Bool). writes_at position (view_of c.views n).done + one_if (won && (s.walk.position == position))) (sym free.not_won) ∙ f.writes_once some position low upto);
+      put = record { own = λ head is. (let both : None ≡ Some head = sym free.no_head ∙ is in cc); found = f.put.found };
+      calls = (let r = f.calls in record {
+        laid = λ offset count is. (let none = no_bytes s.calling.job offset count s.calling.bytes free.none_laid is in
+            none ∙ ap (λ (bytes : List ℕ). read (file_at o c.history w.position) offset (length bytes)) (sym none));
+        bases = hold;
+        reading = λ reading. (away, free.none_laid, free.not_won, free.no_sync, free.no_head, ⊎_elim (λ none. none) (λ stopped. (let both : true ≡ false = sym reading ∙ stopped in cc)) no_bases);
+        numbers = r.numbers;
+        task = (let t = r.task in record { won_runs = t.won_runs; put_collects = t.put_collects; synced_syncs = t.synced_syncs });
+      });
+      tail = λ at. (let both : true ≡ false = sym at ∙ away in cc);
+      syncs = (let r = f.syncs in record {
+        to = λ position is. (let both : None ≡ Some position = sym free.no_sync ∙ is in cc);
+        marks = r.marks;
+        valid = r.valid;
+        answered = r.answered;
+      });
+    })
+
 pub move_facts : (o : Origin) (c : Core) (n : ℕ) (s : Seat) (g : Ghost) (pin began : ℕ) (w : Walk) → Knows o c n s g pin began → IsFree g s.calling → (op_in s ≢ None → s.calling.bases ≡ []) →
-    BasesHold o c.history (view_of c.views n).first (words_of s) w.position s.calling → w.at_tail ≡ false → ((view_of c.views n).parts ≢ [] → length w.map ≡ 65536) → ((view_of c.views n).parts ≢ [] → WalkHolds (around o c) s.hold w) →
-    Knows o c n (record s { walk = w }) g pin began
-move_facts o c n s g pin began w f free no_bases bases away long walks = moved_facts o c n s g pin began f w s.calling s.giving.pins_seen s.giving.limbo_held (record {
-  map = long;
-  walk = walks;
-  scan_others = f.scan_others;
-  scan_self = f.scan_self;
-  writes = (let r = f.writes in record { recorded = r.recorded; running = λ won. (let both : true ≡ false = sym won ∙ free.not_won in cc) });
-  writes_once = λ some position low upto. ap (λ (won : Bool). writes_at position (view_of c.views n).done + one_if (won && (w.position == position))) free.not_won
-      ∙ (ap (λ (won : Bool). writes_at position (view_of c.views n).done + one_if (won && (s.walk.position == position))) (sym free.not_won) ∙ f.writes_once some position low upto);
-  put = record { own = λ head is. (let both : None ≡ Some head = sym free.no_head ∙ is in cc); found = f.put.found };
-  calls = (let r = f.calls in record {
-    laid = λ offset count is. (let none = no_bytes s.calling.job offset count s.calling.bytes free.none_laid is in
-        none ∙ ap (λ (bytes : List ℕ). read (file_at o c.history w.position) offset (length bytes)) (sym none));
-    bases = bases;
-    reading = λ reading. (away, free.none_laid, free.not_won, free.no_sync, free.no_head, no_bases);
-    numbers = r.numbers;
-    task = r.task;
-  });
-  tail = λ at. (let both : true ≡ false = sym at ∙ away in cc);
-  syncs = (let r = f.syncs in record {
-    to = λ position is. (let both : None ≡ Some position = sym free.no_sync ∙ is in cc);
-    marks = r.marks;
-    valid = r.valid;
-    answered = r.answered;
-  });
-})
+    BasesHold o c.history (view_of c.views n).first (words_of s) w.position s.calling → w.at_tail ≡ false → ((view_of c.views n).parts ≢ [] → length w.map ≡ 65536) →
+    ((view_of c.views n).parts ≢ [] → WalkHolds (around o c) s.hold w) → Knows o c n (record s { walk = w }) g pin began
+move_facts o c n s g pin began w f free no_bases bases away long walks = move_with_bases o c n s g pin began w s.calling.bases s.calling.base_words f free (inl no_bases) bases away long walks
 
 -- of no bases everything holds
 pub no_bases_hold : (o : Origin) (c : Core) (n : ℕ) (s : Seat) (g : Ghost) (pin began position : ℕ) → Knows o c n s g pin began → s.calling.bases ≡ [] → BasesHold o c.history (view_of c.views n).first (words_of s) position s.calling

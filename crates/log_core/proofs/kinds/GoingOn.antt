@@ -20,6 +20,7 @@ use Rattle.log_core.proofs.kinds.KeepsTable.{table_facts}
 use Rattle.log_core.proofs.kinds.StartsFromLog.{log_facts}
 use Rattle.log_core.proofs.kinds.StartsFromSnapshot.{snapshot_facts}
 use Rattle.log_core.proofs.kinds.ReadsSnapshot.{run_facts, next_facts, end_facts}
+use Rattle.log_core.proofs.kinds.TakesEntry.{entry_facts}
 use Rattle.log_core.proofs.kinds.AtTail.{seal_facts, follow_facts}
 
 -- a computation begins a call, or goes on with one
@@ -117,7 +118,7 @@ module _ (o : Origin) (c : Core) (n pin began : ℕ) (g : Ghost) (inv : Invarian
   going_facts s ReadsRun offered going may f = run_facts o c n s g pin began inv f may.0 may.1
   going_facts s NextSnapshot offered going may f = next_facts o c n s g pin began inv f may.reading may
   going_facts s EndsReading offered going may f = end_facts o c n s g pin began inv f may.reading may
-  going_facts s TakesEntry offered going may f = cc
+  going_facts s TakesEntry offered going may f = entry_facts o c n s g pin began inv unspent f may.0 may.1 may.2
   going_facts s TakesSeal offered going may f = seal_facts o c n s g pin began inv f may.0.valid may.0.ready may.0.inside may.1
   going_facts s Follows offered going may f = follow_facts o c n s g pin began inv f may.valid may.ready may.at_end may.linked
   going_facts s Forgets offered going may f = forget_facts o c n s g pin began f
