@@ -4,6 +4,7 @@ pub mod SetsWord
 pub mod DropsBases
 pub mod NotesNamed
 pub mod NotesHeld
+pub mod KeepsReplaced
 pub mod KeepsTable
 pub mod StartsFromLog
 pub mod StartsFromSnapshot

@@ -16,6 +16,7 @@ use Rattle.log_core.proofs.kinds.CountsFilled.{count_filled_facts}
 use Rattle.log_core.proofs.kinds.DropsBases.{drop_facts}
 use Rattle.log_core.proofs.kinds.NotesNamed.{named_facts}
 use Rattle.log_core.proofs.kinds.NotesHeld.{held_facts}
+use Rattle.log_core.proofs.kinds.KeepsReplaced.{replaced_facts}
 use Rattle.log_core.proofs.kinds.KeepsTable.{table_facts}
 use Rattle.log_core.proofs.kinds.StartsFromLog.{log_facts}
 use Rattle.log_core.proofs.kinds.StartsFromSnapshot.{snapshot_facts}
@@ -128,5 +129,5 @@ module _ (o : Origin) (c : Core) (n pin began : ℕ) (g : Ghost) (inv : Invarian
   going_facts s (SetsWord place word value) offered going may f = set_word_facts o c n s g pin began place word value f may
   going_facts s (CountsFilled place) offered going may f = count_filled_facts o c n s g pin began place f may
   going_facts s (NotesNamed words) offered going may f = named_facts o c n s g pin began words f may
-  going_facts s KeepsReplaced offered going may f = cc
+  going_facts s KeepsReplaced offered going may f = replaced_facts o c n s g pin began f may
   going_facts s (NotesHeld held) offered going may f = held_facts o c n s g pin began held f
