@@ -12,6 +12,8 @@ pub mod ChainWords
 pub mod PinnedChains
 pub mod WalkMaps
 pub mod SnapshotReads
+pub mod MappedBlocks
+pub mod WordBytesAt
 pub mod kinds
 pub mod machines
 pub mod starts

@@ -5,6 +5,7 @@ pub mod DropsBases
 pub mod NotesNamed
 pub mod NotesHeld
 pub mod KeepsReplaced
+pub mod ReadsFile
 pub mod KeepsTable
 pub mod StartsFromLog
 pub mod StartsFromSnapshot
