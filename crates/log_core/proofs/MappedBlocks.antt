@@ -1,9 +1,11 @@
 -- A block that the map at a position gives is named in the data area by each kept generation whose chain begins before that.
-use Rattle.std.proofs.Common.{◌≡◌, ◌<◌, ◌≤◌, ◌+◌, ◌-◌, ◌==◌, nat_le, ◌⊎◌, inl, inr, ℕ, zero, suc, Bool, true, false, List, [], ◌∷◌, ◌++◌, length, take, drop, if◌then◌else◌, Option, Some, None, refl, sym, ◌∙◌, ap, subst, arith}
+use Rattle.std.proofs.Common.{◌≡◌, ◌<◌, ◌≤◌, ◌-◌, ◌==◌, nat_le, ◌⊎◌, inl, inr, ℕ, zero, suc, Bool, true, false, List, [], ◌∷◌, ◌++◌, length, take, drop, if◌then◌else◌, Option, Some, None, refl, sym, ◌∙◌, ap, subst, arith, append_assoc}
 use Rattle.std.specs.List.{slice_get}
 use Rattle.std.specs.Option.{option_or}
 use Rattle.std.proofs.Math.Seq.{take-add}
 use Rattle.std.proofs.lemmas.Bool.{eq-eqb}
+use Rattle.std.proofs.lemmas.List.{map-append}
+use Rattle.std.proofs.lemmas.List.Folds.{list_any-append}
 use Rattle.log_image.specs.Entries.{Meaning, names, all_names}
 use Rattle.log_image.specs.Maps.{block_in, map_of}
 use Rattle.log_image.specs.Chains.{is_listed}
@@ -16,7 +18,8 @@ use Rattle.log_core.specs.After.{snapshot_meanings}
 use Rattle.log_core.specs.Order.{nth_generation}
 use Rattle.log_core.specs.Contents.{SnapshotHolds}
 use Rattle.log_core.specs.Invariant.{Invariant, KeptIn}
-use Rattle.log_core.proofs.clauses.Apart.{has_left, has_right}
+use Rattle.log_core.proofs.WalkMaps.{map_more}
+use Rattle.log_core.proofs.clauses.Apart.{has_left, has_right, either_of}
 
 -- a block that an entry gives is among its blocks
 at_in : (blocks : List ℕ) (place block : ℕ) → slice_get blocks place ≡ Some block → is_listed blocks block ≡ true
@@ -44,29 +47,15 @@ mapped_name (entry ∷ entries) virt block found =
       | inr is ↦ has_left (names entry) (all_names entries) block (given_name entry virt block is)
     ]
 
-first_or_rest : (first second third : Option ℕ) → option_or (option_or first second) third ≡ option_or first (option_or second third)
-first_or_rest None second third = refl
-first_or_rest (Some block) second third = refl
-
-or_none : (found : Option ℕ) → found ≡ option_or found None
-or_none None = refl
-or_none (Some block) = refl
-
--- the map of more entries: what the later ones give, else what the earlier ones do
-pub map_more : (first second : List Meaning) (virt : ℕ) → map_of (first ++ second) virt ≡ option_or (map_of second virt) (map_of first virt)
-map_more [] second virt = or_none (map_of second virt)
-map_more (entry ∷ first) second virt = ap (λ (found : Option ℕ). option_or found (block_in entry virt)) (map_more first second virt)
-    ∙ first_or_rest (map_of second virt) (map_of first virt) (block_in entry virt)
-
 meanings_more : (first second : List LogEntry) → meanings (first ++ second) ≡ meanings first ++ meanings second
-meanings_more first second = Rattle.std.proofs.lemmas.List.map-append (λ (entry : LogEntry). entry.meaning) first second
+meanings_more first second = map-append (λ (entry : LogEntry). entry.meaning) first second
 
 -- the names of the first of some entries are names of them all
 first_names : (count : ℕ) (es : List LogEntry) (block : ℕ) → is_listed (all_names (meanings (take count es))) block ≡ true → is_listed (entry_names es) block ≡ true
 first_names zero es block listed = cc
 first_names (suc count) [] block listed = cc
-first_names (suc count) (entry ∷ es) block listed = Rattle.log_core.proofs.clauses.Apart.either_of (is_listed (names entry.meaning) block) (is_listed (all_names (meanings (take count es))) block)
-    (sym (Rattle.std.proofs.lemmas.List.Folds.list_any-append (λ (other : ℕ). other == block) (names entry.meaning) (all_names (meanings (take count es)))) ∙ listed)
+first_names (suc count) (entry ∷ es) block listed = either_of (is_listed (names entry.meaning) block) (is_listed (all_names (meanings (take count es))) block)
+    (sym (list_any-append (λ (other : ℕ). other == block) (names entry.meaning) (all_names (meanings (take count es)))) ∙ listed)
     (λ here. has_left (names entry.meaning) (entry_names es) block here)
     (λ later. has_right (names entry.meaning) (entry_names es) block (first_names count es block later))
 
@@ -91,7 +80,7 @@ module _ (o : Origin) (c : Core) (inv : Invariant o c) (place : ℕ) (kept : Kep
   mapped_named position virt block low found =
       elim (one_of (map_of later virt) (history_map_at o es g.base virt) block (sym parts ∙ found)) [
         | inl is ↦ has_right g.shared (entry_names (drop (g.base - start_base o) es)) block
-          (first_names (position - g.base) (drop (g.base - start_base o) es) block (mapped_name later virt block is))
+            (first_names (position - g.base) (drop (g.base - start_base o) es) block (mapped_name later virt block is))
         | inr is ↦ has_left g.shared (entry_names (drop (g.base - start_base o) es)) block (base_name virt block is)
       ]
     where
@@ -105,5 +94,5 @@ module _ (o : Origin) (c : Core) (inv : Invariant o c) (place : ℕ) (kept : Kep
       parts : history_map_at o es position virt ≡ option_or (map_of later virt) (history_map_at o es g.base virt)
       parts = ap (λ (l : List LogEntry). map_of (first_snapshot o ++ meanings l) virt) split
           ∙ (ap (λ (l : List Meaning). map_of (first_snapshot o ++ l) virt) (meanings_more (take (g.base - start_base o) es) (take (position - g.base) (drop (g.base - start_base o) es)))
-          ∙ (ap (λ (l : List Meaning). map_of l virt) (sym (Rattle.std.proofs.Common.append_assoc (first_snapshot o) (meanings (take (g.base - start_base o) es)) later))
+          ∙ (ap (λ (l : List Meaning). map_of l virt) (sym (append_assoc (first_snapshot o) (meanings (take (g.base - start_base o) es)) later))
           ∙ map_more (first_snapshot o ++ meanings (take (g.base - start_base o) es)) later virt))

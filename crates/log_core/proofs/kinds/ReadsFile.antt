@@ -1,24 +1,22 @@
 -- A view at its tail with the table of its chain reads the file: a byte that it knows by its map and its kept words is the file's.
-use Rattle.std.proofs.Common.{◌≡◌, ◌≢◌, ◌<◌, ◌≤◌, ◌+◌, ◌-◌, ◌*◌, ◌/◌, ◌%◌, ◌==◌, ◌++◌, ℕ, Bool, true, false, List, [], ◌∷◌, length, drop, refl, sym, ◌∙◌, ap, subst, arith, slice_index, Option, Some, None}
+use Rattle.std.proofs.Common.{◌≡◌, ◌≢◌, ◌<◌, ◌≤◌, ◌+◌, ◌*◌, ◌/◌, ◌%◌, ◌==◌, ◌++◌, ℕ, Bool, true, false, List, [], ◌∷◌, length, refl, sym, ◌∙◌, ap, subst, arith, slice_index, Option, Some, None}
 use Rattle.log_entry.specs.WordBytes.{word_bytes}
 use Rattle.std.proofs.lemmas.Bool.{eqb-true, eqb-false}
 use Rattle.log_image.specs.Image.{words_in}
 use Rattle.log_image.specs.Chains.{is_listed}
 use Rattle.pmem_words.specs.Maps.{map_at}
-use Rattle.pmem_words.specs.declared.keeps.KeptWord.{KeptWord}
 use Rattle.pmem_words.specs.Seats.{Seat}
 use Rattle.log_core.specs.Views.{Ghost, view_of}
-use Rattle.log_core.specs.Origin.{Origin, shape, first_generation, Generation}
+use Rattle.log_core.specs.Origin.{Origin, shape, Generation}
 use Rattle.log_core.specs.Files.{entries, file_at, history_map_at, byte_in, Holds}
-use Rattle.log_core.specs.Cores.{Core, is_named, data_names}
-use Rattle.log_core.specs.Works.{MayReadFile, IsByteIn, kept_at, kept_word, word_or_zero}
+use Rattle.log_core.specs.Cores.{Core, data_names}
+use Rattle.log_core.specs.Works.{MayReadFile, IsByteIn, kept_at, kept_word}
 use Rattle.log_core.specs.Order.{nth_generation}
-use Rattle.log_core.specs.Walks.{WalkHolds, HasWalked, IsKeptWord}
+use Rattle.log_core.specs.Contents.{HoldsFileAt}
+use Rattle.log_core.specs.Walks.{WalkHolds, HasWalked}
 use Rattle.log_core.specs.Invariant.{Invariant, KeptIn, around}
 use Rattle.log_core.specs.Knows.{Knows}
-use Rattle.log_core.proofs.Heads.{kept_place}
-use Rattle.log_core.proofs.KeptWords.{kept_holds}
-use Rattle.log_core.proofs.ChainWords.{chain_word}
+use Rattle.log_core.proofs.PinnedChains.{place, kept, chain_says}
 use Rattle.log_core.proofs.MappedBlocks.{mapped_named}
 use Rattle.log_core.proofs.WordBytesAt.{eight_words, byte_in_word}
 use Rattle.log_core.proofs.clauses.Apart.{has_right, data_is_named}
@@ -28,63 +26,60 @@ module _ (o : Origin) (c : Core) (n : ℕ) (s : Seat) (g : Ghost) (pin began : �
   w : WalkHolds (around o c) s.hold s.walk
   w = f.walk some
 
-  -- it has walked, and its generation is kept
-  abbrev place : ℕ
-  place = s.hold.generation - first_generation o
+  -- it has walked in a chain that is kept
+  abbrev at_pin : ℕ
+  at_pin = place o c n s g pin began inv f reads.valid
 
-  kept : KeptIn o c place
-  kept = kept_place o c inv place (f.kept place reads.valid (let low = f.pin_holds.from_first (f.pin_holds.valid_some reads.valid) in omega (arith, low)))
+  abbrev chain : Generation
+  chain = nth_generation c.generations at_pin
 
-  abbrev pinned : Generation
-  pinned = nth_generation c.generations place
+  in_chain : KeptIn o c at_pin
+  in_chain = kept o c n s g pin began inv f reads.valid
 
   walked : HasWalked o (entries o c.history) c.logs s.walk
   walked = w.walked (w.ready_walked reads.own_table).0 (w.ready_walked reads.own_table).1
 
   -- its position is not before its chain's, nor before the start's
-  base_low : pinned.base ≤ s.walk.position
+  base_low : chain.base ≤ s.walk.position
   base_low = go (s.walk.tail_slot == words_in (shape o)) refl
     where
-      go : (b : Bool) → (s.walk.tail_slot == words_in (shape o)) ≡ b → pinned.base ≤ s.walk.position
+      go : (b : Bool) → (s.walk.tail_slot == words_in (shape o)) ≡ b → chain.base ≤ s.walk.position
       go true e = (let at = (walked.at_end (eqb-true s.walk.tail_slot (words_in (shape o)) e)).1 in
           let base = w.ready_base reads.own_table in let low = w.ready_tail reads.own_table in omega (arith, at, base, low))
       go false e = (let at = (walked.inside (eqb-false s.walk.tail_slot (words_in (shape o)) e)).0 in
           let base = w.ready_base reads.own_table in let low = w.ready_tail reads.own_table in omega (arith, at, base, low))
 
-  pub from_first : (view_of c.views n).first ≤ s.walk.position
-  from_first = (f.tail reads.at_tail).from_first
+  pub from_start : (view_of c.views n).first ≤ s.walk.position
+  from_start = (f.tail reads.at_tail).from_first
 
   -- so its map holds the file
-  abbrev File : List ℕ
+  abbrev pub File : List ℕ
   File = file_at o c.history s.walk.position
 
+  says : HoldsFileAt o c.history c.recorded s.walk.position
+  says = (inv.contents at_pin in_chain).files s.walk.position base_low w.to_end
+
   holds : Holds (shape o) c.recorded (history_map_at o (entries o c.history) s.walk.position) File
-  holds = ((inv.contents place kept).files s.walk.position base_low w.to_end).held (subst (λ (first : ℕ). first ≤ s.walk.position) (f.fits some).first from_first)
+  holds = says.held (subst (λ (first : ℕ). first ≤ s.walk.position) (f.fits some).first from_start)
 
   pub size_is : s.walk.size ≡ length File
-  size_is = walked.size_is ∙ sym ((inv.contents place kept).files s.walk.position base_low w.to_end).size_is
+  size_is = walked.size_is ∙ sym says.size_is
 
   module _ (virt at byte : ℕ) (inside : at < (shape o).block_bytes) where
     mapped : (block : ℕ) → map_at s.walk.map virt ≡ Some block → (kept_at s.walk.kept block (at / 8) ≢ None) × (byte ≡ slice_index (word_bytes (kept_word s block (at / 8) ∷ [])) (at % 8)) →
         byte ≡ slice_index File (virt * (shape o).block_bytes + at)
-    mapped block is known = known.1 ∙ (ap (λ (word : ℕ). slice_index (word_bytes (word ∷ [])) (at % 8)) (by (kept_at s.walk.kept block (at / 8)) refl known.0)
+    mapped block is known = known.1 ∙ (ap (λ (word : ℕ). slice_index (word_bytes (word ∷ [])) (at % 8)) (chain_says o c n s g pin began inv f reads.valid some block (at / 8) named known.0)
         ∙ (sym (byte_in_word (c.recorded block) at long) ∙ (ap (λ (found : Option ℕ). byte_in c.recorded found at) (sym in_map) ∙ holds.each virt at inside)))
       where
         in_map : history_map_at o (entries o c.history) s.walk.position virt ≡ Some block
         in_map = sym (walked.table virt) ∙ is
 
-        named : is_listed (pinned.snapshots ++ data_names o (entries o c.history) pinned) block ≡ true
-        named = has_right pinned.snapshots (data_names o (entries o c.history) pinned) block (mapped_named o c inv place kept s.walk.position virt block base_low in_map)
+        named : is_listed (chain.snapshots ++ data_names o (entries o c.history) chain) block ≡ true
+        named = has_right chain.snapshots (data_names o (entries o c.history) chain) block (mapped_named o c inv at_pin in_chain s.walk.position virt block base_low in_map)
 
         long : at < 8 * length (c.recorded block)
-        long = (let whole = (inv.contents place kept).whole block (data_is_named o c.logs (entries o c.history) pinned block named) in
+        long = (let whole = (inv.contents at_pin in_chain).whole block (data_is_named o c.logs (entries o c.history) chain block named) in
             let eight = eight_words o.geometry.block_bytes o.geometry.block_allowed in omega (arith, whole, eight, inside))
-
-        by : (found : Option ℕ) → kept_at s.walk.kept block (at / 8) ≡ found → found ≢ None → word_or_zero found ≡ slice_index (c.recorded block) (at / 8)
-        by None none known = absurd (known refl)
-        by (Some word) found known = chain_word o c inv place kept block (at / 8) word named
-            (kept_holds (λ (k : KeptWord). IsKeptWord (shape o) c.memory.now.words (λ block. is_named o c.logs (entries o c.history) pinned block) (drop pinned.cut c.logs) k)
-            s.walk.kept block (at / 8) word (w.kept_words reads.valid) found)
 
     pub found_byte : IsByteIn s (map_at s.walk.map virt) at byte → byte ≡ slice_index File (virt * (shape o).block_bytes + at)
     found_byte known = go (map_at s.walk.map virt) refl known
