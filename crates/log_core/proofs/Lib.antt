@@ -13,6 +13,8 @@ pub mod PinnedChains
 pub mod WalkMaps
 pub mod BaseWords
 pub mod SnapshotReads
+pub mod MappedBlocks
+pub mod WordBytesAt
 pub mod kinds
 pub mod machines
 pub mod starts

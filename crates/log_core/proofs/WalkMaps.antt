@@ -14,15 +14,19 @@ pub option_or_assoc : (first second third : Option ℕ) → option_or (option_or
 option_or_assoc None second third = refl
 option_or_assoc (Some x) second third = refl
 
--- the map of entries with one more
+or_none : (found : Option ℕ) → found ≡ option_or found None
+or_none None = refl
+or_none (Some block) = refl
+
+-- the map of more entries: what the later ones give, else what the earlier ones do
+pub map_more : (first second : List Meaning) (virt : ℕ) → map_of (first ++ second) virt ≡ option_or (map_of second virt) (map_of first virt)
+map_more [] second virt = or_none (map_of second virt)
+map_more (entry ∷ first) second virt = ap (λ (found : Option ℕ). option_or found (block_in entry virt)) (map_more first second virt)
+    ∙ option_or_assoc (map_of second virt) (map_of first virt) (block_in entry virt)
+
+-- with one more
 pub map_of_more : (entries : List Meaning) (meaning : Meaning) (virt : ℕ) → map_of (entries ++ meaning ∷ []) virt ≡ option_or (block_in meaning virt) (map_of entries virt)
-map_of_more [] meaning virt = or_none (block_in meaning virt)
-  where
-    or_none : (found : Option ℕ) → option_or None found ≡ option_or found None
-    or_none None = refl
-    or_none (Some block) = refl
-map_of_more (entry ∷ entries) meaning virt = ap (λ (found : Option ℕ). option_or found (block_in entry virt)) (map_of_more entries meaning virt)
-    ∙ option_or_assoc (block_in meaning virt) (map_of entries virt) (block_in entry virt)
+map_of_more entries meaning virt = map_more entries (meaning ∷ []) virt
 
 -- past its blocks an entry names nothing
 pub past_entry : (meaning : Meaning) (virt : ℕ) → meaning.virt + length meaning.blocks ≤ virt → block_in meaning virt ≡ None

@@ -1,9 +1,13 @@
 -- Each kind of step keeps the invariant.
 pub mod CountsFilled
 pub mod SetsWord
+pub mod ReadsFile
+pub mod Bases
 pub mod DropsBases
+pub mod Lays
 pub mod NotesNamed
 pub mod NotesHeld
+pub mod KeepsReplaced
 pub mod KeepsTable
 pub mod StartsFromLog
 pub mod StartsFromSnapshot

@@ -7,7 +7,7 @@ use Rattle.persistence.specs.Memory.{found_answer}
 use Rattle.log_core.specs.Views.{View, Ghost, view_of, op_in}
 use Rattle.log_core.specs.Origin.{Origin, q_of_origin}
 use Rattle.log_core.specs.Cores.{Core, first_core}
-use Rattle.log_core.specs.Works.{Work, Begins, KeepsTable, StartsFromLog, StartsFromSnapshot, ReadsRun, NextSnapshot, EndsReading, Forgets, SetsWord, CountsFilled, DropsBases, NotesNamed, NotesHeld, TakesEntry, TakesSeal, Follows, Computes}
+use Rattle.log_core.specs.Works.{Work, Begins, KeepsTable, StartsFromLog, StartsFromSnapshot, ReadsRun, NextSnapshot, EndsReading, Forgets, SetsWord, CountsFilled, OpensBase, AddsBaseWord, DropsBases, Lays, NotesNamed, NotesHeld, KeepsReplaced, TakesEntry, TakesSeal, Follows, Computes}
 use Rattle.log_core.specs.Steps.{Note, Step, Does, Splits, Joins, Kind, kind_of_ask, effect, is_begun, ghost_begun, ghost_after}
 use Rattle.log_core.specs.After.{after}
 use Rattle.log_core.specs.May.{May, IsOfferedKind}
@@ -78,10 +78,7 @@ MayMakeStep o c (Does seat ask note) = MayDo o c seat ask note
 MayMakeStep o c (Splits seat) = MaySplit o c seat
 MayMakeStep o c (Joins seat other) = MayJoin c seat other
 
--- what a call may compute so far, before a step and after one: it begins, gives up its kept words or its bases, sets a word of an owned
--- block or counts one as filled, notes the blocks that its chain names or the pin that holds blocks, begins a walk at the
--- front of its chain (with the table that it keeps, at the first log block of a chain without a snapshot, or at its snapshot), reads
--- the snapshot, or takes in an entry, a seal or a link at its tail
+-- what a call may compute, before a step and after one: each computation
 abbrev pub is_offered_work : Work → Bool
 is_offered_work (Begins task bytes) = true
 is_offered_work Forgets = true
@@ -93,10 +90,14 @@ is_offered_work NextSnapshot = true
 is_offered_work EndsReading = true
 is_offered_work (SetsWord place word value) = true
 is_offered_work (CountsFilled place) = true
+is_offered_work (OpensBase virt) = true
+is_offered_work AddsBaseWord = true
 is_offered_work DropsBases = true
+is_offered_work (Lays bytes) = true
 is_offered_work (NotesNamed words) = true
 is_offered_work (NotesHeld held) = true
 is_offered_work TakesEntry = true
+is_offered_work KeepsReplaced = true
 is_offered_work TakesSeal = true
 is_offered_work Follows = true
 is_offered_work _ = false

@@ -13,9 +13,12 @@ use Rattle.log_core.specs.Knows.{Knows}
 use Rattle.log_core.proofs.Facts.{forget_facts}
 use Rattle.log_core.proofs.kinds.SetsWord.{set_word_facts}
 use Rattle.log_core.proofs.kinds.CountsFilled.{count_filled_facts}
+use Rattle.log_core.proofs.kinds.Bases.{open_facts, add_facts}
 use Rattle.log_core.proofs.kinds.DropsBases.{drop_facts}
+use Rattle.log_core.proofs.kinds.Lays.{lay_facts}
 use Rattle.log_core.proofs.kinds.NotesNamed.{named_facts}
 use Rattle.log_core.proofs.kinds.NotesHeld.{held_facts}
+use Rattle.log_core.proofs.kinds.KeepsReplaced.{replaced_facts}
 use Rattle.log_core.proofs.kinds.KeepsTable.{table_facts}
 use Rattle.log_core.proofs.kinds.StartsFromLog.{log_facts}
 use Rattle.log_core.proofs.kinds.StartsFromSnapshot.{snapshot_facts}
@@ -122,12 +125,12 @@ module _ (o : Origin) (c : Core) (n pin began : ℕ) (g : Ghost) (inv : Invarian
   going_facts s TakesSeal offered going may f = seal_facts o c n s g pin began inv f may.0.valid may.0.ready may.0.inside may.1
   going_facts s Follows offered going may f = follow_facts o c n s g pin began inv f may.valid may.ready may.at_end may.linked
   going_facts s Forgets offered going may f = forget_facts o c n s g pin began f
-  going_facts s (OpensBase virt) offered going may f = cc
-  going_facts s AddsBaseWord offered going may f = cc
+  going_facts s (OpensBase virt) offered going may f = open_facts o c n s g pin began inv f unspent virt may
+  going_facts s AddsBaseWord offered going may f = add_facts o c n s g pin began inv f unspent may
   going_facts s DropsBases offered going may f = drop_facts o c n s g pin began f
-  going_facts s (Lays bytes) offered going may f = cc
+  going_facts s (Lays bytes) offered going may f = lay_facts o c n s g pin began inv unspent bytes f may
   going_facts s (SetsWord place word value) offered going may f = set_word_facts o c n s g pin began place word value f may
   going_facts s (CountsFilled place) offered going may f = count_filled_facts o c n s g pin began place f may
   going_facts s (NotesNamed words) offered going may f = named_facts o c n s g pin began words f may
-  going_facts s KeepsReplaced offered going may f = cc
+  going_facts s KeepsReplaced offered going may f = replaced_facts o c n s g pin began f may
   going_facts s (NotesHeld held) offered going may f = held_facts o c n s g pin began held f
