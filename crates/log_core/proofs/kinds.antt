@@ -23,5 +23,6 @@ pub mod Entered
 pub mod LoadsBitmapWord
 pub mod SetsBits
 pub mod ClearsBits
+pub mod Splits
 pub mod StepHolds
 pub mod RunHolds
