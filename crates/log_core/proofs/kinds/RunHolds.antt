@@ -68,7 +68,7 @@ module _ (o : Origin) (c : Core) (n : ℕ) (inv : Invariant o c) (here : n < len
   each_ask (SetBits (FenceOf other) bits) = λ offered. absurd offered
   each_ask (ClearBits (Image word) bits) = λ offered. absurd offered
   each_ask (ClearBits (Pin other) bits) = λ offered. absurd offered
-  each_ask (ClearBits (Map word) bits) = λ offered. clear_bits_holds o c n inv here unspent note word bits offered
+  each_ask (ClearBits (Map word) bits) = λ offered. clear_bits_holds o c n inv here unspent note word bits
   each_ask (ClearBits (FenceOf other) bits) = λ offered. absurd offered
   each_ask (Mark word) = λ offered. mark_holds o c n inv here unspent note word offered
   each_ask Fence = λ offered. fence_holds o c n inv here unspent note offered
