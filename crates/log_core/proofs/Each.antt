@@ -1,5 +1,5 @@
 -- Facts of each element of a list.
-use Rattle.std.proofs.Common.{◌≡◌, Bool, true, false, ◌||◌, List, [], ◌∷◌, ◌++◌, filter, cond, map, refl, ap, ◌∙◌}
+use Rattle.std.proofs.Common.{◌≡◌, ℕ, zero, suc, ◌<◌, Bool, true, false, ◌||◌, List, [], ◌∷◌, ◌++◌, length, get_or, filter, cond, map, refl, ap, ◌∙◌, arith}
 use Rattle.std.specs.List.{AllByRecursion, list_any}
 
 pub each_weaker : {X : Type 0} (P Q : X → Type 0) (xs : List X) → ((x : X) → P x → Q x) → AllByRecursion P xs → AllByRecursion Q xs
@@ -9,6 +9,12 @@ each_weaker P Q (x ∷ xs) weaker all = (weaker x all.0, each_weaker P Q xs weak
 pub each_push : {X : Type 0} (P : X → Type 0) (xs : List X) (x : X) → AllByRecursion P xs → P x → AllByRecursion P (xs ++ x ∷ [])
 each_push P [] x all new = (new, tt)
 each_push P (y ∷ xs) x all new = (all.0, each_push P xs x all.1 new)
+
+-- of the one at a place
+pub each_at : {X : Type 0} (P : X → Type 0) (xs : List X) (d : X) (n : ℕ) → n < length xs → AllByRecursion P xs → P (get_or xs n d)
+each_at P [] d n inside all = absurd (omega (arith, inside))
+each_at P (x ∷ xs) d zero inside all = all.0
+each_at P (x ∷ xs) d (suc n) inside all = each_at P xs d n (omega (arith, inside)) all.1
 
 pub each_both : {X : Type 0} (P Q : X → Type 0) (xs : List X) → AllByRecursion P xs → AllByRecursion Q xs → AllByRecursion (λ (x : X). P x × Q x) xs
 each_both P Q [] first second = tt

@@ -28,5 +28,7 @@ pub mod Entered
 pub mod LoadsBitmapWord
 pub mod SetsBits
 pub mod ClearsBits
+pub mod GivesBack
+pub mod Splits
 pub mod StepHolds
 pub mod RunHolds

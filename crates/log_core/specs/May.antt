@@ -27,7 +27,7 @@ use Rattle.log_core.specs.Files.{Write, entries, history_map_at, file_at, accept
 use Rattle.log_core.specs.Cores.{Core, generation_at, is_named, log_at, TrailWord, trail}
 use Rattle.log_core.specs.Works.{seat_shape, words_of, tail_index}
 use Rattle.log_core.specs.Needs.{owned_numbers, lacking, is_in_area}
-use Rattle.log_core.specs.Steps.{Kind, LoadsHead, StoresOwnPin, LoadsPinWord, LoadsImageWord, LoadsBitmapWord, SetsBits, ClearsBits, StoresWord, ExchangesSlot, ExchangesLink, ExchangesHead, MarksWord, Fences, NoKind, is_of_owned, content_of, new_meaning, new_snapshots, replaced_by}
+use Rattle.log_core.specs.Steps.{Kind, LoadsHead, StoresOwnPin, LoadsPinWord, LoadsImageWord, LoadsBitmapWord, SetsBits, ClearsBits, StoresWord, ExchangesSlot, ExchangesLink, ExchangesHead, MarksWord, Fences, NoKind, content_of, new_meaning, new_snapshots, replaced_by}
 use Rattle.log_core.specs.After.{new_generation, snapshot_meanings}
 use Rattle.log_core.specs.Snapshots.{first_or, IsSnapshot}
 
@@ -241,8 +241,8 @@ pub record IsOwnMark (s : Seat) (word : ℕ) : Type 0 where
   pub owned : is_listed (owned_numbers s.blocks.owned) (word / words_of s) ≡ true
   pub no_sync : s.calling.job ≢ Sync
 
--- the kinds that are proved to keep the invariant, by the state at the ask; no other is a step yet: bits are cleared of owned blocks
--- alone, words are marked of owned blocks alone, and no sync marks or fences
+-- the kinds that are proved to keep the invariant, by the state at the ask; no other is a step yet: words are marked of owned
+-- blocks alone, and no sync marks or fences
 abbrev pub IsOfferedKind : Seat → Kind → Type 0
 IsOfferedKind s LoadsHead = Unit {0}
 IsOfferedKind s (LoadsImageWord word) = Unit {0}
@@ -250,7 +250,7 @@ IsOfferedKind s (StoresOwnPin value) = Unit {0}
 IsOfferedKind s (LoadsPinWord other) = Unit {0}
 IsOfferedKind s (LoadsBitmapWord word) = Unit {0}
 IsOfferedKind s (SetsBits word bits) = Unit {0}
-IsOfferedKind s (ClearsBits word bits) = is_of_owned s word bits ≡ true
+IsOfferedKind s (ClearsBits word bits) = Unit {0}
 IsOfferedKind s (StoresWord word value) = Unit {0}
 IsOfferedKind s (MarksWord word) = IsOwnMark s word
 IsOfferedKind s Fences = s.calling.job ≢ Sync

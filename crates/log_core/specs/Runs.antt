@@ -112,7 +112,7 @@ pub record DoesOffered (o : Origin) (c : Core) (seat : ℕ) (ask : Ask) (note : 
 -- the steps that are proved to keep the invariant; no other is allowed yet
 abbrev pub IsOffered : (o : Origin) (c : Core) (step : Step) → MayMakeStep o c step → Type 0
 IsOffered o c (Does seat ask note) fits = DoesOffered o c seat ask note fits
-IsOffered o c (Splits seat) fits = ⊥
+IsOffered o c (Splits seat) fits = Unit {0}
 IsOffered o c (Joins seat other) fits = ⊥
 
 -- the steps that seats make

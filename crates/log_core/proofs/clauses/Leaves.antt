@@ -1,10 +1,13 @@
 -- What a step of a seat leaves to the others: a memory in which every word but those of the seat's own blocks keeps its values, and the
 -- owner of every block but those that the seat takes or gives back.
-use Rattle.std.proofs.Common.{◌≡◌, ◌≢◌, ◌≤◌, ◌/◌, ℕ, List, length, refl, sym, ◌∙◌, ap, arith, ◌⊎◌, inl, inr, ⊎_elim, slice_index}
+use Rattle.std.proofs.Common.{◌≡◌, ◌≢◌, ◌≤◌, ◌/◌, ℕ, true, List, length, refl, sym, ◌∙◌, ap, arith, ◌⊎◌, inl, inr, ⊎_elim, slice_index, slice_set}
 use Rattle.persistence.specs.Memory.{Memory, cell, index_at, pending_of}
 use Rattle.persistence.specs.Survivors.{value_at}
+use Rattle.log_core.specs.Views.{View}
 use Rattle.log_core.specs.Origin.{Origin, q_of_origin, Owner, Free, Header, InChain, OwnedBy, LeftTo}
-use Rattle.log_core.specs.Cores.{Core}
+use Rattle.log_core.specs.Cores.{Core, head_floor, is_named, IsKept}
+use Rattle.log_core.specs.Files.{entries}
+use Rattle.log_core.specs.Order.{nth_generation}
 use Rattle.log_core.specs.Sizes.{MemoryFits}
 use Rattle.log_core.specs.Contents.{IsStillTaken}
 use Rattle.log_core.specs.Owners.{IsListOf}
@@ -57,6 +60,11 @@ never_apart : {P : Type 0} (n : ℕ) (whose w : Owner) → IsApart n whose → w
 never_apart n whose w apart is (inl free) = absurd (apart.some (sym is ∙ free))
 never_apart n whose w apart is (inr mine) = absurd (apart.other (sym is ∙ mine))
 
+-- the list of an owner that stays
+pub others_stay : (before after : ℕ → Owner) (blocks : List ℕ) (whose : Owner) → ((block : ℕ) → after block ≡ whose → before block ≡ whose) → ((block : ℕ) → before block ≡ whose → after block ≡ whose) →
+    IsListOf before blocks whose → IsListOf after blocks whose
+others_stay before after blocks whose was is list = record { listed = λ block inside. is block (list.listed block inside); all = λ block mine. list.all block (was block mine); once = list.once }
+
 module _ (c : Core) (n : ℕ) (owner : ℕ → Owner) (changes : Changes c n owner) where
   -- such a block had this owner exactly where it has
   pub owner_was : (block : ℕ) (whose : Owner) → IsApart n whose → owner block ≡ whose → c.owner block ≡ whose
@@ -66,15 +74,44 @@ module _ (c : Core) (n : ℕ) (owner : ℕ → Owner) (changes : Changes c n own
   owner_is block whose apart was = ⊎_elim (λ same. same ∙ was) (λ both. never_apart n whose (c.owner block) apart was both.0) (changes.each block)
 
   pub list_stays : (blocks : List ℕ) (whose : Owner) → IsApart n whose → IsListOf c.owner blocks whose → IsListOf owner blocks whose
-  list_stays blocks whose apart list = record {
-    listed = λ block inside. owner_is block whose apart (list.listed block inside);
-    all = λ block is. list.all block (owner_was block whose apart is);
-    once = list.once;
-  }
+  list_stays blocks whose apart list = others_stay c.owner owner blocks whose (λ block. owner_was block whose apart) (λ block. owner_is block whose apart) list
 
   pub still_taken : (block : ℕ) → IsStillTaken (c.owner block) → IsStillTaken (owner block)
   still_taken block (inl chain) = inl (owner_is block InChain (chain_apart n) chain)
   still_taken block (inr left) = inr (left.0, owner_is block (LeftTo left.0) (left_apart n left.0) left.1)
+
+-- an owner that is not changed where blocks that collections replaced are given back besides
+pub record IsOthers (n : ℕ) (whose : Owner) : Type 0 where
+  pub apart : IsApart n whose
+  pub left : whose ≢ LeftTo n
+
+abbrev left_number : Owner → ℕ
+left_number (LeftTo n) = n
+left_number _ = 0
+
+pub chain_others : (n : ℕ) → IsOthers n InChain
+chain_others n = record { apart = chain_apart n; left = λ e. cc }
+
+pub owned_others : (n k : ℕ) → k ≢ n → IsOthers n (OwnedBy k)
+owned_others n k other = record { apart = others_apart n k other; left = λ e. cc }
+
+pub left_others : (n k : ℕ) → k ≢ n → IsOthers n (LeftTo k)
+left_others n k other = record { apart = left_apart n k; left = λ e. other (ap left_number e) }
+
+-- the owners after a step of seat n that leaves the view w: the others have what they had, and what a kept generation names is still taken
+pub record LeavesOwners (o : Origin) (c : Core) (n : ℕ) (m : Memory) (w : View) (owner : ℕ → Owner) : Type 0 where
+  pub was : (block : ℕ) (whose : Owner) → IsOthers n whose → owner block ≡ whose → c.owner block ≡ whose
+  pub is : (block : ℕ) (whose : Owner) → IsOthers n whose → c.owner block ≡ whose → owner block ≡ whose
+  pub taken : (place block : ℕ) → IsKept o c.generations (head_floor m) (slice_set c.views n w) place → is_named o c.logs (entries o c.history) (nth_generation c.generations place) block ≡ true →
+      IsStillTaken (c.owner block) → IsStillTaken (owner block)
+
+-- as where the seat takes or gives back own blocks alone
+pub changes_leave : (o : Origin) (c : Core) (n : ℕ) (m : Memory) (w : View) (owner : ℕ → Owner) → Changes c n owner → LeavesOwners o c n m w owner
+changes_leave o c n m w owner changes = record {
+  was = λ block whose others. owner_was c n owner changes block whose others.apart;
+  is = λ block whose others. owner_is c n owner changes block whose others.apart;
+  taken = λ place block kept named. still_taken c n owner changes block;
+}
 
 -- where nothing changes
 pub no_changes : (c : Core) (n : ℕ) → Changes c n (λ block. c.owner block)

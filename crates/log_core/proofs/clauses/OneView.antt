@@ -5,6 +5,7 @@ use Rattle.std.proofs.lemmas.Bool.{eqb-true, eq-eqb}
 use Rattle.std.proofs.lemmas.List.{get_or-set_same, get_or-set_other}
 use Rattle.log_core.specs.Views.{View, view_of, spent_view}
 use Rattle.log_core.specs.Cores.{Core}
+use Rattle.log_core.proofs.Each.{each_at}
 use Rattle.log_core.specs.Records.{parts_with, count_in, collected_by, collected_in, putting}
 
 -- the core with another view at one place, other pin words, and another list of ends
@@ -50,6 +51,4 @@ all_set P (v ∷ views) zero w new all = (new, all.1)
 all_set P (v ∷ views) (suc n) w new all = (all.0, all_set P views n w new all.1)
 
 pub all_at : (P : View → Type 0) (views : List View) (n : ℕ) → n < length views → AllByRecursion P views → P (view_of views n)
-all_at P [] n here all = absurd (omega (arith, here))
-all_at P (v ∷ views) zero here all = all.0
-all_at P (v ∷ views) (suc n) here all = all_at P views n (omega (arith, here)) all.1
+all_at P views n here all = each_at P views spent_view n here all

@@ -9,7 +9,7 @@ use Rattle.persistence.specs.Memory.{Memory, PendingMark, cell}
 use Rattle.log_image.specs.Chains.{is_listed}
 use Rattle.log_core.specs.Entries.{head_place}
 use Rattle.log_core.specs.Views.{View, Ghost, view_of, spent_view}
-use Rattle.log_core.specs.Origin.{Origin, shape, q_of_origin, first_generation, Owner, OwnedBy, LeftTo}
+use Rattle.log_core.specs.Origin.{Origin, shape, q_of_origin, first_generation, Owner, InChain, OwnedBy, LeftTo}
 use Rattle.log_core.specs.Files.{entries, end_of}
 use Rattle.log_core.specs.Cores.{Core, current, head_floor, nth_log, IsPinned}
 use Rattle.log_core.specs.Sizes.{Sizes, SeatFits}
@@ -27,12 +27,12 @@ use Rattle.log_core.specs.Knows.{with_seat, Knows}
 use Rattle.log_core.proofs.clauses.OneView.{each_set, parts_set, collected_set, all_set, all_at}
 use Rattle.log_core.proofs.Heads.{kept_place}
 use Rattle.log_core.proofs.clauses.Narrows.{heads_narrow, log_narrows, recorded_narrow, synced_narrows}
-use Rattle.log_core.proofs.clauses.Leaves.{Leaves, Changes, moved, owner_was, owner_is, list_stays, still_taken, chain_apart, left_apart, others_apart}
+use Rattle.log_core.proofs.clauses.Leaves.{Leaves, LeavesOwners, moved, others_stay, chain_others, owned_others, left_others}
 use Rattle.log_core.proofs.clauses.Apart.{header_cells, named_cells, log_cells, data_is_named}
 use Rattle.log_core.proofs.clauses.Others.{walk_left, pin_kept, floor_rises, pin_left, giving_left, owned_left, marks_left, sync_left}
 
 module _ (o : Origin) (c : Core) (n : ℕ) (s : Seat) (g : Ghost) (m : Memory) (owner : ℕ → Owner) (began : List ℕ) (inv : Invariant o c) (here : n < length c.views)
-    (unspent : (view_of c.views n).parts ≢ []) (leaves : Leaves o c n m) (changes : Changes c n owner) (bits : BitsFit (shape o) m.now.taken owner)
+    (unspent : (view_of c.views n).parts ≢ []) (leaves : Leaves o c n m) (changes : LeavesOwners o c n m (with_seat (view_of c.views n) s g) owner) (bits : BitsFit (shape o) m.now.taken owner)
     (facts : Knows o (moved c m owner) n s g (slice_index m.now.pins n) (slice_index began n))
     (same_began : length began ≡ length c.began) (other_began : (k : ℕ) → k ≢ n → slice_index began k ≡ slice_index c.began k) (low_began : (k : ℕ) → slice_index began k ≤ end_of o c.history) where
   abbrev w : View
@@ -119,16 +119,16 @@ module _ (o : Origin) (c : Core) (n : ℕ) (s : Seat) (g : Ghost) (m : Memory) (
 
   seat_owns : (k : ℕ) → k ≢ n → SeatOwns c.owner k (view_of c.views k).seat → SeatOwns owner k (view_of c.views k).seat
   seat_owns k other owns = record {
-    owned = list_stays c n owner changes _ (OwnedBy k) (others_apart n k other) owns.owned;
-    left = list_stays c n owner changes _ (LeftTo k) (left_apart n k) owns.left;
+    owned = others_stay c.owner owner _ (OwnedBy k) (λ block. changes.was block (OwnedBy k) (owned_others n k other)) (λ block. changes.is block (OwnedBy k) (owned_others n k other)) owns.owned;
+    left = others_stay c.owner owner _ (LeftTo k) (λ block. changes.was block (LeftTo k) (left_others n k other)) (λ block. changes.is block (LeftTo k) (left_others n k other)) owns.left;
   }
 
   owners : Owners o m.now.taken views c.history c.generations c.logs owner (λ place. KeptIn o new place)
   owners = record {
     bits = bits;
     chain = record {
-      named = λ block is. inv.owners.chain.named block (owner_was c n owner changes block _ (chain_apart n) is);
-      all = λ block named. owner_is c n owner changes block _ (chain_apart n) (inv.owners.chain.all block named);
+      named = λ block is. inv.owners.chain.named block (changes.was block InChain (chain_others n) is);
+      all = λ block named. changes.is block InChain (chain_others n) (inv.owners.chain.all block named);
     };
     seats = each_set (λ (k : ℕ) (v : View). SeatOwns owner k v.seat) c.views n w here facts.owns (λ k other. seat_owns k other (inv.owners.seats k));
     once = λ place kept. inv.owners.once place (kept_before place kept);
@@ -136,7 +136,7 @@ module _ (o : Origin) (c : Core) (n : ℕ) (s : Seat) (g : Ghost) (m : Memory) (
 
   contents : (place : ℕ) → KeptIn o new place → GenerationHolds o (λ word. cell m word) c.history c.recorded owner c.logs (nth_generation c.generations place)
   contents place kept = (let r = inv.contents place (kept_before place kept) in record {
-    taken = λ block named. still_taken c n owner changes block (r.taken block named);
+    taken = λ block named. changes.taken place block kept named (r.taken block named);
     whole = r.whole;
     words = recorded_narrow (shape o) (λ word. cell c.memory word) (λ word. cell m word) c.recorded _
         (λ block k listed inside. named_cells o c n m inv leaves place block k (kept_before place kept) (data_is_named o c.logs (entries o c.history) (nth_generation c.generations place) block listed) inside) r.words;

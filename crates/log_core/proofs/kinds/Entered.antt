@@ -13,7 +13,7 @@ use Rattle.log_core.specs.Steps.{Note, Kind, ghost_ended, view_after}
 use Rattle.log_core.specs.Runs.{MayStep, effect_at, ghost_left, is_offered_work}
 use Rattle.log_core.specs.Invariant.{Invariant}
 use Rattle.log_core.specs.Knows.{with_seat}
-use Rattle.log_core.proofs.clauses.Leaves.{no_changes, pins_leave}
+use Rattle.log_core.proofs.clauses.Leaves.{no_changes, changes_leave, pins_leave}
 use Rattle.log_core.proofs.clauses.SetCore.{set_core}
 use Rattle.log_core.proofs.Facts.{facts_of}
 use Rattle.log_core.proofs.kinds.Worked.{later_hold}
@@ -26,7 +26,7 @@ module _ (o : Origin) (d : Core) (n : ℕ) (inv : Invariant o d) (here : n < len
   pub computed : (t : Seat) → (computes : Computes v.ghost v.seat t) → list_all is_offered_work computes.works ≡ true → list_all is_going_on computes.works ≡ true →
       Invariant o (record d { views = slice_set d.views n (with_seat v t v.ghost) })
   computed t computes offered going = subst (λ (s : Seat). Invariant o (record d { views = slice_set d.views n (with_seat v s v.ghost) })) (sym computes.gives)
-      (set_core o d n _ v.ghost d.memory d.owner d.began inv here unspent (pins_leave o d n inv d.memory.now.pins refl (λ k other. refl)) (no_changes d n) inv.owners.bits
+      (set_core o d n _ v.ghost d.memory d.owner d.began inv here unspent (pins_leave o d n inv d.memory.now.pins refl (λ k other. refl)) (changes_leave o d n d.memory _ d.owner (no_changes d n)) inv.owners.bits
       (later_hold o d n (slice_index d.memory.now.pins n) (slice_index d.began n) v.ghost inv unspent v.seat computes.works offered going computes.may (facts_of o d n inv here))
       refl (λ k other. refl) inv.records.begun)
 

@@ -12,12 +12,13 @@ use Rattle.log_core.specs.Views.{View, view_of}
 use Rattle.log_core.specs.Origin.{Origin, q_of_origin}
 use Rattle.log_core.specs.Cores.{Core, first_core}
 use Rattle.log_core.specs.Steps.{Note, Step, Does, Splits, Joins, Kind, LoadsHead, StoresOwnPin, LoadsImageWord, NoKind, ExchangesHead, ExchangesLink, ExchangesSlot, kind_of_ask, exchange_kind}
-use Rattle.log_core.specs.After.{stepped}
+use Rattle.log_core.specs.After.{stepped, after}
 use Rattle.log_core.specs.May.{IsOfferedKind}
-use Rattle.log_core.specs.Runs.{MayStep, IsRun, end, is_offered_work}
+use Rattle.log_core.specs.Runs.{MayStep, MaySplit, IsRun, end, is_offered_work}
 use Rattle.log_core.specs.Invariant.{Invariant}
 use Rattle.log_core.specs.Laws.{StepKeeps}
 use Rattle.log_core.proofs.kinds.StepHolds.{head_holds, image_word_holds, pin_holds, seen_holds, bitmap_word_holds, set_bits_holds, clear_bits_holds, stored_holds, mark_holds, fence_holds}
+use Rattle.log_core.proofs.kinds.Splits.{split_holds}
 
 -- an exchange is of no offered kind
 pub no_exchange : (s : Seat) (q word before next : ℕ) → IsOfferedKind s (exchange_kind q word before next) → ⊥
@@ -67,15 +68,19 @@ module _ (o : Origin) (c : Core) (n : ℕ) (inv : Invariant o c) (here : n < len
   each_ask (SetBits (FenceOf other) bits) = λ offered. absurd offered
   each_ask (ClearBits (Image word) bits) = λ offered. absurd offered
   each_ask (ClearBits (Pin other) bits) = λ offered. absurd offered
-  each_ask (ClearBits (Map word) bits) = λ offered. clear_bits_holds o c n inv here unspent note word bits offered
+  each_ask (ClearBits (Map word) bits) = λ offered. clear_bits_holds o c n inv here unspent note word bits
   each_ask (ClearBits (FenceOf other) bits) = λ offered. absurd offered
   each_ask (Mark word) = λ offered. mark_holds o c n inv here unspent note word offered
   each_ask Fence = λ offered. fence_holds o c n inv here unspent note offered
 
+-- a split is of seat 0
+split_keeps : (o : Origin) (c : Core) (seat : ℕ) → Invariant o c → MaySplit o c seat → Invariant o (after o c (Splits seat))
+split_keeps o c seat inv may = subst (λ (k : ℕ). MaySplit o c k → Invariant o (after o c (Splits k))) (sym may.first) (λ first. split_holds o c inv first) may
+
 pub step_keeps : StepKeeps
 step_keeps o c (Does seat ask note) inv allowed =
     each_ask o c seat inv allowed.fits.made allowed.fits.unspent note ask allowed.offered.kind allowed.fits.step allowed.offered.before allowed.offered.later allowed.offered.no_record
-step_keeps o c (Splits seat) inv allowed = absurd allowed.offered
+step_keeps o c (Splits seat) inv allowed = split_keeps o c seat inv allowed.fits
 step_keeps o c (Joins seat other) inv allowed = absurd allowed.offered
 
 -- and every run, from a core that meets the invariant

@@ -19,8 +19,8 @@ use Rattle.log_core.specs.After.{stepped, began_if, owner_after, synced_to, sync
 use Rattle.log_core.specs.May.{IsOwnMark}
 use Rattle.log_core.specs.Runs.{MayNumber, MayStep, ghost_at, effect_at, ghost_left, is_offered_work}
 use Rattle.log_core.specs.Invariant.{Invariant}
-use Rattle.log_core.specs.Knows.{Knows}
-use Rattle.log_core.proofs.clauses.Leaves.{Leaves, Changes, moved, no_changes, pins_leave}
+use Rattle.log_core.specs.Knows.{with_seat, Knows}
+use Rattle.log_core.proofs.clauses.Leaves.{Leaves, Changes, LeavesOwners, moved, no_changes, changes_leave, pins_leave}
 use Rattle.log_core.proofs.clauses.SetCore.{set_core}
 use Rattle.log_core.proofs.Facts.{facts_of, pins_known}
 use Rattle.log_core.proofs.kinds.Worked.{FactsAt, works_hold}
@@ -32,6 +32,7 @@ use Rattle.log_core.proofs.kinds.LoadsPinWord.{seen_facts}
 use Rattle.log_core.proofs.kinds.LoadsBitmapWord.{map_leaves, map_bits, map_facts}
 use Rattle.log_core.proofs.kinds.SetsBits.{sets_leaves, sets_changes, sets_bits, sets_facts}
 use Rattle.log_core.proofs.kinds.ClearsBits.{clears_leaves, clears_changes, clears_bits, clears_facts}
+use Rattle.log_core.proofs.kinds.GivesBack.{gives_leaves, gives_owners, gives_bits, gives_facts}
 use Rattle.log_core.proofs.kinds.StoresWord.{store_leaves, store_word_facts}
 use Rattle.log_core.proofs.kinds.MarksWord.{mark_leaves, mark_word_facts}
 use Rattle.log_core.proofs.kinds.Fences.{no_sync_fenced, fence_leaves, fence_facts}
@@ -89,11 +90,17 @@ module _ (o : Origin) (c : Core) (n : ℕ) (inv : Invariant o c) (here : n < len
         start = rw (begun_same (op_in mine.seat)) (facts_of o c n inv here)
 
     -- so the step keeps the invariant, where it leaves to the others what they know, and its effect is known
+    pub kind_leaves : (m : Memory) (owner : ℕ → Owner) → Leaves o c n m → LeavesOwners o c n m (with_seat mine (effect_at mine note kind f) (ghost_left mine note kind f)) owner → BitsFit (shape o) m.now.taken owner →
+        Knows o (moved c m owner) n (effect_at mine note kind f) (ghost_left mine note kind f) (slice_index m.now.pins n) (slice_index began n) →
+        Invariant o (record c { memory = m; views = slice_set c.views n (view_after mine kind note f); owner = owner; began = began })
+    kind_leaves m owner leaves changes bits facts = entered o c n note kind f here unspent step (record c { memory = m; owner = owner; began = began })
+        (set_core o c n (effect_at mine note kind f) (ghost_left mine note kind f) m owner began inv here unspent leaves changes bits facts began_fits began_others began_lows) later no_record
+
+    -- as where the seat takes or gives back own blocks alone
     pub kind_holds : (m : Memory) (owner : ℕ → Owner) → Leaves o c n m → Changes c n owner → BitsFit (shape o) m.now.taken owner →
         Knows o (moved c m owner) n (effect_at mine note kind f) (ghost_left mine note kind f) (slice_index m.now.pins n) (slice_index began n) →
         Invariant o (record c { memory = m; views = slice_set c.views n (view_after mine kind note f); owner = owner; began = began })
-    kind_holds m owner leaves changes bits facts = entered o c n note kind f here unspent step (record c { memory = m; owner = owner; began = began })
-        (set_core o c n (effect_at mine note kind f) (ghost_left mine note kind f) m owner began inv here unspent leaves changes bits facts began_fits began_others began_lows) later no_record
+    kind_holds m owner leaves changes = kind_leaves m owner leaves (changes_leave o c n m _ owner changes)
 
   -- the premises of a step of a kind
   abbrev Keeps : Kind → ℕ → Type 0 → Type 0
@@ -172,17 +179,28 @@ module _ (o : Origin) (c : Core) (n : ℕ) (inv : Invariant o c) (here : n < len
       (sets_bits o c n note.before (ghost_at mine note) (slice_index c.memory.now.pins n) (slice_index began n) word bits inv asked unspent step.may)
       (sets_facts o c n note.before (ghost_at mine note) (slice_index c.memory.now.pins n) (slice_index began n) word bits inv asked unspent step.may))
 
-  -- a clearing of bits of owned blocks
-  pub clear_bits_holds : (word bits : ℕ) → is_of_owned note.before word bits ≡ true →
+  -- a clearing of bits: of owned blocks, or of blocks that collections replaced
+  pub clear_bits_holds : (word bits : ℕ) →
       Keeps (ClearsBits word bits) (slice_index c.memory.now.taken word) (Invariant o (stepped o c n (ClearBits (Map word) bits) note (ClearsBits word bits) (slice_index c.memory.now.taken word)))
-  clear_bits_holds word bits own step before later no_record =
-      (let f = slice_index c.memory.now.taken word in
-      let asked = at_ask (ClearsBits word bits) f step before later no_record in
-      kind_holds (ClearsBits word bits) f step before later no_record (memory_after c.memory n (ClearBits (Map word) bits)) (λ block. owner_after c.owner n note (ClearsBits word bits) f block)
-      (clears_leaves o c n note.before (ghost_at mine note) (slice_index c.memory.now.pins n) (slice_index began n) word bits inv asked unspent step.may own)
-      (clears_changes o c n note.before (ghost_at mine note) (slice_index c.memory.now.pins n) (slice_index began n) word bits inv asked unspent step.may own)
-      (clears_bits o c n note.before (ghost_at mine note) (slice_index c.memory.now.pins n) (slice_index began n) word bits inv asked unspent step.may own)
-      (clears_facts o c n note.before (ghost_at mine note) (slice_index c.memory.now.pins n) (slice_index began n) word bits inv asked unspent step.may own))
+  clear_bits_holds word bits step before later no_record = by (is_of_owned note.before word bits) refl
+    where
+      f : ℕ
+      f = slice_index c.memory.now.taken word
+
+      asked : Knows o c n note.before (ghost_at mine note) (slice_index c.memory.now.pins n) (slice_index began n)
+      asked = at_ask (ClearsBits word bits) f step before later no_record
+
+      by : (own : Bool) → is_of_owned note.before word bits ≡ own → Invariant o (stepped o c n (ClearBits (Map word) bits) note (ClearsBits word bits) f)
+      by true own = kind_holds (ClearsBits word bits) f step before later no_record (memory_after c.memory n (ClearBits (Map word) bits)) (λ block. owner_after c.owner n note (ClearsBits word bits) f block)
+          (clears_leaves o c n note.before (ghost_at mine note) (slice_index c.memory.now.pins n) (slice_index began n) word bits inv asked unspent step.may own)
+          (clears_changes o c n note.before (ghost_at mine note) (slice_index c.memory.now.pins n) (slice_index began n) word bits inv asked unspent step.may own)
+          (clears_bits o c n note.before (ghost_at mine note) (slice_index c.memory.now.pins n) (slice_index began n) word bits inv asked unspent step.may own)
+          (clears_facts o c n note.before (ghost_at mine note) (slice_index c.memory.now.pins n) (slice_index began n) word bits inv asked unspent step.may own)
+      by false own = kind_leaves (ClearsBits word bits) f step before later no_record (memory_after c.memory n (ClearBits (Map word) bits)) (λ block. owner_after c.owner n note (ClearsBits word bits) f block)
+          (gives_leaves o c n note.before (ghost_at mine note) (slice_index c.memory.now.pins n) (slice_index began n) word bits inv asked here unspent step.may own)
+          (gives_owners o c n note.before (ghost_at mine note) (slice_index c.memory.now.pins n) (slice_index began n) word bits inv asked here unspent step.may own)
+          (gives_bits o c n note.before (ghost_at mine note) (slice_index c.memory.now.pins n) (slice_index began n) word bits inv asked here unspent step.may own)
+          (gives_facts o c n note.before (ghost_at mine note) (slice_index c.memory.now.pins n) (slice_index began n) word bits inv asked here unspent step.may own)
 
   -- a store into a word of an owned block
   pub stored_holds : (word value : ℕ) → Keeps (StoresWord word value) 0 (Invariant o (stepped o c n (Store (Image word) value) note (StoresWord word value) (slice_index c.memory.now.words word)))

@@ -107,7 +107,7 @@ fenced_reached = reach marked_reached (step_allowed image_a own_marked 0 1 Fence
 
 given_reached : IsReached image_a own_given
 given_reached = reach fenced_reached (step_allowed image_a own_fenced 0 1 (ClearBits (Map 0) 2) [] (omega arith) (one_part 0) tt refl
-    (record { inside = omega arith; small = omega arith; given = Rattle.log_core.specs.May.AreGivenBack.OfOwned (all_among 2 (λ block. is_listed (owned_numbers (seat_zero own_fenced).blocks.owned) block) refl) }) refl refl)
+    (record { inside = omega arith; small = omega arith; given = Rattle.log_core.specs.May.AreGivenBack.OfOwned (all_among 2 (λ block. is_listed (owned_numbers (seat_zero own_fenced).blocks.owned) block) refl) }) tt refl)
 
 pub block_runs : BlockRuns
 block_runs = (

@@ -17,7 +17,7 @@ use Rattle.pmem_words.proofs.MapLaws.{length_unmapped}
 use Rattle.persistence.specs.Memory.{Cell, cell}
 use Rattle.log_core.specs.Views.{View, new_view, spent_view, view_of, no_ghost, no_geometry, HeadPut}
 use Rattle.log_core.specs.Origin.{Origin, q_of_origin, start_generation, first_position, first_generation, first_memory, first_views, first_logs, made_by}
-use Rattle.log_core.specs.Files.{entries}
+use Rattle.log_core.specs.Files.{Write, entries}
 use Rattle.log_core.specs.Cores.{first_core, current, head_floor}
 use Rattle.log_core.specs.Sizes.{HasSeats, HasImage, SeatFits, Sizes}
 use Rattle.log_core.specs.Pins.{PinWordsFit, PinHolds}
@@ -62,7 +62,7 @@ start_sizes o seats image = record {
     fits n = record { number = refl; seats = refl; geometry = refl; first = refl; found = length-replicate (bitmap_words o.geometry) 0; named = length-replicate (bitmap_words o.geometry) 0; map = length_unmapped }
 
 -- pins
-no_pin : (first now : ℕ) (head : Cell) → PinHolds first now head no_hold
+pub no_pin : (first now : ℕ) (head : Cell) → PinHolds first now head no_hold
 no_pin first now head = record {
   was = λ some. absurd (some refl);
   valid_is = λ valid. absurd (false≢true valid);
@@ -87,7 +87,7 @@ start_pins o = record { words = words; holds = each_view o (λ n v. PinHolds fir
     words seat inside = each_view o (λ n v. get_or (replicate o.seats 0) n 0 ≡ v.seat.hold.pin) (λ n before. zeros_after [] o.seats n) (λ n. zeros_after [] o.seats n) seat
 
 -- walks
-walks_at : (a : Around) (position : ℕ) → position ≡ first_position a.origin → position ≤ a.end → WalkHolds a no_hold (unwalked position)
+pub walks_at : (a : Around) (position : ℕ) → position ≡ first_position a.origin → position ≤ a.end → WalkHolds a no_hold (unwalked position)
 walks_at a position same below = record {
   unwalked = λ no_tail still. same;
   to_end = below;
@@ -113,7 +113,7 @@ start_owned o = each_view o (λ n v. OwnedHold (λ word. cell (first_memory o) w
     (λ n. record { contents = omega arith; areas = tt; stored = tt; filled = λ place inside. absurd (omega (arith, inside)); fenced = λ place word inside. absurd (omega (arith, inside)) })
 
 -- giving back
-gives_none : (names : ℕ → ℕ → Bool) (now least : ℕ) → 0 < now → 0 < least → GivingHolds names now least no_giving
+pub gives_none : (names : ℕ → ℕ → Bool) (now least : ℕ) → 0 < now → 0 < least → GivingHolds names now least no_giving
 gives_none names now least some above = record {
   replaced_past = some;
   replaced = λ block later inside. absurd (false≢true inside);
@@ -122,7 +122,7 @@ gives_none names now least some above = record {
   limbo_sure = above;
 }
 
-scans_none : (other : ℕ) (h : Hold) → ScanHolds no_giving other h
+pub scans_none : (other : ℕ) (h : Hold) → ScanHolds no_giving other h
 scans_none other h = record { replaced = λ inside. absurd (omega (arith, inside)); limbo = λ inside. absurd (omega (arith, inside)) }
 
 pub start_givings : (o : Origin) → 0 < first_generation o → Givings o (first_memory o) (first_views o) [] (start_generation o ∷ []) (first_logs o)
@@ -148,24 +148,24 @@ start_givings o some = record {
     above = omega (arith, some)
 
 -- records
-abbrev fresh : Geometry → ℕ → ℕ → ℕ → ℕ → List ℕ → View
+abbrev pub fresh : Geometry → ℕ → ℕ → ℕ → ℕ → List ℕ → View
 fresh g seats position made number parts = record { seat = new_seat g number seats position; ghost = no_ghost; first = position; made = made; done = []; parts = parts }
 
 -- a seat that has made no step reads nothing
-not_reading : (offset count : ℕ) → Idle ≡ Pread offset count → ⊥
+pub not_reading : (offset count : ℕ) → Idle ≡ Pread offset count → ⊥
 not_reading offset count same = cc
 
-not_syncing : Idle ≡ Sync → ⊥
+pub not_syncing : Idle ≡ Sync → ⊥
 not_syncing same = cc
 
-not_put : (put : HeadPut) → None ≡ Some put → ⊥
+pub not_put : (put : HeadPut) → None ≡ Some put → ⊥
 not_put put same = cc
 
-no_position : (position : ℕ) → None ≡ Some position → ⊥
+pub no_position : (position : ℕ) → None ≡ Some position → ⊥
 no_position position same = cc
 
-no_call_holds : (o : Origin) (g : Geometry) (seats position made number : ℕ) (parts : List ℕ) → CallHolds o [] (fresh g seats position made number parts)
-no_call_holds o g seats position made number parts = record {
+pub no_call_holds : (o : Origin) (history : List Write) (g : Geometry) (seats position made number : ℕ) (parts : List ℕ) → CallHolds o history (fresh g seats position made number parts)
+no_call_holds o history g seats position made number parts = record {
   laid = λ offset count job. absurd (not_reading offset count job);
   bases = record { most = omega arith; whole = omega arith; from_first = λ some. absurd (some refl); bytes = λ running place at inside. absurd (omega (arith, inside)) };
   reading = λ reading. absurd (false≢true reading);
@@ -208,7 +208,7 @@ start_records o = record {
       (λ n before. record { own = λ put is. absurd (not_put put is); found = omega arith }) (λ n. record { own = λ put is. absurd (not_put put is); found = omega arith });
   records = each_view o (λ n v. AllByRecursion (RecordHolds o [] (start_generation o ∷ [])) v.done) (λ n before. tt) (λ n. tt);
   never_fall = λ seat part. each_view o (λ n v. NeverFall part 0 0 v.done) (λ n before. tt) (λ n. tt) seat;
-  calls = each_view o (λ n v. CallHolds o [] v) (λ n before. no_call_holds o o.geometry o.seats (first_position o) (made_by o.made n) n (n ∷ [])) (λ n. no_call_holds o no_geometry 0 0 0 0 []);
+  calls = each_view o (λ n v. CallHolds o [] v) (λ n before. no_call_holds o [] o.geometry o.seats (first_position o) (made_by o.made n) n (n ∷ [])) (λ n. no_call_holds o [] no_geometry 0 0 0 0 []);
   begun = λ seat. (let e = zeros_after [] o.made seat in omega (arith, e));
   tails = λ seat. each_view o (λ n v. TailHolds v (get_or (replicate o.made 0) seat 0))
       (λ n before at_tail. absurd (false≢true at_tail)) (λ n at_tail. absurd (false≢true at_tail)) seat;

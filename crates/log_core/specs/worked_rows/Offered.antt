@@ -52,7 +52,8 @@ abbrev pub front_read : Core
 front_read = stepping image_a pinned 0 (Load (Image 25)) 1 [] []
 
 -- allowed are a load of a word of the pinned chain, also where a walk begins at the first log block before it, a load of a bitmap
--- word, a setting of bits, a store into an own block, a mark of a word of it, a fence in a write, and a clearing of the bits of own blocks
+-- word, a setting of bits, a store into an own block, a mark of a word of it, a fence in a write, and a clearing of the bits of own
+-- blocks and of replaced ones
 abbrev pub OfferedKinds : Type 0
 OfferedKinds =
     IsAllowed pinned 0 (Load (Image 25)) []
@@ -63,16 +64,16 @@ OfferedKinds =
     × IsAllowed stored_words 0 (Mark 8) []
     × IsAllowed marked_words 0 Fence (CountsFilled 0 ∷ [])
     × IsAllowed collected 1 (ClearBits (Map 0) 4) []
+    × IsAllowed scan_clear 0 (ClearBits (Map 0) 8) []
 
--- their conditions hold, and they are not allowed yet: a sync's mark of the head and of a slot, a sync's fence, a collection's mark of
--- its head, and a clearing of the bits of replaced blocks
+-- their conditions hold, and they are not allowed yet: a sync's mark of the head and of a slot, a sync's fence, and a
+-- collection's mark of its head
 abbrev pub NotOffered : Type 0
 NotOffered =
     (MayBeMade syncing 0 (Mark 3) [] × (IsAllowed syncing 0 (Mark 3) [] → ⊥))
     × (MayBeMade syncing 0 (Mark 27) [] × (IsAllowed syncing 0 (Mark 27) [] → ⊥))
     × (MayBeMade slot_marked 0 Fence [] × (IsAllowed slot_marked 0 Fence [] → ⊥))
     × (MayBeMade collected 0 (Mark 3) [] × (IsAllowed collected 0 (Mark 3) [] → ⊥))
-    × (MayBeMade scan_clear 0 (ClearBits (Map 0) 8) [] × (IsAllowed scan_clear 0 (ClearBits (Map 0) 8) [] → ⊥))
 
 -- seat 0 with its pin loads the bitmap word, takes block 1, stores and marks its words, fences it, and gives it back
 abbrev pub own_taken : Core
