@@ -22,3 +22,4 @@ pub mod SetOwned
 pub mod OwnedBut
 pub mod BitmapLeaves
 pub mod MovedWalks
+pub mod Exchanged
