@@ -23,3 +23,6 @@ pub mod OwnedBut
 pub mod BitmapLeaves
 pub mod MovedWalks
 pub mod Exchanged
+pub mod Growth
+pub mod GrownWords
+pub mod GrownNames
