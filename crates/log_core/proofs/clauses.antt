@@ -26,3 +26,4 @@ pub mod Exchanged
 pub mod Growth
 pub mod GrownWords
 pub mod GrownNames
+pub mod GrownOrder
