@@ -35,7 +35,7 @@ pub snapshot_kind : (base : ℕ) → base < 2 ^ 40 → field BLOCK_KIND (block_w
 snapshot_kind base small = omega (arith, small)
 
 -- a block stands once among different ones
-not_again : (block : ℕ) (blocks : List ℕ) → all_different (block ∷ blocks) ≡ true → is_listed blocks block ≡ true → ⊥
+pub not_again : (block : ℕ) (blocks : List ℕ) → all_different (block ∷ blocks) ≡ true → is_listed blocks block ≡ true → ⊥
 not_again block blocks different again = (let first = and_parts (not (is_listed blocks block)) (all_different blocks) different in
     let none : is_listed blocks block ≡ false = not-true (is_listed blocks block) first.0 in
     let both : true ≡ false = sym again ∙ none in cc)

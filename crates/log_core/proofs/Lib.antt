@@ -9,6 +9,7 @@ pub mod KeptWords
 pub mod Fronts
 pub mod FileLimits
 pub mod ChainWords
+pub mod MapNames
 pub mod PinnedChains
 pub mod WalkMaps
 pub mod BaseWords

@@ -154,19 +154,22 @@ module _ (o : Origin) (c : Core) (inv : Invariant o c) where
 
   module _ (place number : ℕ) (kept : KeptIn o c place) (low : (nth_generation c.generations place).cut ≤ number) (inside : number < length c.logs) where
     -- the last log block's entries end at the end
-    last_end : number + 1 ≡ length c.logs → (nth number).base + entries_used (nth number) ≡ end_of o c.history
+    pub last_end : number + 1 ≡ length c.logs → (nth number).base + entries_used (nth number) ≡ end_of o c.history
     last_end last = subst (λ (k : ℕ). (nth k).base + entries_used (nth k) ≡ end_of o c.history) (omega (arith, last)) inv.order.log.last
 
-    -- a slot that is found empty, and that no entry of the block comes after, is at the end
-    pub empty_slot : (k : ℕ) → k + 3 < words_in (shape o) → k ≤ entries_used (nth number) → (cell c.memory (place_in (shape o) (nth number).block (k + 3))).present ≡ 0 → (nth number).base + k ≡ end_of o c.history
-    empty_slot k within few empty =
+    -- a slot that is found empty, and that no entry of the block comes after, is behind the used slots of the last log block, none of them a seal
+    pub first_empty : (k : ℕ) → k + 3 < words_in (shape o) → k ≤ entries_used (nth number) → (cell c.memory (place_in (shape o) (nth number).block (k + 3))).present ≡ 0 →
+        (number + 1 ≡ length c.logs) × (length (nth number).slots ≡ k) × (entries_used (nth number) ≡ k)
+    first_empty k within few empty =
         (let short = entries_short (nth number).slots in
         let grows : IsGrowing (cell c.memory (place_in (shape o) (nth number).block (k + 3))) (slice_index (nth number).slots k) =
         (inv.order.chains place kept number low inside).slots k within (λ sealed. omega (arith, few, short)) in
         let all : length (nth number).slots ≤ k = past k (sym grows.present ∙ empty) in
-        let used : length (entry_words (nth number).slots) ≡ length (nth number).slots = omega (arith, short, few, all) in
-        let ends = last_end (last used (omega (arith, few, all, short)) (nat_lt (number + 1) (length c.logs)) refl) in
-        omega (arith, ends, used, all, few))
+        let used : length (entry_words (nth number).slots) ≡ length (nth number).slots = omega (arith, short, few, all) in (
+          last used (omega (arith, few, all, short)) (nat_lt (number + 1) (length c.logs)) refl,
+          omega (arith, few, all, short),
+          omega (arith, used, few, all, short),
+        ))
       where
         past : (k : ℕ) → slice_index (nth number).slots k ≡ 0 → length (nth number).slots ≤ k
         past k none = go (nat_lt k (length (nth number).slots)) refl
@@ -182,9 +185,13 @@ module _ (o : Origin) (c : Core) (inv : Invariant o c) where
             (unsealed (nth number).slots used) (ne_eqb (length (nth number).slots + 3) (words_in (shape o)) (λ full. omega (arith, full, same, within))) in
             let both : false ≡ true = sym more ∙ inv.order.log.full number (ltb-true (number + 1) (length c.logs) e) in cc)
 
-    -- so is a block's link that is found 0
-    pub empty_link : (cell c.memory (place_in (shape o) (nth number).block 0)).present ≡ 0 → (nth number).base + entries_used (nth number) ≡ end_of o c.history
-    empty_link empty = last_end (go (nat_lt (number + 1) (length c.logs)) refl)
+    -- so it is at the end
+    pub empty_slot : (k : ℕ) → k + 3 < words_in (shape o) → k ≤ entries_used (nth number) → (cell c.memory (place_in (shape o) (nth number).block (k + 3))).present ≡ 0 → (nth number).base + k ≡ end_of o c.history
+    empty_slot k within few empty = (let r = first_empty k within few empty in let ends = last_end r.0 in let used = r.2 in omega (arith, ends, used))
+
+    -- a block's link that is found 0 is the last one's
+    pub last_link : (cell c.memory (place_in (shape o) (nth number).block 0)).present ≡ 0 → number + 1 ≡ length c.logs
+    last_link empty = go (nat_lt (number + 1) (length c.logs)) refl
       where
         go : (b : Bool) → nat_lt (number + 1) (length c.logs) ≡ b → number + 1 ≡ length c.logs
         go false e = (let late = ltb-false (number + 1) (length c.logs) e in omega (arith, late, inside))
@@ -192,6 +199,10 @@ module _ (o : Origin) (c : Core) (inv : Invariant o c) where
             (let next : number + 1 < length c.logs = ltb-true (number + 1) (length c.logs) e in
             let zero_block : (nth (number + 1)).block ≡ 0 = sym (inv.order.chains place kept number low inside).link.present ∙ empty in
             absurd (some_block place (number + 1) kept (omega (arith, low)) next zero_block))
+
+    -- so it is at the end
+    pub empty_link : (cell c.memory (place_in (shape o) (nth number).block 0)).present ≡ 0 → (nth number).base + entries_used (nth number) ≡ end_of o c.history
+    empty_link empty = last_end (last_link empty)
 
 -- the log block of a walk's tail, by its number
 pub record TailLog (c : Core) (w : Walk) (cut : ℕ) : Type 0 where

@@ -22,3 +22,8 @@ pub mod SetOwned
 pub mod OwnedBut
 pub mod BitmapLeaves
 pub mod MovedWalks
+pub mod Exchanged
+pub mod Growth
+pub mod GrownWords
+pub mod GrownNames
+pub mod GrownOrder
