@@ -5,6 +5,7 @@ pub mod Leaves
 pub mod Apart
 pub mod Others
 pub mod SetCore
+pub mod SetRecords
 pub mod SetBlocks
 pub mod MemoryMoves
 pub mod OwnedLists

@@ -36,13 +36,19 @@ parts_set [] n w seat same here = refl
 parts_set (v ∷ views) zero w seat same here = ap (λ (parts : List ℕ). count_in parts seat + parts_with views seat) same
 parts_set (v ∷ views) (suc n) w seat same here = ap (λ (m : ℕ). count_in v.parts seat + m) (parts_set views n w seat same (omega (arith, here)))
 
--- how often a generation was put in place, where a view is written with the same records and the same head put
+-- how often a generation was put in place, where a view is written that counts as many
+pub collected_with : (views : List View) (n : ℕ) (w : View) (generation : ℕ) →
+    collected_in generation w.done + putting generation w.ghost.call.put ≡ collected_in generation (view_of views n).done + putting generation (view_of views n).ghost.call.put → n < length views →
+    collected_by generation (slice_set views n w) ≡ collected_by generation views
+collected_with [] n w generation same here = refl
+collected_with (v ∷ views) zero w generation same here = ap (λ (m : ℕ). m + collected_by generation views) same
+collected_with (v ∷ views) (suc n) w generation same here =
+    ap (λ (m : ℕ). collected_in generation v.done + putting generation v.ghost.call.put + m) (collected_with views n w generation same (omega (arith, here)))
+
+-- so it is with the same records and the same head put
 pub collected_set : (views : List View) (n : ℕ) (w : View) (generation : ℕ) → w.done ≡ (view_of views n).done → w.ghost.call.put ≡ (view_of views n).ghost.call.put → n < length views →
     collected_by generation (slice_set views n w) ≡ collected_by generation views
-collected_set [] n w generation done put here = refl
-collected_set (v ∷ views) zero w generation done put here = rw (done, put) refl
-collected_set (v ∷ views) (suc n) w generation done put here =
-    ap (λ (m : ℕ). collected_in generation v.done + putting generation v.ghost.call.put + m) (collected_set views n w generation done put (omega (arith, here)))
+collected_set views n w generation done put here = collected_with views n w generation (rw (done, put) refl) here
 
 -- a fact of each view of the list, where one is written
 pub all_set : (P : View → Type 0) (views : List View) (n : ℕ) (w : View) → P w → AllByRecursion P views → AllByRecursion P (slice_set views n w)
