@@ -14,6 +14,7 @@ pub mod PinnedChains
 pub mod WalkMaps
 pub mod BaseWords
 pub mod SnapshotReads
+pub mod SnapshotNames
 pub mod MappedBlocks
 pub mod WordBytesAt
 pub mod kinds

@@ -22,19 +22,19 @@ use Rattle.log_core.proofs.WalkMaps.{map_more}
 use Rattle.log_core.proofs.clauses.Apart.{has_left, has_right, either_of}
 
 -- a block that an entry gives is among its blocks
-at_in : (blocks : List ℕ) (place block : ℕ) → slice_get blocks place ≡ Some block → is_listed blocks block ≡ true
+pub at_in : (blocks : List ℕ) (place block : ℕ) → slice_get blocks place ≡ Some block → is_listed blocks block ≡ true
 at_in [] place block found = cc
 at_in (first ∷ blocks) zero block found = (let same : first ≡ block = cc in or_left (first == block) (is_listed blocks block) (eq-eqb first block same))
 at_in (first ∷ blocks) (suc place) block found = or_right (first == block) (is_listed blocks block) (at_in blocks place block found)
 
-given_name : (entry : Meaning) (virt block : ℕ) → block_in entry virt ≡ Some block → is_listed (names entry) block ≡ true
+pub given_name : (entry : Meaning) (virt block : ℕ) → block_in entry virt ≡ Some block → is_listed (names entry) block ≡ true
 given_name entry virt block found = go (nat_le entry.virt virt) found
   where
     go : (named : Bool) → (if named then slice_get entry.blocks (virt - entry.virt) else None) ≡ Some block → is_listed (names entry) block ≡ true
     go true is = has_right entry.holder entry.blocks block (at_in entry.blocks (virt - entry.virt) block is)
     go false is = cc
 
-one_of : (first second : Option ℕ) (block : ℕ) → option_or first second ≡ Some block → (first ≡ Some block) ⊎ (second ≡ Some block)
+pub one_of : (first second : Option ℕ) (block : ℕ) → option_or first second ≡ Some block → (first ≡ Some block) ⊎ (second ≡ Some block)
 one_of None second block found = inr found
 one_of (Some other) second block found = inl found
 

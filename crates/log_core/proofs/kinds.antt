@@ -30,5 +30,6 @@ pub mod SetsBits
 pub mod ClearsBits
 pub mod GivesBack
 pub mod Splits
+pub mod ExchangesHead
 pub mod StepHolds
 pub mod RunHolds

@@ -1,0 +1,2 @@
+-- probe
+use Rattle.log_core.proofs.SnapshotNames.{names_different}
