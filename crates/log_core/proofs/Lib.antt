@@ -15,6 +15,7 @@ pub mod WalkMaps
 pub mod BaseWords
 pub mod SnapshotReads
 pub mod SnapshotNames
+pub mod ChainEntries
 pub mod MappedBlocks
 pub mod WordBytesAt
 pub mod kinds

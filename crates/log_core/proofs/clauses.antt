@@ -28,3 +28,5 @@ pub mod Growth
 pub mod GrownWords
 pub mod GrownNames
 pub mod GrownOrder
+pub mod HeadMoved
+pub mod HeadNames
