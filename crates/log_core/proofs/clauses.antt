@@ -30,3 +30,5 @@ pub mod GrownNames
 pub mod GrownOrder
 pub mod HeadMoved
 pub mod HeadNames
+pub mod FencedContents
+pub mod HeadContents

@@ -36,16 +36,8 @@ use Rattle.log_core.proofs.ChainEntries.{chain_entries, chain_map, chain_data}
 use Rattle.log_core.proofs.MappedBlocks.{mapped_name}
 use Rattle.log_core.proofs.SnapshotNames.{snapshot_plain, named_mapped, map_once, names_different}
 use Rattle.log_core.proofs.clauses.Apart.{has_left, has_right, either_of}
+use Rattle.log_core.proofs.clauses.FencedContents.{fenced_owned}
 use Rattle.log_core.proofs.clauses.GrownNames.{never, back_different}
-
--- a fenced block is owned
-pub fenced_owned : (owned : List OwnedBlock) (block : ℕ) → is_fenced owned block ≡ true → is_listed (owned_numbers owned) block ≡ true
-fenced_owned [] block fenced = cc
-fenced_owned (b ∷ owned) block fenced = go (b.block == block) b.fenced fenced (λ rest. fenced_owned owned block rest)
-  where
-    go : (same flag : Bool) → ((same && flag) || is_fenced owned block) ≡ true → (is_fenced owned block ≡ true → is_listed (owned_numbers owned) block ≡ true) → (same || is_listed (owned_numbers owned) block) ≡ true
-    go true flag some rest = refl
-    go false flag some rest = rest some
 
 -- the later of some numbers
 pub listed_drop : (count : ℕ) (blocks : List ℕ) (block : ℕ) → is_listed (drop count blocks) block ≡ true → is_listed blocks block ≡ true
@@ -174,7 +166,7 @@ module _ (o : Origin) (c : Core) (n : ℕ) (s : Seat) (g : Ghost) (pin began bef
       (let mapped = named_mapped means block (snapshot_plain (λ b. content_of s b) snaps) may.apart listed in
       mapped_name (chain_entries o c inv at in_chain s.walk.position low) mapped.0 block (sym (map_is mapped.0) ∙ mapped.1))
 
-  data_named : (block : ℕ) → is_listed (all_names means ++ later) block ≡ true → is_listed (data_names o es gen) block ≡ true
+  pub data_named : (block : ℕ) → is_listed (all_names means ++ later) block ≡ true → is_listed (data_names o es gen) block ≡ true
   data_named block listed = subst (λ (l : List ℕ). is_listed l block ≡ true) (sym data_is)
       (either_of (is_listed (all_names means) block) (is_listed later block) (sym (list_any-append (λ (other : ℕ). other == block) (all_names means) later) ∙ listed)
       (λ shared. has_left (all_names (chain_entries o c inv at in_chain s.walk.position low)) later block (shared_among block shared))
