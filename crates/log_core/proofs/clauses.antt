@@ -27,3 +27,4 @@ pub mod Growth
 pub mod GrownWords
 pub mod GrownNames
 pub mod GrownOrder
+pub mod GrownContents

@@ -100,7 +100,6 @@ is_offered_work TakesEntry = true
 is_offered_work KeepsReplaced = true
 is_offered_work TakesSeal = true
 is_offered_work Follows = true
-is_offered_work _ = false
 
 -- a step of an offered kind, with offered computations, and no record yet
 pub record DoesOffered (o : Origin) (c : Core) (seat : ℕ) (ask : Ask) (note : Note) (fits : MayDo o c seat ask note) : Type 0 where
