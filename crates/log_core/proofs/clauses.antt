@@ -28,3 +28,4 @@ pub mod GrownWords
 pub mod GrownNames
 pub mod GrownOrder
 pub mod GrownContents
+pub mod GrownWalks
