@@ -29,3 +29,4 @@ pub mod GrownNames
 pub mod GrownOrder
 pub mod GrownContents
 pub mod GrownWalks
+pub mod GrownOthers
