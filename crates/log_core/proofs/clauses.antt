@@ -30,3 +30,4 @@ pub mod GrownOrder
 pub mod GrownContents
 pub mod GrownWalks
 pub mod GrownOthers
+pub mod GrownRecords
