@@ -31,3 +31,4 @@ pub mod GrownContents
 pub mod GrownWalks
 pub mod GrownOthers
 pub mod GrownRecords
+pub mod GrowCore
