@@ -49,7 +49,7 @@ module _ (o : Origin) (c : Core) (inv : Invariant o c) (place : ℕ) (kept : Kep
   rest = data_names o (entries o c.history) g
 
   -- such a block is no log block of the chain
-  apart : (block : ℕ) → is_listed (g.snapshots ++ rest) block ≡ true → is_listed logs block ≡ true → ⊥
+  pub apart : (block : ℕ) → is_listed (g.snapshots ++ rest) block ≡ true → is_listed logs block ≡ true → ⊥
   apart block listed log = either_of (is_listed g.snapshots block) (is_listed rest block) (sym (list_any-append (λ (other : ℕ). other == block) g.snapshots rest) ∙ listed)
       (λ snapshot. in_one_part g.snapshots logs block (front_different (g.snapshots ++ logs) rest once) snapshot log)
       (λ named. in_one_part (g.snapshots ++ logs) rest block once (has_right g.snapshots logs block log) named)

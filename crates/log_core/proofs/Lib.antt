@@ -10,6 +10,7 @@ pub mod Fronts
 pub mod FileLimits
 pub mod ChainWords
 pub mod MapNames
+pub mod SameContents
 pub mod PinnedChains
 pub mod WalkMaps
 pub mod BaseWords

@@ -32,3 +32,8 @@ pub mod HeadMoved
 pub mod HeadNames
 pub mod FencedContents
 pub mod HeadContents
+pub mod GrownContents
+pub mod GrownWalks
+pub mod GrownOthers
+pub mod GrownRecords
+pub mod GrowCore

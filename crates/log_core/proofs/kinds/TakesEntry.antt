@@ -41,7 +41,7 @@ use Rattle.log_core.proofs.clauses.Apart.{has_left, has_right, data_is_named}
 use Rattle.log_core.proofs.clauses.MovedWalks.{move_with_bases}
 
 -- the sizes and the maps of a history, one entry further
-size_more : (image : Shape) (size : ℕ) (entries : List Meaning) (meaning : Meaning) → size_after image size (entries ++ meaning ∷ []) ≡ max (size_after image size entries) (entry_end image meaning)
+pub size_more : (image : Shape) (size : ℕ) (entries : List Meaning) (meaning : Meaning) → size_after image size (entries ++ meaning ∷ []) ≡ max (size_after image size entries) (entry_end image meaning)
 size_more image size [] meaning = refl
 size_more image size (entry ∷ entries) meaning = size_more image (max size (entry_end image entry)) entries meaning
 
@@ -70,7 +70,7 @@ among_names (e ∷ es) (suc from) Rattle.std.proofs.Common.zero block low inside
 among_names (e ∷ es) (suc from) (suc k) block low inside listed = among_names es from k block (omega (arith, low)) (omega (arith, inside)) listed
 
 -- what an entry of a log block says depends on its indirect block alone
-same_meaning : (first second : ℕ → List ℕ) (image : Shape) (word : ℕ) → is_log_entry_by second image word ≡ true →
+pub same_meaning : (first second : ℕ → List ℕ) (image : Shape) (word : ℕ) → is_log_entry_by second image word ≡ true →
     (field ENTRY_KIND word ≡ INDIRECT → first (field INDIRECT_BLOCK word) ≡ second (field INDIRECT_BLOCK word)) → meaning_by first word ≡ meaning_by second word
 same_meaning first second image word good same = go (field ENTRY_KIND word == DIRECT) refl
   where
@@ -92,7 +92,7 @@ same_meaning first second image word good same = go (field ENTRY_KIND word == DI
     go false e = ap (λ (content : List ℕ). indirect_meaning (field INDIRECT_BLOCK word) content) (same (indirect (is_direct word) refl e form))
 
 -- where an entry does not touch a virtual block it names none for it
-untouched : (meaning : Meaning) (virt : ℕ) → touches meaning virt ≡ false → block_in meaning virt ≡ None
+pub untouched : (meaning : Meaning) (virt : ℕ) → touches meaning virt ≡ false → block_in meaning virt ≡ None
 untouched meaning virt none = go (nat_le meaning.virt virt) (nat_lt virt (meaning.virt + length meaning.blocks)) refl refl none
   where
     go : (low high : Bool) → nat_le meaning.virt virt ≡ low → nat_lt virt (meaning.virt + length meaning.blocks) ≡ high → (low && high) ≡ false →
@@ -103,7 +103,7 @@ untouched meaning virt none = go (nat_le meaning.virt virt) (nat_lt virt (meanin
     go false high e f never = refl
 
 -- a block has eight bytes a word
-eight_bytes : (bytes : ℕ) → is_block_bytes bytes ≡ true → bytes ≡ 8 * (bytes / 8)
+pub eight_bytes : (bytes : ℕ) → is_block_bytes bytes ≡ true → bytes ≡ 8 * (bytes / 8)
 eight_bytes bytes allowed = by (bytes == 64) (bytes == 512) (bytes == 4096) refl refl refl allowed
   where
     by : (small middle large : Bool) → (bytes == 64) ≡ small → (bytes == 512) ≡ middle → (bytes == 4096) ≡ large → (small || middle || large) ≡ true → bytes ≡ 8 * (bytes / 8)
