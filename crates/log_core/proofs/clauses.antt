@@ -28,6 +28,7 @@ pub mod Growth
 pub mod GrownWords
 pub mod GrownNames
 pub mod GrownOrder
+pub mod OwnedSame
 pub mod HeadMoved
 pub mod HeadNames
 pub mod FencedContents
@@ -37,3 +38,4 @@ pub mod GrownWalks
 pub mod GrownOthers
 pub mod GrownRecords
 pub mod GrowCore
+pub mod HeadOthers
