@@ -23,6 +23,7 @@ pub mod SetOwned
 pub mod OwnedBut
 pub mod BitmapLeaves
 pub mod MovedWalks
+pub mod SyncedRises
 pub mod Exchanged
 pub mod Growth
 pub mod GrownWords

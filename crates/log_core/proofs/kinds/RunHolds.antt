@@ -70,8 +70,8 @@ module _ (o : Origin) (c : Core) (n : ℕ) (inv : Invariant o c) (here : n < len
   each_ask (ClearBits (Pin other) bits) = λ offered. absurd offered
   each_ask (ClearBits (Map word) bits) = λ offered. clear_bits_holds o c n inv here unspent note word bits
   each_ask (ClearBits (FenceOf other) bits) = λ offered. absurd offered
-  each_ask (Mark word) = λ offered. mark_holds o c n inv here unspent note word offered
-  each_ask Fence = λ offered. fence_holds o c n inv here unspent note offered
+  each_ask (Mark word) = λ offered. mark_holds o c n inv here unspent note word
+  each_ask Fence = λ offered. fence_holds o c n inv here unspent note
 
 -- a split is of seat 0
 split_keeps : (o : Origin) (c : Core) (seat : ℕ) → Invariant o c → MaySplit o c seat → Invariant o (after o c (Splits seat))
