@@ -24,6 +24,8 @@ pub mod OwnedBut
 pub mod BitmapLeaves
 pub mod MovedWalks
 pub mod SyncedRises
+pub mod JoinedParts
+pub mod JoinedOwners
 pub mod Exchanged
 pub mod Growth
 pub mod GrownWords

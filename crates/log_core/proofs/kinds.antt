@@ -32,6 +32,7 @@ pub mod SetsBits
 pub mod ClearsBits
 pub mod GivesBack
 pub mod Splits
+pub mod Joins
 pub mod ExchangesHead
 pub mod StepHolds
 pub mod RunHolds

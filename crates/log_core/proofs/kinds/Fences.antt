@@ -1,6 +1,6 @@
 -- A fence keeps what holds of the seat's state, and leaves the others what they know. The position that a sync answers from then on is
 -- said apart.
-use Rattle.std.proofs.Common.{◌≡◌, ◌<◌, ◌≤◌, ◌+◌, ◌==◌, ◌&&◌, ◌||◌, ◌⊎◌, ⊎_elim, inl, inr, ℕ, Bool, true, false, List, [], length, map, refl, sym, ◌∙◌, ap, subst, arith, nat_lt, Option, Some, None}
+use Rattle.std.proofs.Common.{◌≡◌, ◌≢◌, ◌<◌, ◌≤◌, ◌+◌, ◌==◌, ◌&&◌, ◌||◌, ◌⊎◌, ⊎_elim, inl, inr, ℕ, Bool, true, false, List, [], length, map, refl, sym, ◌∙◌, ap, subst, arith, nat_lt, Option, Some, None}
 use Rattle.std.specs.List.{AllByRecursion, list_any}
 use Rattle.std.proofs.lemmas.Bool.{eqb-true, ltb-true}
 use Rattle.log_entry.specs.Fields.{field}
@@ -49,6 +49,10 @@ sync_fences Sync true position None = inr (refl, refl, refl, refl)
 sync_fences Sync true position (Some to) = inl refl
 sync_fences Sync false position sync_to = inl refl
 sync_fences _ at_tail position sync_to = inl refl
+
+-- no position is synced but by a sync
+pub no_sync_fenced : (job : Task) (at_tail : Bool) (position : ℕ) (sync_to : Option ℕ) → job ≢ Sync → sync_fenced job at_tail position sync_to ≡ sync_to
+no_sync_fenced job at_tail position sync_to other = ⊎_elim (λ same. same) (λ rises. absurd (other rises.0)) (sync_fences job at_tail position sync_to)
 
 module _ (o : Origin) (c : Core) (n : ℕ) (s : Seat) (g : Ghost) (pin began : ℕ) (inv : Invariant o c) (f : Knows o c n s g pin began) where
   abbrev m : Memory
