@@ -124,7 +124,7 @@ module _ (o : Origin) (seat first count : ℕ) (start : Seat) where
   pub mark_lawful : (place left word : ℕ) (s : Seat) (g : Ghost) → MarkStands first count start place left word s g → Lawful o seat fill_script no_record (FillStands first count start) (IsFilled first count start) (Mark place left word) s g
   mark_lawful place left word s g stands = record {
     may = λ c pin began inv unspent knows. OfOwned (mine first count place left word s g stands.here) stands.here.calm.no_sync;
-    offered = record { owned = mine first count place left word s g stands.here; no_sync = stands.here.calm.no_sync };
+    offered = tt;
     admitted = λ c pin began inv unspent knows. has_blocks first count place left word s g stands.here (few_owned o seat c s g pin began inv knows);
     enters = λ f found admits. enters_marked place left word s g stands f (nat_lt (word + 1) (q_of s.geometry)) refl;
     none_added = λ f found admits. none_at (fill_script.after (Mark place left word) s f).seat (fill_script.after (Mark place left word) s f).turn;

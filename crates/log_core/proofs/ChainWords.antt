@@ -38,6 +38,11 @@ front_different (number ∷ first) second different = and_from (not (is_listed f
     go false e none = refl
     go true e none = (let some = has_left first second number e in let never = not-true (is_listed (first ++ second) number) none in let both : true ≡ false = sym some ∙ never in cc)
 
+-- and so are the second
+pub back_different : (first second : List ℕ) → all_different (first ++ second) ≡ true → all_different second ≡ true
+back_different [] second different = different
+back_different (number ∷ first) second different = back_different first second (and_parts (not (is_listed (first ++ second) number)) (all_different (first ++ second)) different).1
+
 module _ (o : Origin) (c : Core) (inv : Invariant o c) (place : ℕ) (kept : KeptIn o c place) where
   abbrev g : Generation
   g = nth_generation c.generations place

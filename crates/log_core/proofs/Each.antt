@@ -51,3 +51,8 @@ each_map P f (x ∷ xs) all = (all.0, each_map P f xs all.1)
 pub map_same : {X Y : Type 0} (f g : X → Y) (xs : List X) → AllByRecursion (λ (x : X). f x ≡ g x) xs → map f xs ≡ map g xs
 map_same f g [] same = refl
 map_same {X} {Y} f g (x ∷ xs) same = ap (λ (y : Y). y ∷ map f xs) same.0 ∙ ap (λ (ys : List Y). g x ∷ ys) (map_same f g xs same.1)
+
+-- a test of what a function makes of each
+pub any_map : {X Y : Type 0} (f : X → Y) (p : Y → Bool) (xs : List X) → list_any p (map f xs) ≡ list_any (λ (x : X). p (f x)) xs
+any_map f p [] = refl
+any_map f p (x ∷ xs) = ap (λ (b : Bool). p (f x) || b) (any_map f p xs)

@@ -9,6 +9,8 @@ pub mod KeptWords
 pub mod Fronts
 pub mod FileLimits
 pub mod ChainWords
+pub mod Trails
+pub mod ChainPlaces
 pub mod MapNames
 pub mod SameContents
 pub mod PinnedChains

@@ -106,9 +106,11 @@ named_mapped [] block plain apart listed = cc
 named_mapped (entry ∷ entries) block plain apart listed = either_of (is_listed (names entry) block) (is_listed (all_names entries) block)
     (sym (list_any-append (λ (other : ℕ). other == block) (names entry) (all_names entries)) ∙ listed)
     (λ here. (let at = place_of entry.blocks block (subst (λ (l : List ℕ). is_listed l block ≡ true) (plain_names entry plain.0) here) in
-      let gives = gives_place entry at.0 block at.1 in
-      (entry.virt + at.0, ap (λ (found : Option ℕ). option_or found (block_in entry (entry.virt + at.0)))
-        (unnamed_virt entries (entry.virt + at.0) (apart.0 (entry.virt + at.0) (gives_touches entry (entry.virt + at.0) block gives))) ∙ gives)))
+    let gives = gives_place entry at.0 block at.1 in (
+      entry.virt + at.0,
+      ap (λ (found : Option ℕ). option_or found (block_in entry (entry.virt + at.0)))
+          (unnamed_virt entries (entry.virt + at.0) (apart.0 (entry.virt + at.0) (gives_touches entry (entry.virt + at.0) block gives))) ∙ gives,
+    )))
     (λ later. (let r = named_mapped entries block plain.1 apart.1 later in (r.0, ap (λ (found : Option ℕ). option_or found (block_in entry r.0)) r.1)))
 
 -- a block that the entries of a list of different names map is mapped at one virtual block

@@ -23,6 +23,9 @@ pub mod SetOwned
 pub mod OwnedBut
 pub mod BitmapLeaves
 pub mod MovedWalks
+pub mod SyncedRises
+pub mod JoinedParts
+pub mod JoinedOwners
 pub mod Exchanged
 pub mod Growth
 pub mod GrownWords

@@ -15,8 +15,10 @@ pub mod ReadsSnapshot
 pub mod AtTail
 pub mod TakesEntry
 pub mod StoresWord
+pub mod MarksFit
 pub mod MarksWord
 pub mod Fences
+pub mod SyncFence
 pub mod Begun
 pub mod LoadsHead
 pub mod LoadsImageWord
@@ -30,6 +32,7 @@ pub mod SetsBits
 pub mod ClearsBits
 pub mod GivesBack
 pub mod Splits
+pub mod Joins
 pub mod ExchangesHead
 pub mod StepHolds
 pub mod RunHolds

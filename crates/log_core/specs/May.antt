@@ -236,13 +236,7 @@ May o c g s (MarksWord word) = MayMark (walked_trail o c s) g s word
 May o c g s Fences = MayFence (walked_trail o c s) g s
 May o c g s NoKind = ⊥
 
--- a mark of a word of an owned block, in a call that is no sync
-pub record IsOwnMark (s : Seat) (word : ℕ) : Type 0 where
-  pub owned : is_listed (owned_numbers s.blocks.owned) (word / words_of s) ≡ true
-  pub no_sync : s.calling.job ≢ Sync
-
--- the kinds that are proved to keep the invariant, by the state at the ask; no other is a step yet: words are marked of owned
--- blocks alone, and no sync marks or fences
+-- the kinds that are proved to keep the invariant, by the state at the ask; no other is a step yet
 abbrev pub IsOfferedKind : Seat → Kind → Type 0
 IsOfferedKind s LoadsHead = Unit {0}
 IsOfferedKind s (LoadsImageWord word) = Unit {0}
@@ -252,8 +246,8 @@ IsOfferedKind s (LoadsBitmapWord word) = Unit {0}
 IsOfferedKind s (SetsBits word bits) = Unit {0}
 IsOfferedKind s (ClearsBits word bits) = Unit {0}
 IsOfferedKind s (StoresWord word value) = Unit {0}
-IsOfferedKind s (MarksWord word) = IsOwnMark s word
-IsOfferedKind s Fences = s.calling.job ≢ Sync
+IsOfferedKind s (MarksWord word) = Unit {0}
+IsOfferedKind s Fences = Unit {0}
 IsOfferedKind s (ExchangesSlot word entry) = ⊥
 IsOfferedKind s (ExchangesLink word block) = ⊥
 IsOfferedKind s (ExchangesHead before next) = ⊥

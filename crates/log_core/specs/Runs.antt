@@ -112,7 +112,7 @@ pub record DoesOffered (o : Origin) (c : Core) (seat : ℕ) (ask : Ask) (note : 
 abbrev pub IsOffered : (o : Origin) (c : Core) (step : Step) → MayMakeStep o c step → Type 0
 IsOffered o c (Does seat ask note) fits = DoesOffered o c seat ask note fits
 IsOffered o c (Splits seat) fits = Unit {0}
-IsOffered o c (Joins seat other) fits = ⊥
+IsOffered o c (Joins seat other) fits = Unit {0}
 
 -- the steps that seats make
 pub record Allowed (o : Origin) (c : Core) (step : Step) : Type 0 where

@@ -1,7 +1,7 @@
 //! Worked states and steps, each the contract of a function that does nothing: what they compute to, and states that are refused.
 
 ghost use Rattle.log_core.specs.worked_rows.Rows.{JustMade, PinsInThreeSteps, ScanSeesPins, ComesToTail, BitsTaken, FenceFollows, SlotWon, SlotLost, WriteEnds, LinkWon, LinkLost, HeadWon, HeadLost, KeptUntilUnpinned, BitsCleared, BitsNotCleared, CollectEnds, SyncEnds, FilesByPosition, EarlyFiles, WalkedTrail, LacksBlocks, EntryTakenIn, ReadLays, BaseWords, SnapshotRead, QuietCalls, RepliesFit, LimitsFit};
-ghost use Rattle.log_core.specs.worked_rows.Offered.{FilledNoMore, BitmapMayBeRead, OfferedKinds, NotOffered, BlockRuns};
+ghost use Rattle.log_core.specs.worked_rows.Offered.{FilledNoMore, BitmapMayBeRead, OfferedKinds, BlockRuns};
 ghost use Rattle.log_core.specs.worked_rows.Refused.{OtherEntryPossible, HeadSkips, LogHasMore, BitWithoutOwner, BlockOnTwoLists, ChainBlockFree, OtherContentPossible, PinOfAnother, ViewOfAnother, StoredNotPresent, ReplacedStillNamed, RecordOfNoWrite, SyncedMayBeLost, NamedTwice, SnapshotNamesMore, WriteOfNoSeat};
 ghost use Rattle.log_core.specs.worked_rows.Gaps.{BitPastTheWord, MarkOfOwnedBlock, FloorAhead, SpentViewHolds};
 ghost use Rattle.log_core.specs.worked_rows.CallGaps.{TableOfAnother, BaseFromBefore, BasesDropped, BaseLeftOver, FirstBaseShort, TailNotWalked, HeadOfNoCollection, SyncOfNoSync, CallOfNoNumber};
@@ -94,7 +94,6 @@ pub fn law_accepted()
     ensures entry_may_be_put { EntryMayBePut }
     ensures bitmap_may_be_read { BitmapMayBeRead }
     ensures offered_kinds { OfferedKinds }
-    ensures not_offered { NotOffered }
     ensures block_runs { BlockRuns }
     ensures order_stands { OrderStands }
     ensures pins_stand { PinsStand }

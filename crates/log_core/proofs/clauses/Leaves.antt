@@ -85,7 +85,7 @@ pub record IsOthers (n : ℕ) (whose : Owner) : Type 0 where
   pub apart : IsApart n whose
   pub left : whose ≢ LeftTo n
 
-abbrev left_number : Owner → ℕ
+abbrev pub left_number : Owner → ℕ
 left_number (LeftTo n) = n
 left_number _ = 0
 

@@ -30,20 +30,29 @@ each_set P views n w here new old k = same_or_other k n
     (λ same. subst (λ (j : ℕ). P j (view_of (slice_set views n w) j)) (sym same) (subst (λ (x : View). P n x) (sym (get_or-set_same views n w spent_view here)) new))
     (λ other. subst (λ (x : View). P k x) (sym (get_or-set_other views n k w spent_view other)) (old k other))
 
--- the parts of all views, where one is written that has the same ones
-pub parts_set : (views : List View) (n : ℕ) (w : View) (seat : ℕ) → w.parts ≡ (view_of views n).parts → n < length views → parts_with (slice_set views n w) seat ≡ parts_with views seat
-parts_set [] n w seat same here = refl
-parts_set (v ∷ views) zero w seat same here = ap (λ (parts : List ℕ). count_in parts seat + parts_with views seat) same
-parts_set (v ∷ views) (suc n) w seat same here = ap (λ (m : ℕ). count_in v.parts seat + m) (parts_set views n w seat same (omega (arith, here)))
+-- how often a seat is a part, where one view is written
+pub parts_moved : (views : List View) (n : ℕ) (w : View) (seat : ℕ) → n < length views → parts_with (slice_set views n w) seat + count_in (view_of views n).parts seat ≡ parts_with views seat + count_in w.parts seat
+parts_moved [] n w seat here = absurd (omega (arith, here))
+parts_moved (v ∷ views) zero w seat here = omega arith
+parts_moved (v ∷ views) (suc n) w seat here = (let rest = parts_moved views n w seat (omega (arith, here)) in omega (arith, rest))
 
--- how often a generation was put in place, where a view is written that counts as many
+-- how often a generation was put in place, where one is
+pub collected_moved : (views : List View) (n : ℕ) (w : View) (generation : ℕ) → n < length views →
+    collected_by generation (slice_set views n w) + (collected_in generation (view_of views n).done + putting generation (view_of views n).ghost.call.put)
+    ≡ collected_by generation views + (collected_in generation w.done + putting generation w.ghost.call.put)
+collected_moved [] n w generation here = absurd (omega (arith, here))
+collected_moved (v ∷ views) zero w generation here = omega arith
+collected_moved (v ∷ views) (suc n) w generation here = (let rest = collected_moved views n w generation (omega (arith, here)) in omega (arith, rest))
+
+-- so the parts stay where it has the same ones
+pub parts_set : (views : List View) (n : ℕ) (w : View) (seat : ℕ) → w.parts ≡ (view_of views n).parts → n < length views → parts_with (slice_set views n w) seat ≡ parts_with views seat
+parts_set views n w seat same here = (let moved = parts_moved views n w seat here in let count = ap (λ (parts : List ℕ). count_in parts seat) same in omega (arith, moved, count))
+
+-- and the count of a generation, where it counts as many
 pub collected_with : (views : List View) (n : ℕ) (w : View) (generation : ℕ) →
     collected_in generation w.done + putting generation w.ghost.call.put ≡ collected_in generation (view_of views n).done + putting generation (view_of views n).ghost.call.put → n < length views →
     collected_by generation (slice_set views n w) ≡ collected_by generation views
-collected_with [] n w generation same here = refl
-collected_with (v ∷ views) zero w generation same here = ap (λ (m : ℕ). m + collected_by generation views) same
-collected_with (v ∷ views) (suc n) w generation same here =
-    ap (λ (m : ℕ). collected_in generation v.done + putting generation v.ghost.call.put + m) (collected_with views n w generation same (omega (arith, here)))
+collected_with views n w generation same here = (let moved = collected_moved views n w generation here in omega (arith, moved, same))
 
 -- so it is with the same records and the same head put
 pub collected_set : (views : List View) (n : ℕ) (w : View) (generation : ℕ) → w.done ≡ (view_of views n).done → w.ghost.call.put ≡ (view_of views n).ghost.call.put → n < length views →

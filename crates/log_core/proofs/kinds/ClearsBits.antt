@@ -21,7 +21,7 @@ use Rattle.log_core.specs.Owners.{BitsFit, IsListOf}
 use Rattle.log_core.specs.Invariant.{Invariant}
 use Rattle.log_core.specs.Knows.{Knows}
 use Rattle.log_core.proofs.clauses.Leaves.{Leaves, Changes, moved}
-use Rattle.log_core.proofs.clauses.SetBlocks.{set_blocks}
+use Rattle.log_core.proofs.clauses.SetBlocks.{notes_stay, set_blocks}
 use Rattle.log_core.proofs.BitmapFacts.{word_inside}
 use Rattle.log_core.proofs.clauses.BitmapLeaves.{bitmap_leaves}
 use Rattle.log_core.proofs.BlockLists.{among_range, numbers_but}
@@ -84,8 +84,7 @@ module _ (o : Origin) (c : Core) (n : ℕ) (s : Seat) (g : Ghost) (pin began wor
     owned = left_hold (λ at. cell left at) left.past left.pending n s g (ghost_after g s after (ClearsBits word bits) value) f.owned (λ block. is_among word bits block) refl given.blocks.found;
     sure = f.giving.replaced_sure;
     marks_fit = f.marks;
-    same_notes = λ sync. refl;
-  })
+  }) (notes_stay o c n s g pin began left owner inv clears_leaves clears_changes f (λ sync. refl))
 
   pub clears_facts : Knows o (moved c left owner) n after (ghost_after g s after (ClearsBits word bits) value) pin began
   clears_facts = subst (λ (mine : Bool). Knows o (moved c left owner) n (not_found (give_if mine s word bits) word bits) (ghost_after g s after (ClearsBits word bits) value) pin began) (sym of_owned) given_facts

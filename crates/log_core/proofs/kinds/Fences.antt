@@ -1,6 +1,7 @@
--- A fence in a call that is no sync keeps what holds of the seat's state, and leaves the others what they know.
-use Rattle.std.proofs.Common.{◌≡◌, ◌≢◌, ◌<◌, ◌≤◌, ◌+◌, ◌==◌, ◌&&◌, ◌||◌, ◌⊎◌, ⊎_elim, inl, inr, ℕ, Bool, true, false, List, [], ◌∷◌, length, map, refl, sym, ◌∙◌, ap, subst, arith, nat_lt, Option}
-use Rattle.std.specs.List.{list_any}
+-- A fence keeps what holds of the seat's state, and leaves the others what they know. The position that a sync answers from then on is
+-- said apart.
+use Rattle.std.proofs.Common.{◌≡◌, ◌≢◌, ◌<◌, ◌≤◌, ◌+◌, ◌==◌, ◌&&◌, ◌||◌, ◌⊎◌, ⊎_elim, inl, inr, ℕ, Bool, true, false, List, [], length, map, refl, sym, ◌∙◌, ap, subst, arith, nat_lt, Option, Some, None}
+use Rattle.std.specs.List.{AllByRecursion, list_any}
 use Rattle.std.proofs.lemmas.Bool.{eqb-true, ltb-true}
 use Rattle.log_entry.specs.Fields.{field}
 use Rattle.log_entry.specs.declared.layouts.TheConstants.{HEAD_GENERATION}
@@ -13,19 +14,21 @@ use Rattle.persistence.specs.Survivors.{value_at}
 use Rattle.persistence.proofs.ValueLemmas.{index_at-most}
 use Rattle.log_core.specs.Entries.{head_place}
 use Rattle.log_core.specs.Views.{Ghost, MarkedWord, view_of}
-use Rattle.log_core.specs.Origin.{Origin, OwnedBy, first_generation}
+use Rattle.log_core.specs.Origin.{Origin, q_of_origin, OwnedBy, first_generation}
 use Rattle.log_core.specs.Order.{nth_generation, front_of}
 use Rattle.log_core.specs.Cores.{Core, head_floor}
 use Rattle.log_core.specs.Owners.{IsListOf}
 use Rattle.log_core.specs.Records.{mark_of}
 use Rattle.log_core.specs.Steps.{Fences, effect, ghost_after, sync_fenced, is_head_marked}
-use Rattle.log_core.specs.Invariant.{Invariant}
+use Rattle.log_core.specs.Invariant.{Invariant, names_by}
+use Rattle.log_core.specs.Files.{entries}
+use Rattle.log_core.specs.Synced.{SyncMarkHolds}
 use Rattle.log_core.specs.Knows.{Knows}
-use Rattle.log_core.proofs.Each.{any_each}
+use Rattle.log_core.proofs.Each.{any_each, any_map}
 use Rattle.log_core.proofs.clauses.Narrows.{Narrows, value_narrows}
 use Rattle.log_core.proofs.clauses.Leaves.{Leaves, no_changes, moved}
 use Rattle.log_core.proofs.clauses.Others.{floor_rises}
-use Rattle.log_core.proofs.clauses.SetBlocks.{FitsBlocks, set_blocks}
+use Rattle.log_core.proofs.clauses.SetBlocks.{FitsBlocks, FitsSync, set_blocks}
 use Rattle.log_core.proofs.Heads.{generation_field, last_place}
 use Rattle.log_core.proofs.clauses.MemoryMoves.{fenced_narrows, fenced_own, fenced_others, fenced_fits, fenced_reaches, fenced_present}
 use Rattle.log_core.proofs.clauses.OwnedFenced.{fenced_blocks, fenced_numbers, owned_fenced}
@@ -39,16 +42,19 @@ either : (a b : Bool) → (a || b) ≡ true → (a ≡ true) ⊎ (b ≡ true)
 either true b e = inl refl
 either false b e = inr e
 
-any_map : {X Y : Type 0} (f : X → Y) (p : Y → Bool) (xs : List X) → list_any p (map f xs) ≡ list_any (λ (x : X). p (f x)) xs
-any_map f p [] = refl
-any_map f p (x ∷ xs) = ap (λ (b : Bool). p (f x) || b) (any_map f p xs)
+-- the position that a sync answers stays, or the fence gives it
+pub sync_fences : (job : Task) (at_tail : Bool) (position : ℕ) (sync_to : Option ℕ) →
+    (sync_fenced job at_tail position sync_to ≡ sync_to) ⊎ ((job ≡ Sync) × (at_tail ≡ true) × (sync_to ≡ None) × (sync_fenced job at_tail position sync_to ≡ Some position))
+sync_fences Sync true position None = inr (refl, refl, refl, refl)
+sync_fences Sync true position (Some to) = inl refl
+sync_fences Sync false position sync_to = inl refl
+sync_fences _ at_tail position sync_to = inl refl
 
 -- no position is synced but by a sync
 pub no_sync_fenced : (job : Task) (at_tail : Bool) (position : ℕ) (sync_to : Option ℕ) → job ≢ Sync → sync_fenced job at_tail position sync_to ≡ sync_to
-no_sync_fenced Sync at_tail position sync_to other = absurd (other refl)
-no_sync_fenced _ at_tail position sync_to other = refl
+no_sync_fenced job at_tail position sync_to other = ⊎_elim (λ same. same) (λ rises. absurd (other rises.0)) (sync_fences job at_tail position sync_to)
 
-module _ (o : Origin) (c : Core) (n : ℕ) (s : Seat) (g : Ghost) (pin began : ℕ) (inv : Invariant o c) (f : Knows o c n s g pin began) (no_sync : s.calling.job ≢ Sync) where
+module _ (o : Origin) (c : Core) (n : ℕ) (s : Seat) (g : Ghost) (pin began : ℕ) (inv : Invariant o c) (f : Knows o c n s g pin began) where
   abbrev m : Memory
   m = memory_after c.memory n Fence
 
@@ -66,7 +72,7 @@ module _ (o : Origin) (c : Core) (n : ℕ) (s : Seat) (g : Ghost) (pin began : �
   }
 
   -- each value of the head is of the generation of its place
-  value_generation : (place : ℕ) → place ≤ length (cell c.memory head_place).past → field HEAD_GENERATION (value_at (cell c.memory head_place) place) ≡ first_generation o + place
+  pub value_generation : (place : ℕ) → place ≤ length (cell c.memory head_place).past → field HEAD_GENERATION (value_at (cell c.memory head_place) place) ≡ first_generation o + place
   value_generation place low =
       (let count = last_place o c inv in
       let few = inv.order.heads.few in
@@ -95,7 +101,7 @@ module _ (o : Origin) (c : Core) (n : ℕ) (s : Seat) (g : Ghost) (pin began : �
           let above_it : s.giving.replaced_generation < field HEAD_GENERATION (value_at (cell c.memory head_place) (index_at c.memory.past note.time head_place)) = ltb-true s.giving.replaced_generation _ test in
           omega (arith, above_it, is, low))
 
-  fits_blocks : FitsBlocks o n (view_of c.views n) m (λ block. c.owner block) s g (fenced_blocks s) (s.giving.head_fenced || is_head_marked s.giving.replaced_generation g.marks) [] g.stored g.call.lacked (pending_of n c.memory.pending)
+  fits_blocks : FitsBlocks o n (view_of c.views n) m (λ block. c.owner block) s g (fenced_blocks s) (s.giving.head_fenced || is_head_marked s.giving.replaced_generation g.marks) [] g.stored g.call.lacked
   fits_blocks = record {
     found = refl;
     named = refl;
@@ -107,14 +113,23 @@ module _ (o : Origin) (c : Core) (n : ℕ) (s : Seat) (g : Ghost) (pin began : �
         head_sure
         (either s.giving.head_fenced (is_head_marked s.giving.replaced_generation g.marks) fenced);
     marks_fit = sym (ap (map (mark_of (λ k. cell m k) m.past)) (fenced_own o c.memory (length c.views) inv.sizes.words n));
-    same_notes = λ sync. absurd (no_sync sync);
   }
 
-  pub fence_facts : (found : ℕ) → Knows o (moved c m (λ block. c.owner block)) n (effect g.marks s Fences found) (ghost_after g s (effect g.marks s Fences found) Fences found) pin began
-  fence_facts found = subst (λ (to : Option ℕ). Knows o (moved c m (λ block. c.owner block)) n (record s {
+  -- no mark of the seat is left
+  fits_sync : FitsSync o c n m s
+  fits_sync = record {
+    marks = λ sync. subst (λ (pending : List PendingMark). AllByRecursion (SyncMarkHolds (q_of_origin o) (names_by o c.logs (entries o c.history) c.generations) (λ k. cell m k) m.past s.hold.generation) pending)
+        (sym (fenced_own o c.memory (length c.views) inv.sizes.words n)) tt;
+    valid = λ sync some. absurd (some (fenced_own o c.memory (length c.views) inv.sizes.words n));
+  }
+
+  -- the state after it, but for the position that a sync answers
+  abbrev pub fenced_seat : Option ℕ → Seat
+  fenced_seat to = record s {
     calling = record (s.calling) { sync_to = to };
     blocks = fenced_blocks s;
     giving = record (s.giving) { head_fenced = s.giving.head_fenced || is_head_marked s.giving.replaced_generation g.marks };
-  }) (ghost_after g s (effect g.marks s Fences found) Fences found) pin began)
-      (sym (no_sync_fenced s.calling.job s.walk.at_tail s.walk.position s.calling.sync_to no_sync))
-      (set_blocks o c n s g pin began m (λ block. c.owner block) inv fence_leaves (no_changes c n) f (fenced_blocks s) (s.giving.head_fenced || is_head_marked s.giving.replaced_generation g.marks) [] g.stored g.call.lacked fits_blocks)
+  }
+
+  pub fence_facts : (found : ℕ) → Knows o (moved c m (λ block. c.owner block)) n (fenced_seat s.calling.sync_to) (ghost_after g s (effect g.marks s Fences found) Fences found) pin began
+  fence_facts found = set_blocks o c n s g pin began m (λ block. c.owner block) inv fence_leaves (no_changes c n) f (fenced_blocks s) (s.giving.head_fenced || is_head_marked s.giving.replaced_generation g.marks) [] g.stored g.call.lacked fits_blocks fits_sync

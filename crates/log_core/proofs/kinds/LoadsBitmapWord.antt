@@ -13,7 +13,7 @@ use Rattle.log_core.specs.Owners.{BitsFit}
 use Rattle.log_core.specs.Invariant.{Invariant}
 use Rattle.log_core.specs.Knows.{Knows}
 use Rattle.log_core.proofs.clauses.Leaves.{Leaves, moved, no_changes}
-use Rattle.log_core.proofs.clauses.SetBlocks.{set_blocks}
+use Rattle.log_core.proofs.clauses.SetBlocks.{notes_stay, set_blocks}
 use Rattle.log_core.proofs.clauses.BitmapLeaves.{bitmap_leaves}
 
 module _ (o : Origin) (c : Core) (n : ℕ) (s : Seat) (g : Ghost) (pin began word : ℕ) (inv : Invariant o c) (f : Knows o c n s g pin began) where
@@ -46,5 +46,4 @@ module _ (o : Origin) (c : Core) (n : ℕ) (s : Seat) (g : Ghost) (pin began wor
     });
     sure = f.giving.replaced_sure;
     marks_fit = f.marks;
-    same_notes = λ sync. refl;
-  })
+  }) (notes_stay o c n s g pin began left (λ block. c.owner block) inv map_leaves (no_changes c n) f (λ sync. refl))

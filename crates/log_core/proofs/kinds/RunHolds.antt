@@ -19,6 +19,7 @@ use Rattle.log_core.specs.Invariant.{Invariant}
 use Rattle.log_core.specs.Laws.{StepKeeps}
 use Rattle.log_core.proofs.kinds.StepHolds.{head_holds, image_word_holds, pin_holds, seen_holds, bitmap_word_holds, set_bits_holds, clear_bits_holds, stored_holds, mark_holds, fence_holds}
 use Rattle.log_core.proofs.kinds.Splits.{split_holds}
+use Rattle.log_core.proofs.kinds.Joins.{join_holds}
 
 -- an exchange is of no offered kind
 pub no_exchange : (s : Seat) (q word before next : ℕ) → IsOfferedKind s (exchange_kind q word before next) → ⊥
@@ -70,8 +71,8 @@ module _ (o : Origin) (c : Core) (n : ℕ) (inv : Invariant o c) (here : n < len
   each_ask (ClearBits (Pin other) bits) = λ offered. absurd offered
   each_ask (ClearBits (Map word) bits) = λ offered. clear_bits_holds o c n inv here unspent note word bits
   each_ask (ClearBits (FenceOf other) bits) = λ offered. absurd offered
-  each_ask (Mark word) = λ offered. mark_holds o c n inv here unspent note word offered
-  each_ask Fence = λ offered. fence_holds o c n inv here unspent note offered
+  each_ask (Mark word) = λ offered. mark_holds o c n inv here unspent note word
+  each_ask Fence = λ offered. fence_holds o c n inv here unspent note
 
 -- a split is of seat 0
 split_keeps : (o : Origin) (c : Core) (seat : ℕ) → Invariant o c → MaySplit o c seat → Invariant o (after o c (Splits seat))
@@ -81,7 +82,7 @@ pub step_keeps : StepKeeps
 step_keeps o c (Does seat ask note) inv allowed =
     each_ask o c seat inv allowed.fits.made allowed.fits.unspent note ask allowed.offered.kind allowed.fits.step allowed.offered.before allowed.offered.later allowed.offered.no_record
 step_keeps o c (Splits seat) inv allowed = split_keeps o c seat inv allowed.fits
-step_keeps o c (Joins seat other) inv allowed = absurd allowed.offered
+step_keeps o c (Joins seat other) inv allowed = join_holds o c seat other inv allowed.fits
 
 -- and every run, from a core that meets the invariant
 pub run_from : (o : Origin) (steps : List Step) → Invariant o (first_core o) → IsRun o steps → Invariant o (end o steps)

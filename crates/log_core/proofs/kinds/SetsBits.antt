@@ -17,7 +17,7 @@ use Rattle.log_core.specs.Owners.{BitsFit}
 use Rattle.log_core.specs.Invariant.{Invariant}
 use Rattle.log_core.specs.Knows.{Knows}
 use Rattle.log_core.proofs.clauses.Leaves.{Leaves, Changes, moved}
-use Rattle.log_core.proofs.clauses.SetBlocks.{set_blocks}
+use Rattle.log_core.proofs.clauses.SetBlocks.{notes_stay, set_blocks}
 use Rattle.log_core.proofs.BitmapFacts.{word_inside, block_inside}
 use Rattle.log_core.proofs.clauses.BitmapLeaves.{bitmap_leaves}
 use Rattle.log_core.proofs.clauses.SetOwners.{owner_set, set_bits, set_changes, set_list}
@@ -59,5 +59,4 @@ module _ (o : Origin) (c : Core) (n : ℕ) (s : Seat) (g : Ghost) (pin began wor
     owned = taken_hold (λ at. cell left at) left.past left.pending n s g (ghost_after g s after (SetsBits word bits) value) f.owned refl (gained word bits value) after.blocks.found;
     sure = f.giving.replaced_sure;
     marks_fit = f.marks;
-    same_notes = λ sync. refl;
-  })
+  }) (notes_stay o c n s g pin began left owner inv sets_leaves sets_changes f (λ sync. refl))

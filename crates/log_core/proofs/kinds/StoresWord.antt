@@ -19,7 +19,7 @@ use Rattle.log_core.proofs.Each.{each_weaker}
 use Rattle.log_core.proofs.clauses.Narrows.{same_narrows}
 use Rattle.log_core.proofs.clauses.Leaves.{Leaves, no_changes, moved}
 use Rattle.log_core.proofs.clauses.Others.{notes_early, floor_rises}
-use Rattle.log_core.proofs.clauses.SetBlocks.{FitsBlocks, set_blocks}
+use Rattle.log_core.proofs.clauses.SetBlocks.{FitsBlocks, notes_stay, set_blocks}
 use Rattle.log_core.proofs.clauses.MemoryMoves.{stored_other, stored_here, stored_times, stored_fits}
 use Rattle.log_core.proofs.clauses.OwnWords.{word_inside, other_word, own_marks}
 use Rattle.log_core.proofs.clauses.OneView.{same_or_other}
@@ -56,7 +56,7 @@ module _ (o : Origin) (c : Core) (n : ℕ) (s : Seat) (g : Ghost) (pin began wor
     times = times;
   }
 
-  fits_blocks : FitsBlocks o n (view_of c.views n) m (λ block. c.owner block) s g (stored_seat s word).blocks s.giving.head_fenced g.marks (stored_with g.stored word value) g.call.lacked (pending_of n c.memory.pending)
+  fits_blocks : FitsBlocks o n (view_of c.views n) m (λ block. c.owner block) s g (stored_seat s word).blocks s.giving.head_fenced g.marks (stored_with g.stored word value) g.call.lacked
   fits_blocks = record {
     found = refl;
     named = refl;
@@ -67,8 +67,8 @@ module _ (o : Origin) (c : Core) (n : ℕ) (s : Seat) (g : Ghost) (pin began wor
         may.owned _ refl;
     sure = λ fenced. (let sure = f.giving.replaced_sure fenced in let rises = floor_rises o c n m inv store_leaves in omega (arith, sure, rises));
     marks_fit = f.marks ∙ sym (own_marks o c n m inv store_leaves);
-    same_notes = λ sync. refl;
   }
 
   pub store_word_facts : (found : ℕ) → Knows o (moved c m (λ block. c.owner block)) n (effect g.marks s (StoresWord word value) found) (ghost_after g s (effect g.marks s (StoresWord word value) found) (StoresWord word value) found) pin began
   store_word_facts found = set_blocks o c n s g pin began m (λ block. c.owner block) inv store_leaves (no_changes c n) f (stored_seat s word).blocks s.giving.head_fenced g.marks (stored_with g.stored word value) g.call.lacked fits_blocks
+      (notes_stay o c n s g pin began m (λ block. c.owner block) inv store_leaves (no_changes c n) f (λ sync. refl))

@@ -1,8 +1,6 @@
 -- An ask that is allowed is on a word that the memory has.
-use Rattle.std.proofs.Common.{◌≡◌, ◌≢◌, ◌<◌, ◌≤◌, ◌*◌, ◌/◌, ◌==◌, ℕ, Bool, true, false, if◌then◌else◌, [], length, refl, sym, subst, arith, slice_index}
-use Rattle.std.proofs.Math.Nat.{mul-le-mul_right}
+use Rattle.std.proofs.Common.{◌≡◌, ◌≢◌, ◌<◌, ◌/◌, ◌==◌, ℕ, Bool, true, false, if◌then◌else◌, [], length, refl, sym, subst, arith, slice_index}
 use Rattle.std.proofs.lemmas.Bool.{eqb-true}
-use Rattle.log_image.specs.Image.{words_in, total}
 use Rattle.asks.specs.declared.ask.Place.TheVariants.{Image, Pin, Map, FenceOf}
 use Rattle.asks.specs.declared.ask.Ask.{Ask}
 use Rattle.asks.specs.declared.ask.Ask.TheVariants.{Load, Store, Exchange, SetBits, ClearBits, Mark, Fence}
@@ -11,7 +9,7 @@ use Rattle.persistence.specs.Cells.{MemoryTakes}
 use Rattle.log_image.specs.Chains.{is_listed}
 use Rattle.log_core.specs.Entries.{head_place}
 use Rattle.log_core.specs.Views.{view_of, op_in}
-use Rattle.log_core.specs.Origin.{Origin, shape, q_of_origin}
+use Rattle.log_core.specs.Origin.{Origin, q_of_origin}
 use Rattle.log_core.specs.Cores.{Core}
 use Rattle.log_core.specs.Steps.{Note, Does, is_begun, LoadsHead, StoresOwnPin, LoadsImageWord, NoKind, kind_of_ask}
 use Rattle.log_core.specs.Files.{end_of}
@@ -24,21 +22,15 @@ use Rattle.log_core.specs.Invariant.{Invariant}
 use Rattle.log_core.specs.Knows.{Knows}
 use Rattle.log_core.proofs.BitmapFacts.{word_inside as found_inside}
 use Rattle.log_core.proofs.clauses.OwnWords.{word_inside as own_inside}
+use Rattle.log_core.proofs.ChainPlaces.{head_inside}
+use Rattle.log_core.proofs.kinds.MarksFit.{mark_fits}
 use Rattle.log_core.proofs.kinds.LoadsImageWord.{named_inside}
 use Rattle.log_core.proofs.kinds.StepHolds.{at_ask}
 use Rattle.log_core.proofs.kinds.RunHolds.{no_exchange}
 
 module _ (o : Origin) (c : Core) (seat : ℕ) (note : Note) (inv : Invariant o c) (made : seat < length c.views) (unspent : (view_of c.views seat).parts ≢ []) where
-  wide_enough : (q blocks : ℕ) → 8 ≤ q → 1 ≤ blocks → 8 ≤ blocks * q
-  wide_enough q blocks wide some = (let times : 1 * q ≤ blocks * q = mul-le-mul_right q some in omega (arith, times, wide))
-
-  head_inside : head_place < length c.memory.now.words
-  head_inside =
-      (let image = inv.sizes.image in
-      let many = inv.sizes.words.words in
-      let long : 8 ≤ total (shape o) * words_in (shape o) = wide_enough (words_in (shape o)) (total (shape o)) image.wide (omega arith) in
-      let whole = image.whole in
-      omega (arith, long, whole, many))
+  head_taken : head_place < length c.memory.now.words
+  head_taken = (let low = head_inside o c inv in let many = inv.sizes.words.words in omega (arith, low, many))
 
   pins_inside : (other : ℕ) → other < o.seats → other < length c.memory.now.pins
   pins_inside other inside = (let many = inv.sizes.words.pins in omega (arith, inside, many))
@@ -52,7 +44,7 @@ module _ (o : Origin) (c : Core) (seat : ℕ) (note : Note) (inv : Invariant o c
   -- each ask of an offered kind is on a word that the memory has
   by_head : (word : ℕ) (pin began : ℕ) → Knows o c seat note.before (ghost_at (view_of c.views seat) note) pin began → (b : Bool) → (word == head_place) ≡ b →
       May o c (ghost_at (view_of c.views seat) note) note.before (if b then LoadsHead else LoadsImageWord word) → word < length c.memory.now.words
-  by_head word pin began known true e may = subst (λ (k : ℕ). k < length c.memory.now.words) (sym (eqb-true word head_place e)) head_inside
+  by_head word pin began known true e may = subst (λ (k : ℕ). k < length c.memory.now.words) (sym (eqb-true word head_place e)) head_taken
   by_head word pin began known false e may =
       (let low = named_inside o c seat note.before (ghost_at (view_of c.views seat) note) pin began word inv known unspent may in let many = inv.sizes.words.words in omega (arith, low, many))
 
@@ -91,7 +83,8 @@ module _ (o : Origin) (c : Core) (seat : ℕ) (note : Note) (inv : Invariant o c
   takes_by (ClearBits (Pin other) bits) known offered step = absurd offered
   takes_by (ClearBits (Map word) bits) known offered step = bitmap_inside word step.may.inside _ _ (known step)
   takes_by (ClearBits (FenceOf other) bits) known offered step = absurd offered
-  takes_by (Mark word) known offered step = image_inside word offered.owned _ _ (known step)
+  takes_by (Mark word) known offered step =
+      (let low = (mark_fits o c seat note.before (ghost_at (view_of c.views seat) note) _ _ inv (known step) unspent word step.may).inside in let many = inv.sizes.words.words in omega (arith, low, many))
   takes_by Fence known offered step = tt
 
 -- so each step that is allowed is one that the memory takes

@@ -12,7 +12,7 @@ use Rattle.log_core.specs.Steps.{is_begun, ghost_begun, kind_of_ask}
 use Rattle.log_core.specs.May.{May, IsOfferedKind, OfHead, OfTrail, OfNewHead}
 use Rattle.log_core.specs.Runs.{MayMakeStep, Allowed, MayNumber, is_offered_work}
 use Rattle.log_core.specs.worked_rows.Samples.{step_of}
-use Rattle.log_core.specs.worked_rows.Offered.{FilledNoMore, BitmapMayBeRead, OfferedKinds, NotOffered}
+use Rattle.log_core.specs.worked_rows.Offered.{FilledNoMore, BitmapMayBeRead, OfferedKinds}
 use Rattle.log_core.proofs.row_checks.RowsTaken.{bits_taken, fence_follows}
 use Rattle.log_core.proofs.row_checks.RowsMay.{word_may_be_marked}
 use Rattle.log_core.proofs.row_checks.RowsGiven.{bits_cleared, sync_ends}
@@ -66,16 +66,12 @@ offered_kinds = (
   step_allowed _ _ 0 _ _ [] (omega arith) (one_part 0) tt refl bitmap_may_be_read.0 tt refl,
   step_allowed _ _ 0 _ _ [] (omega arith) (one_part 0) tt refl bits_taken.7 tt refl,
   step_allowed _ _ 0 _ _ (SetsWord 0 0 170 ∷ []) (omega arith) (one_part 0) (record { owned = omega arith; inside = omega arith; small = omega arith }, tt) refl (record { owned = refl; small = omega arith }) tt refl,
-  step_allowed _ _ 0 _ _ [] (omega arith) (one_part 0) tt refl word_may_be_marked.2 (record { owned = refl; no_sync = λ sync. false≢true (ap is_sync sync) }) refl,
-  step_allowed _ _ 0 _ _ (CountsFilled 0 ∷ []) (omega arith) (one_part 0) (fence_follows.7, tt) refl (record { in_sync = λ sync tail none. absurd (false≢true (ap is_sync sync)) }) (λ sync. false≢true (ap is_sync sync)) refl,
+  step_allowed _ _ 0 _ _ [] (omega arith) (one_part 0) tt refl word_may_be_marked.2 tt refl,
+  step_allowed _ _ 0 _ _ (CountsFilled 0 ∷ []) (omega arith) (one_part 0) (fence_follows.7, tt) refl (record { in_sync = λ sync tail none. absurd (false≢true (ap is_sync sync)) }) tt refl,
   step_allowed _ _ 1 _ _ [] (omega arith) (one_part 1) tt refl bits_cleared.5 tt refl,
   step_allowed _ _ 0 _ _ [] (omega arith) (one_part 0) tt refl bits_cleared.1 tt refl,
-)
-
-pub not_offered : NotOffered
-not_offered = (
-  (step_fits _ _ 0 _ _ [] (omega arith) (one_part 0) tt refl (OfHead refl refl refl), λ allowed. false≢true allowed.offered.kind.owned),
-  (step_fits _ _ 0 _ _ [] (omega arith) (one_part 0) tt refl (OfTrail refl refl refl), λ allowed. false≢true allowed.offered.kind.owned),
-  (step_fits _ _ 0 _ _ [] (omega arith) (one_part 0) tt refl sync_ends.3, λ allowed. allowed.offered.kind refl),
-  (step_fits _ _ 0 _ _ [] (omega arith) (one_part 0) tt refl (OfNewHead refl (λ none. true≢false (ap is_put none))), λ allowed. false≢true allowed.offered.kind.owned),
+  step_allowed _ _ 0 _ _ [] (omega arith) (one_part 0) tt refl (OfHead refl refl refl) tt refl,
+  step_allowed _ _ 0 _ _ [] (omega arith) (one_part 0) tt refl (OfTrail refl refl refl) tt refl,
+  step_allowed _ _ 0 _ _ [] (omega arith) (one_part 0) tt refl (OfNewHead refl (λ none. true≢false (ap is_put none))) tt refl,
+  step_allowed _ _ 0 _ _ [] (omega arith) (one_part 0) tt refl sync_ends.3 tt refl,
 )

@@ -1,5 +1,5 @@
 -- A run from the just-made image takes a block, fills and fences it, and gives it back.
-use Rattle.std.proofs.Common.{◌≡◌, ◌≢◌, ◌<◌, ◌+◌, ℕ, zero, suc, true, [], ◌∷◌, refl, ap, subst, sym, arith, length, Option, None, Some}
+use Rattle.std.proofs.Common.{◌/◌, ◌≡◌, ◌≢◌, ◌<◌, ◌+◌, ℕ, zero, suc, true, [], ◌∷◌, refl, ap, subst, sym, arith, length, Option, None, Some}
 use Rattle.std.proofs.lemmas.Bool.{false≢true}
 use Rattle.log_core.specs.Origin.{Origin}
 use Rattle.log_core.specs.Cores.{Core}
@@ -16,9 +16,9 @@ use Rattle.asks.specs.declared.ask.Ask.TheVariants.{Load, Store, SetBits, ClearB
 use Rattle.asks.specs.declared.ask.Place.TheVariants.{Image, Map}
 use Rattle.log_image.specs.Chains.{is_listed}
 use Rattle.log_core.specs.Views.{view_of, op_in}
-use Rattle.log_core.specs.Works.{SetsWord, CountsFilled, MaySetWord, state_after_work, seat_shape, stored_at, content_word}
+use Rattle.log_core.specs.Works.{SetsWord, CountsFilled, MaySetWord, state_after_work, seat_shape, stored_at, content_word, words_of}
 use Rattle.log_core.specs.Needs.{owned_numbers, is_in_area}
-use Rattle.log_core.specs.May.{MayStoreWord, IsOwnMark, OfOwned}
+use Rattle.log_core.specs.May.{MayStoreWord, OfOwned}
 use Rattle.log_core.specs.worked_rows.Rows.{pinned}
 use Rattle.log_core.specs.worked_rows.Refused.{seat_zero}
 use Rattle.log_core.specs.worked_rows.Accepted.{pin_steps}
@@ -54,8 +54,8 @@ store_next : {c : Core} (word value : ℕ) → IsReached image_a c → 0 < lengt
 store_next {c} word value run made unspent sets stores = reach run (step_allowed image_a c 0 (number_in c 0) (Store (Image (8 + word)) value) (SetsWord 0 word value ∷ []) made unspent (sets, tt) (same_call (op_in (seat_zero c)) (number_in c 0)) stores tt refl)
 
 -- and marks it
-mark_next : {c : Core} (word : ℕ) → IsReached image_a c → 0 < length c.views → (view_of c.views 0).parts ≢ [] → IsOwnMark (seat_zero c) (8 + word) → IsReached image_a (stepping image_a c 0 (Mark (8 + word)) (number_in c 0) [] [])
-mark_next {c} word run made unspent own = reach run (step_allowed image_a c 0 (number_in c 0) (Mark (8 + word)) [] made unspent tt (same_call (op_in (seat_zero c)) (number_in c 0)) (OfOwned own.owned own.no_sync) own refl)
+mark_next : {c : Core} (word : ℕ) → IsReached image_a c → 0 < length c.views → (view_of c.views 0).parts ≢ [] → is_listed (owned_numbers (seat_zero c).blocks.owned) ((8 + word) / words_of (seat_zero c)) ≡ true → (seat_zero c).calling.job ≢ Sync → IsReached image_a (stepping image_a c 0 (Mark (8 + word)) (number_in c 0) [] [])
+mark_next {c} word run made unspent own no_sync = reach run (step_allowed image_a c 0 (number_in c 0) (Mark (8 + word)) [] made unspent tt (same_call (op_in (seat_zero c)) (number_in c 0)) (OfOwned own no_sync) tt refl)
 
 no_sync_runs : Pwrite 0 ≢ Sync
 no_sync_runs same = false≢true (ap is_sync same)
@@ -80,14 +80,14 @@ stored_reached =
 
 marked_reached : IsReached image_a own_marked
 marked_reached =
-    let marked_7 = mark_next 7 stored_reached (omega arith) (one_part 0) (record { owned = refl; no_sync = no_sync_runs }) in
-    let marked_6 = mark_next 6 marked_7 (omega arith) (one_part 0) (record { owned = refl; no_sync = no_sync_runs }) in
-    let marked_5 = mark_next 5 marked_6 (omega arith) (one_part 0) (record { owned = refl; no_sync = no_sync_runs }) in
-    let marked_4 = mark_next 4 marked_5 (omega arith) (one_part 0) (record { owned = refl; no_sync = no_sync_runs }) in
-    let marked_3 = mark_next 3 marked_4 (omega arith) (one_part 0) (record { owned = refl; no_sync = no_sync_runs }) in
-    let marked_2 = mark_next 2 marked_3 (omega arith) (one_part 0) (record { owned = refl; no_sync = no_sync_runs }) in
-    let marked_1 = mark_next 1 marked_2 (omega arith) (one_part 0) (record { owned = refl; no_sync = no_sync_runs }) in
-    mark_next 0 marked_1 (omega arith) (one_part 0) (record { owned = refl; no_sync = no_sync_runs })
+    let marked_7 = mark_next 7 stored_reached (omega arith) (one_part 0) refl no_sync_runs in
+    let marked_6 = mark_next 6 marked_7 (omega arith) (one_part 0) refl no_sync_runs in
+    let marked_5 = mark_next 5 marked_6 (omega arith) (one_part 0) refl no_sync_runs in
+    let marked_4 = mark_next 4 marked_5 (omega arith) (one_part 0) refl no_sync_runs in
+    let marked_3 = mark_next 3 marked_4 (omega arith) (one_part 0) refl no_sync_runs in
+    let marked_2 = mark_next 2 marked_3 (omega arith) (one_part 0) refl no_sync_runs in
+    let marked_1 = mark_next 1 marked_2 (omega arith) (one_part 0) refl no_sync_runs in
+    mark_next 0 marked_1 (omega arith) (one_part 0) refl no_sync_runs
 
 each_marked : (word : ℕ) → word < 8
     → stored_at (view_of own_marked.views 0).ghost.stored (8 + word) ≡ Some (record { word = 8 + word; value = content_word (seat_zero own_marked) 0 word; marked = true })
@@ -103,7 +103,7 @@ each_marked (suc (suc (suc (suc (suc (suc (suc (suc word)))))))) less = absurd (
 
 fenced_reached : IsReached image_a own_fenced
 fenced_reached = reach marked_reached (step_allowed image_a own_marked 0 1 Fence (CountsFilled 0 ∷ []) (omega arith) (one_part 0) (record { owned = omega arith; each = each_marked }, tt) refl
-    (record { in_sync = λ sync tail none. absurd (no_sync_runs sync) }) no_sync_runs refl)
+    (record { in_sync = λ sync tail none. absurd (no_sync_runs sync) }) tt refl)
 
 given_reached : IsReached image_a own_given
 given_reached = reach fenced_reached (step_allowed image_a own_fenced 0 1 (ClearBits (Map 0) 2) [] (omega arith) (one_part 0) tt refl

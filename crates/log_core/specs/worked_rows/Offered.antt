@@ -1,4 +1,4 @@
--- Steps on the bitmap and on own blocks: what they come to, which are offered, which are not yet, and a run of those that are.
+-- Steps on the bitmap and on own blocks: what they come to, which are offered, and a run of those that are.
 use Rattle.std.specs.Prelude.{ℕ, ◌≡◌, true, false, List, [], ◌∷◌, map, replicate, Some}
 use Rattle.log_entry.specs.declared.shapes.Area.TheVariants.{Data}
 use Rattle.asks.specs.declared.ask.Ask.{Ask}
@@ -53,7 +53,7 @@ front_read = stepping image_a pinned 0 (Load (Image 25)) 1 [] []
 
 -- allowed are a load of a word of the pinned chain, also where a walk begins at the first log block before it, a load of a bitmap
 -- word, a setting of bits, a store into an own block, a mark of a word of it, a fence in a write, and a clearing of the bits of own
--- blocks and of replaced ones
+-- blocks and of replaced ones; a sync's mark of the head and of a slot, a collection's mark of its head, and a sync's fence
 abbrev pub OfferedKinds : Type 0
 OfferedKinds =
     IsAllowed pinned 0 (Load (Image 25)) []
@@ -65,15 +65,10 @@ OfferedKinds =
     × IsAllowed marked_words 0 Fence (CountsFilled 0 ∷ [])
     × IsAllowed collected 1 (ClearBits (Map 0) 4) []
     × IsAllowed scan_clear 0 (ClearBits (Map 0) 8) []
-
--- their conditions hold, and they are not allowed yet: a sync's mark of the head and of a slot, a sync's fence, and a
--- collection's mark of its head
-abbrev pub NotOffered : Type 0
-NotOffered =
-    (MayBeMade syncing 0 (Mark 3) [] × (IsAllowed syncing 0 (Mark 3) [] → ⊥))
-    × (MayBeMade syncing 0 (Mark 27) [] × (IsAllowed syncing 0 (Mark 27) [] → ⊥))
-    × (MayBeMade slot_marked 0 Fence [] × (IsAllowed slot_marked 0 Fence [] → ⊥))
-    × (MayBeMade collected 0 (Mark 3) [] × (IsAllowed collected 0 (Mark 3) [] → ⊥))
+    × IsAllowed syncing 0 (Mark 3) []
+    × IsAllowed syncing 0 (Mark 27) []
+    × IsAllowed collected 0 (Mark 3) []
+    × IsAllowed slot_marked 0 Fence []
 
 -- seat 0 with its pin loads the bitmap word, takes block 1, stores and marks its words, fences it, and gives it back
 abbrev pub own_taken : Core

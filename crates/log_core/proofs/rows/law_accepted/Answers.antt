@@ -7,7 +7,7 @@ use Rattle.log_core.proofs.row_checks.RowsOwners.{owners_stand}
 use Rattle.log_core.proofs.row_checks.RowsRun.{pin_runs, write_fits, views_join, views_split}
 use Rattle.log_core.proofs.row_checks.RowsLate.{late_write, late_sync, late_walk}
 use Rattle.log_core.proofs.row_checks.RowsTurns.{runs_may_be_put, collections_in_turn}
-use Rattle.log_core.proofs.row_checks.RowsOffered.{bitmap_may_be_read, offered_kinds, not_offered}
+use Rattle.log_core.proofs.row_checks.RowsOffered.{bitmap_may_be_read, offered_kinds}
 use Rattle.log_core.proofs.row_checks.RowsReached.{block_runs}
 use Rattle.log_core.proofs.rows.law_accepted.Goals as goal
 
@@ -19,7 +19,6 @@ returns c = record {
   entry_may_be_put = entry_may_be_put;
   bitmap_may_be_read = bitmap_may_be_read;
   offered_kinds = offered_kinds;
-  not_offered = not_offered;
   block_runs = block_runs;
   order_stands = order_stands;
   pins_stand = pins_stand;
