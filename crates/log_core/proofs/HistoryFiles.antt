@@ -8,8 +8,7 @@ use Rattle.log_entry.specs.declared.calls.Op.TheVariants.{Pwrite, Append, Pread,
 use Rattle.log_entry.specs.declared.calls.Reply.TheVariants.{Wrote, Appended}
 use Rattle.log_entry.specs.declared.calls.WriteRefusal.{WriteRefusal}
 use Rattle.log_core.specs.Origin.{Origin, first_position, start_base, first_entries}
-use Rattle.log_core.specs.Entries.{LogEntry}
-use Rattle.log_core.specs.Files.{Write, no_write, write_at, accepted_reply, file_after_writes, file_at, entries, end_of, early_file}
+use Rattle.log_core.specs.Files.{Write, no_write, write_at, accepted_reply, file_after_writes, file_at, end_of, early_file}
 use Rattle.log_core.specs.Cores.{Core}
 use Rattle.log_core.specs.May.{refusal_at}
 use Rattle.log_core.specs.Writes.{IsAcceptedAt}

@@ -1,5 +1,5 @@
 -- What a reply that fits a seat's state says, by the call's ask.
-use Rattle.std.proofs.Common.{◌≡◌, ◌≢◌, ◌⊎◌, inl, inr, ◌+◌, ◌-◌, ℕ, Bool, true, false, List, [], ◌∷◌, length, refl, sym, ◌∙◌, ap, subst, Option, Some, None}
+use Rattle.std.proofs.Common.{◌≡◌, inl, inr, ◌-◌, ℕ, Bool, true, false, List, [], ◌∷◌, length, refl, ap, Option, Some, None}
 use Rattle.log_entry.specs.Legal.{is_write, AnswersWrite}
 use Rattle.log_entry.specs.declared.shapes.Area.TheVariants.{Data, Log}
 use Rattle.log_entry.specs.declared.calls.Op.{Op}
@@ -9,7 +9,7 @@ use Rattle.log_entry.specs.declared.calls.WriteRefusal.TheVariants.{NoSpace}
 use Rattle.log_entry.specs.declared.calls.CollectRefusal.{CollectRefusal}
 use Rattle.log_entry.specs.declared.calls.Collected.{Collected as CollectedBlocks}
 use Rattle.log_entry.specs.declared.calls.Reply.{Reply}
-use Rattle.log_entry.specs.declared.calls.Reply.TheVariants.{Wrote, Appended, NotWritten, Bytes, Size as FileSize, Synced, Collected, NotCollected}
+use Rattle.log_entry.specs.declared.calls.Reply.TheVariants.{Wrote, Appended, NotWritten, Size as FileSize, Synced, Collected, NotCollected}
 use Rattle.pmem_words.specs.Seats.{Seat}
 use Rattle.log_core.specs.Views.{Ghost}
 use Rattle.log_core.specs.May.{refusal_at}
