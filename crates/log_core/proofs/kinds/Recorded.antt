@@ -132,3 +132,9 @@ module _ (o : Origin) (c : Core) (n : ℕ) (inv : Invariant o c) (here : n < len
       (subst (λ (views : List View). Invariant o (record c { views = views })) (sym (set-get_or c.views n spent_view)) inv)
   records_kept (call ∷ []) may = record_kept call may
   records_kept (call ∷ other ∷ calls) may = absurd may
+
+  -- so it is with a view that the core has
+  pub recorded_from : (u : View) → v ≡ u → (adds : List Call) → MayAddAll u.ghost u.seat adds →
+      Invariant o (record c { views = slice_set c.views n (record u { seat = ended adds u.seat; ghost = ghost_ended adds u.ghost; done = u.done ++ adds }) })
+  recorded_from u is adds = subst (λ (u : View). MayAddAll u.ghost u.seat adds → Invariant o (record c { views = slice_set c.views n (record u { seat = ended adds u.seat; ghost = ghost_ended adds u.ghost; done = u.done ++ adds }) })) is
+      (records_kept adds)
