@@ -24,6 +24,9 @@ pub mod LoadsHead
 pub mod LoadsImageWord
 pub mod StoresOwnPin
 pub mod LoadsPinWord
+pub mod RecordGenerations
+pub mod RecordAnswers
+pub mod Recorded
 pub mod GoingOn
 pub mod Worked
 pub mod Entered

@@ -25,3 +25,4 @@ pub mod RowsTurns
 pub mod RowsOffered
 pub mod RowsStart
 pub mod RowsReached
+pub mod RowsEnded

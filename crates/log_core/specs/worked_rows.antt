@@ -6,4 +6,5 @@ pub mod Gaps
 pub mod CallGaps
 pub mod CoreGaps
 pub mod Offered
+pub mod Ended
 pub mod Accepted

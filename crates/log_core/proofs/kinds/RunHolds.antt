@@ -38,7 +38,7 @@ module _ (o : Origin) (c : Core) (n : ℕ) (inv : Invariant o c) (here : n < len
   -- what a step of this kind, with this ask and what it finds, has to keep
   abbrev KeepsAsk : Ask → Kind → ℕ → ℕ → Type 0
   KeepsAsk ask kind f answered = IsOfferedKind note.before kind → (step : MayStep o c mine kind note answered) → list_all is_offered_work step.begins.works ≡ true →
-      list_all is_offered_work step.enters.computed.works ≡ true → note.adds ≡ [] → Invariant o (stepped o c n ask note kind f)
+      list_all is_offered_work step.enters.computed.works ≡ true → Invariant o (stepped o c n ask note kind f)
 
   by_head : (word : ℕ) (b : Bool) → (word == head_place) ≡ b → KeepsAsk (Load (Image word)) (if b then LoadsHead else LoadsImageWord word) (slice_index c.memory.now.words word) (slice_index c.memory.now.words word)
   by_head word true e = subst (λ (w : ℕ). KeepsAsk (Load (Image w)) LoadsHead (slice_index c.memory.now.words w) (slice_index c.memory.now.words w)) (sym (eqb-true word head_place e))
@@ -80,7 +80,7 @@ split_keeps o c seat inv may = subst (λ (k : ℕ). MaySplit o c k → Invariant
 
 pub step_keeps : StepKeeps
 step_keeps o c (Does seat ask note) inv allowed =
-    each_ask o c seat inv allowed.fits.made allowed.fits.unspent note ask allowed.offered.kind allowed.fits.step allowed.offered.before allowed.offered.later allowed.offered.no_record
+    each_ask o c seat inv allowed.fits.made allowed.fits.unspent note ask allowed.offered.kind allowed.fits.step allowed.offered.before allowed.offered.later
 step_keeps o c (Splits seat) inv allowed = split_keeps o c seat inv allowed.fits
 step_keeps o c (Joins seat other) inv allowed = join_holds o c seat other inv allowed.fits
 

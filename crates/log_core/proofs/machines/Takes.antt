@@ -91,5 +91,5 @@ module _ (o : Origin) (c : Core) (seat : ℕ) (note : Note) (inv : Invariant o c
 pub takes_asked : (o : Origin) (c : Core) (seat : ℕ) (ask : Ask) (note : Note) → Invariant o c → Allowed o c (Does seat ask note) → MemoryTakes c.memory ask
 takes_asked o c seat ask note inv allowed =
     takes_by o c seat note inv allowed.fits.made allowed.fits.unspent ask
-    (λ step. at_ask o c seat inv allowed.fits.made allowed.fits.unspent note (kind_of_ask (q_of_origin o) seat ask) (found_answer c.memory ask) allowed.fits.step allowed.offered.before allowed.offered.later allowed.offered.no_record)
+    (λ step. at_ask o c seat inv allowed.fits.made allowed.fits.unspent note (kind_of_ask (q_of_origin o) seat ask) (found_answer c.memory ask) allowed.fits.step allowed.offered.before allowed.offered.later)
     allowed.offered.kind allowed.fits.step

@@ -36,7 +36,7 @@ pin_runs = (
               enters = record { last = _; computed = record { works = []; may = tt; gives = refl }; going_on = refl; adds_are = tt; seat_is = refl };
             };
           };
-          offered = record { kind = tt; before = refl; later = refl; no_record = refl };
+          offered = record { kind = tt; before = refl; later = refl };
         },
       ),
       record {
@@ -50,7 +50,7 @@ pin_runs = (
             enters = record { last = _; computed = record { works = []; may = tt; gives = refl }; going_on = refl; adds_are = tt; seat_is = refl };
           };
         };
-        offered = record { kind = tt; before = refl; later = refl; no_record = refl };
+        offered = record { kind = tt; before = refl; later = refl };
       },
     ),
     record {
@@ -64,7 +64,7 @@ pin_runs = (
           enters = record { last = _; computed = record { works = []; may = tt; gives = refl }; going_on = refl; adds_are = tt; seat_is = refl };
         };
       };
-      offered = record { kind = tt; before = refl; later = refl; no_record = refl };
+      offered = record { kind = tt; before = refl; later = refl };
     },
   ),
   refl,

@@ -9,6 +9,7 @@ use Rattle.log_core.proofs.row_checks.RowsLate.{late_write, late_sync, late_walk
 use Rattle.log_core.proofs.row_checks.RowsTurns.{runs_may_be_put, collections_in_turn}
 use Rattle.log_core.proofs.row_checks.RowsOffered.{bitmap_may_be_read, offered_kinds}
 use Rattle.log_core.proofs.row_checks.RowsReached.{block_runs}
+use Rattle.log_core.proofs.row_checks.RowsEnded.{calls_end}
 use Rattle.log_core.proofs.rows.law_accepted.Goals as goal
 
 pub returns : goal.returns
@@ -20,6 +21,7 @@ returns c = record {
   bitmap_may_be_read = bitmap_may_be_read;
   offered_kinds = offered_kinds;
   block_runs = block_runs;
+  calls_end = calls_end;
   order_stands = order_stands;
   pins_stand = pins_stand;
   views_stand = views_stand;
