@@ -36,6 +36,8 @@ pub mod ClearsBits
 pub mod GivesBack
 pub mod Splits
 pub mod Joins
+pub mod LosesHead
 pub mod ExchangesHead
+pub mod HeadHolds
 pub mod StepHolds
 pub mod RunHolds

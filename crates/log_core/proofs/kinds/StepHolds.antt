@@ -1,12 +1,12 @@
 -- Each step that is offered keeps the invariant.
-use Rattle.std.proofs.Common.{◌≡◌, ◌≢◌, ◌<◌, ◌≤◌, ℕ, zero, suc, Bool, true, false, List, [], ◌∷◌, length, refl, sym, ◌∙◌, ap, subst, arith, ⊎_elim, ◌⊎◌, inl, inr, max, slice_index, slice_set, Option, Some, None}
+use Rattle.std.proofs.Common.{◌≡◌, ◌==◌, ◌≢◌, ◌<◌, ◌≤◌, ℕ, zero, suc, Bool, true, false, List, [], ◌∷◌, length, refl, sym, ◌∙◌, ap, subst, arith, ⊎_elim, ◌⊎◌, inl, inr, max, slice_index, slice_set, Option, Some, None}
 use Rattle.std.specs.List.{list_all}
 use Rattle.std.proofs.lemmas.List.{get_or-set_same, get_or-set_other, length-set, set-get_or, set-set}
 use Rattle.log_entry.specs.declared.calls.Op.{Op}
 use Rattle.pmem_words.specs.declared.keeps.Task.TheVariants.{Sync}
 use Rattle.pmem_words.specs.Seats.{Seat}
 use Rattle.asks.specs.declared.ask.Place.TheVariants.{Image, Pin, Map}
-use Rattle.asks.specs.declared.ask.Ask.TheVariants.{Load, Store, SetBits, ClearBits, Mark, Fence}
+use Rattle.asks.specs.declared.ask.Ask.TheVariants.{Load, Store, Exchange, SetBits, ClearBits, Mark, Fence}
 use Rattle.persistence.specs.Memory.{Memory, cell, memory_after}
 use Rattle.log_core.specs.Entries.{head_place}
 use Rattle.log_core.specs.Views.{View, view_of, spent_view, op_in}
@@ -16,7 +16,7 @@ use Rattle.log_core.specs.Cores.{Core, head_floor}
 use Rattle.log_core.specs.May.{IsAllMarked, walked_trail}
 use Rattle.log_core.specs.Synced.{IsSynced}
 use Rattle.log_core.specs.Owners.{BitsFit}
-use Rattle.log_core.specs.Steps.{Note, Kind, LoadsHead, LoadsImageWord, StoresOwnPin, LoadsPinWord, LoadsBitmapWord, SetsBits, ClearsBits, StoresWord, MarksWord, Fences, is_begun, is_of_owned, sync_fenced, ghost_begun, view_after}
+use Rattle.log_core.specs.Steps.{Note, Kind, LoadsHead, LoadsImageWord, StoresOwnPin, LoadsPinWord, LoadsBitmapWord, SetsBits, ClearsBits, StoresWord, MarksWord, Fences, ExchangesHead, is_begun, is_of_owned, sync_fenced, ghost_begun, view_after}
 use Rattle.log_core.specs.After.{stepped, began_if, owner_after, synced_to}
 use Rattle.log_core.specs.Runs.{MayNumber, MayStep, ghost_at, effect_at, ghost_left, is_offered_work}
 use Rattle.log_core.specs.Invariant.{Invariant}
@@ -27,6 +27,7 @@ use Rattle.log_core.proofs.clauses.SyncedRises.{answered_from}
 use Rattle.log_core.proofs.Facts.{facts_of, pins_known}
 use Rattle.log_core.proofs.kinds.Worked.{FactsAt, works_hold}
 use Rattle.log_core.proofs.kinds.Entered.{entered}
+use Rattle.log_core.proofs.kinds.HeadHolds.{head_exchange}
 use Rattle.log_core.proofs.kinds.LoadsHead.{load_facts}
 use Rattle.log_core.proofs.kinds.LoadsImageWord.{image_facts}
 use Rattle.log_core.proofs.kinds.StoresOwnPin.{store_facts}
@@ -223,6 +224,14 @@ module _ (o : Origin) (c : Core) (n : ℕ) (inv : Invariant o c) (here : n < len
       kind_holds (MarksWord word) f step before later (memory_after c.memory n (Mark word)) c.owner
       (mark_leaves o c n note.before (ghost_at mine note) (slice_index c.memory.now.pins n) (slice_index began n) word f inv asked unspent fits.inside refl) (no_changes c n) inv.owners.bits
       (mark_word_facts o c n note.before (ghost_at mine note) (slice_index c.memory.now.pins n) (slice_index began n) word f inv asked unspent fits.inside refl fits.fits fits.valid))
+
+  -- an exchange of the head
+  pub head_exchange_holds : (before next : ℕ) → Keeps (ExchangesHead before next) (slice_index c.memory.now.words head_place)
+      (Invariant o (stepped o c n (Exchange (Image head_place) before next) note (ExchangesHead before next) (slice_index c.memory.now.words head_place)))
+  head_exchange_holds before next step begun later =
+      (let f = slice_index c.memory.now.words head_place in
+      entered o c n note (ExchangesHead before next) f here unspent step (stepped o c n (Exchange (Image head_place) before next) note (ExchangesHead before next) f)
+      (head_exchange o c n note.before (ghost_at mine note) began before next inv here unspent (at_ask (ExchangesHead before next) f step begun later) step.may began_fits began_others began_lows (f == before) refl) later)
 
   -- a fence: the position that a sync answers stays, or the fence gives it
   pub fence_holds : Keeps Fences 0 (Invariant o (stepped o c n Fence note Fences 0))
