@@ -1,5 +1,5 @@
 -- The file at the position of a write, and the reply that comes to a write where it stands.
-use Rattle.std.proofs.Common.{◌≡◌, ◌<◌, ◌≤◌, ◌+◌, ◌-◌, ◌++◌, ℕ, zero, suc, true, false, Bool, nat_lt, if◌then◌else◌, List, [], ◌∷◌, length, map, take, refl, sym, ◌∙◌, ap, subst, arith, inl, slice_index_or, length-append, Option, Some, None}
+use Rattle.std.proofs.Common.{◌≡◌, ◌<◌, ◌≤◌, ◌+◌, ◌-◌, ℕ, zero, suc, true, Bool, if◌then◌else◌, List, [], ◌∷◌, length, map, take, refl, sym, ◌∙◌, ap, subst, arith, inl, slice_index_or, length-append, Option, Some, None}
 use Rattle.std.proofs.lemmas.Bool.{le-ltb}
 use Rattle.std.proofs.lemmas.List.{length-map}
 use Rattle.log_entry.specs.Legal.{is_write, file_after, Answers, AnswersWrite, write_refusal, touched_blocks, appended_blocks}

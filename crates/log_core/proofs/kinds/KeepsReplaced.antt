@@ -1,12 +1,12 @@
 -- The blocks that a collection replaced are kept for later: what a core knows of the seat stays.
-use Rattle.std.proofs.Common.{◌≡◌, ◌≢◌, ◌<◌, ◌⊎◌, inl, inr, ◌++◌, ◌||◌, ◌==◌, not, max, ℕ, Bool, true, false, List, [], ◌∷◌, length, refl, sym, ◌∙◌, arith, slice_index}
+use Rattle.std.proofs.Common.{◌≡◌, ◌<◌, ◌⊎◌, inl, inr, ◌++◌, ◌==◌, not, max, ℕ, Bool, true, false, List, [], ◌∷◌, refl, sym, ◌∙◌, arith, slice_index}
 use Rattle.std.proofs.lemmas.Bool.{and_parts}
 use Rattle.std.proofs.lemmas.List.Folds.{list_any-append}
 use Rattle.log_image.specs.Chains.{all_different, is_listed}
 use Rattle.log_image.proofs.NameLemmas.{different_join}
 use Rattle.pmem_words.specs.Seats.{Seat, Giving, Hold}
 use Rattle.log_core.specs.Views.{Ghost, view_of}
-use Rattle.log_core.specs.Origin.{Origin, Owner, LeftTo, first_generation}
+use Rattle.log_core.specs.Origin.{Origin, Owner, LeftTo}
 use Rattle.log_core.specs.Files.{entries}
 use Rattle.log_core.specs.Cores.{Core, current}
 use Rattle.log_core.specs.Works.{KeepsReplaced, state_after_work}

@@ -1,10 +1,10 @@
 -- A record that a call may add holds: it has the reply that comes at its position, and says what is so of the generations.
-use Rattle.std.proofs.Common.{◌≡◌, ◌≢◌, ◌<◌, ◌≤◌, ◌+◌, ◌-◌, min, ◌⊎◌, inl, inr, ℕ, Bool, true, false, if◌then◌else◌, List, [], ◌∷◌, length, take, drop, refl, sym, ◌∙◌, ap, subst, arith, slice_index, Option, Some, None, length-drop}
+use Rattle.std.proofs.Common.{◌≡◌, ◌≢◌, ◌<◌, ◌≤◌, ◌-◌, min, ◌⊎◌, inl, inr, ℕ, Bool, true, false, if◌then◌else◌, List, [], ◌∷◌, length, take, drop, refl, sym, ◌∙◌, ap, subst, arith, slice_index, Option, Some, None, length-drop}
 use Rattle.std.proofs.lemmas.List.{take_all}
 use Rattle.std.specs.Prelude.{◌↔◌, IsSome}
 use Rattle.std.proofs.lemmas.Bool.{cases_lt}
 use Rattle.log_entry.specs.ByteFile.{read}
-use Rattle.log_entry.specs.Legal.{is_write, Answers, AnswersWrite, write_refusal, touched_blocks, appended_blocks, AnswersCollect}
+use Rattle.log_entry.specs.Legal.{is_write, Answers, AnswersWrite, AnswersCollect}
 use Rattle.log_entry.specs.declared.shapes.Geometry.{Geometry}
 use Rattle.log_entry.specs.declared.calls.Op.{Op}
 use Rattle.log_entry.specs.declared.calls.Op.TheVariants.{Pwrite, Append, Pread, Size, Sync, Collect}
@@ -23,7 +23,7 @@ use Rattle.log_core.specs.Sizes.{SeatFits}
 use Rattle.log_core.specs.May.{refusal_at}
 use Rattle.log_core.specs.Walks.{WalkHolds, HasWalked}
 use Rattle.log_core.specs.Records.{StandsAtTail, RecordHolds, before_call}
-use Rattle.log_core.specs.Answers.{FitsHeld, FitsCollect, FitsCollected, FitsNotCollected, Fits, MayAdd}
+use Rattle.log_core.specs.Answers.{FitsHeld, FitsCollect, Fits, MayAdd}
 use Rattle.log_core.specs.Invariant.{Invariant, around}
 use Rattle.log_core.proofs.HistoryFiles.{start_low, some_bytes, write_answers, append_offset}
 use Rattle.log_core.proofs.Replies.{refused_answers, wrote, appended, unwon_no_write}
