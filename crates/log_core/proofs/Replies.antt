@@ -16,21 +16,24 @@ use Rattle.log_core.specs.May.{refusal_at}
 use Rattle.log_core.specs.Answers.{FitsWrite, FitsCollected, FitsCollect, Fits}
 
 -- a write is answered as accepted, or refused
-write_reply : {P : Type 0} (g : Ghost) (won : Bool) (why : Option WriteRefusal) (accepted reply : Reply) → FitsWrite g won why accepted reply → (reply ≡ accepted → P) → ((refusal : WriteRefusal) → reply ≡ NotWritten refusal → P) → P
+write_reply : {P : Type 0} (g : Ghost) (won : Bool) (why : Option WriteRefusal) (accepted reply : Reply) → FitsWrite g won why accepted reply →
+    (reply ≡ accepted → P) → ((refusal : WriteRefusal) → reply ≡ NotWritten refusal → P) → P
 write_reply g true why accepted reply fits wins loses = wins fits
 write_reply g false (Some why) accepted reply fits wins loses = loses why fits
 write_reply g false None accepted reply (inl here) wins loses = loses (NoSpace Data) here.0
 write_reply g false None accepted reply (inr log) wins loses = loses (NoSpace Log) log.0
 
 -- one that put in no entry is refused
-write_refused : {P : Type 0} (g : Ghost) (won : Bool) (why : Option WriteRefusal) (accepted reply : Reply) → FitsWrite g won why accepted reply → won ≡ false → ((refusal : WriteRefusal) → reply ≡ NotWritten refusal → P) → P
+write_refused : {P : Type 0} (g : Ghost) (won : Bool) (why : Option WriteRefusal) (accepted reply : Reply) → FitsWrite g won why accepted reply →
+    won ≡ false → ((refusal : WriteRefusal) → reply ≡ NotWritten refusal → P) → P
 write_refused g true why accepted reply fits none loses = cc
 write_refused g false (Some why) accepted reply fits none loses = loses why fits
 write_refused g false None accepted reply (inl here) none loses = loses (NoSpace Data) here.0
 write_refused g false None accepted reply (inr log) none loses = loses (NoSpace Log) log.0
 
 -- by a cause that the history allows there
-pub refused_answers : (g : Ghost) (won : Bool) (why : Option WriteRefusal) (accepted other reply : Reply) → won ≡ false → FitsWrite g won why accepted reply → AnswersWrite why other reply
+pub refused_answers : (g : Ghost) (won : Bool) (why : Option WriteRefusal) (accepted other reply : Reply) → won ≡ false →
+    FitsWrite g won why accepted reply → AnswersWrite why other reply
 refused_answers g true why accepted other reply none fits = cc
 refused_answers g false (Some why) accepted other reply none fits = fits
 refused_answers g false None accepted other reply none (inl here) = inr (inl here.0)
@@ -45,10 +48,12 @@ module _ (g : Ghost) (s : Seat) where
   abbrev why : Op → Option WriteRefusal
   why op = refusal_at s.geometry.block_bytes s.walk.position s.walk.size op
 
-  pub wrote : (offset byte : ℕ) (bytes : List ℕ) (reply : Reply) → s.calling.won ≡ true → Fits g s (Pwrite offset (byte ∷ bytes)) reply → reply ≡ Wrote (length (byte ∷ bytes))
+  pub wrote : (offset byte : ℕ) (bytes : List ℕ) (reply : Reply) → s.calling.won ≡ true → Fits g s (Pwrite offset (byte ∷ bytes)) reply →
+      reply ≡ Wrote (length (byte ∷ bytes))
   wrote offset byte bytes reply won fits = won_accepted g s.calling.won (why (Pwrite offset (byte ∷ bytes))) (Wrote (length (byte ∷ bytes))) reply won fits
 
-  pub appended : (byte : ℕ) (bytes : List ℕ) (reply : Reply) → s.calling.won ≡ true → Fits g s (Append (byte ∷ bytes)) reply → reply ≡ Appended (s.walk.size - length (byte ∷ bytes)) (length (byte ∷ bytes))
+  pub appended : (byte : ℕ) (bytes : List ℕ) (reply : Reply) → s.calling.won ≡ true → Fits g s (Append (byte ∷ bytes)) reply →
+      reply ≡ Appended (s.walk.size - length (byte ∷ bytes)) (length (byte ∷ bytes))
   appended byte bytes reply won fits = won_accepted g s.calling.won (why (Append (byte ∷ bytes))) (Appended (s.walk.size - length (byte ∷ bytes)) (length (byte ∷ bytes))) reply won fits
 
   -- a call that put in no entry is no write of the history

@@ -55,7 +55,8 @@ module _ (o : Origin) (c : Core) (n : ℕ) (calling : Calling) (put : Option Hea
   new = record c { views = views }
 
   -- a generation that is kept now was kept before
-  pinned_before : (place seat : ℕ) → (view_of views seat).seat.hold.valid ≡ true → (view_of views seat).seat.hold.generation ≡ first_generation o + place → IsPinned o c.views place
+  pinned_before : (place seat : ℕ) → (view_of views seat).seat.hold.valid ≡ true →
+      (view_of views seat).seat.hold.generation ≡ first_generation o + place → IsPinned o c.views place
   pinned_before place = each_set (λ (k : ℕ) (u : View). u.seat.hold.valid ≡ true → u.seat.hold.generation ≡ first_generation o + place → IsPinned o c.views place) c.views n w here
       (λ valid same. record { seat = n; valid = valid; same = same }) (λ k other valid same. record { seat = k; valid = valid; same = same })
 

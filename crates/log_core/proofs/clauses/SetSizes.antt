@@ -19,7 +19,8 @@ module _ (o : Origin) (before : List View) (n : ℕ) (w : View) (here : n < leng
   count : length views ≡ length before
   count = length-set before n w
 
-  pub sizes_set : (old m : Memory) (began_before began : List ℕ) → Sizes o old before began_before → MemoryFits o m (length before) → length began ≡ length began_before → w.made ≡ (view_of before n).made → SeatFits o n w → Sizes o m views began
+  pub sizes_set : (old m : Memory) (began_before began : List ℕ) → Sizes o old before began_before → MemoryFits o m (length before) →
+      length began ≡ length began_before → w.made ≡ (view_of before n).made → SeatFits o n w → Sizes o m views began
   sizes_set old m began_before began sizes fits same_began same_made mine = record {
     seats = sizes.seats;
     image = sizes.image;
@@ -48,7 +49,8 @@ module _ (o : Origin) (before : List View) (n : ℕ) (w : View) (here : n < leng
       at_zero : (k : ℕ) → k ≡ 0 → (view_of before k).parts ≢ [] → (view_of before k).made ≡ length before
       at_zero k zero_is = subst (λ (j : ℕ). (view_of before j).parts ≢ [] → (view_of before j).made ≡ length before) (sym zero_is) sizes.made
 
-  pub seats_once_set : (history : List Write) → SeatsOnce history before → AllByRecursion (λ (call : Call). is_listed w.parts call.seat ≡ true) w.done → SeatsOnce history views
+  pub seats_once_set : (history : List Write) → SeatsOnce history before →
+      AllByRecursion (λ (call : Call). is_listed w.parts call.seat ≡ true) w.done → SeatsOnce history views
   seats_once_set history once mine = record {
     once = λ seat. parts_set before n w seat same_parts here ∙ (once.once seat ∙ ap (λ (k : ℕ). one_if (nat_lt seat k)) (sym count));
     own = each_set (λ (k : ℕ) (v : View). v.parts ≢ [] → is_listed v.parts k ≡ true) before n w here

@@ -135,7 +135,8 @@ module _ (o : Origin) (c : Core) (n : ℕ) (s : Seat) (g : Ghost) (pin began : �
     known : (at : ℕ) → at / 8 ≡ base_slot s → IsByteIn s (map_at s.walk.map virt) at (slice_index (word_bytes (word ∷ [])) (at % 8))
     known at slot = go (base_block s) may.known
       where
-        go : (found : Option ℕ) → ((block : ℕ) → found ≡ Some block → kept_at s.walk.kept block (base_slot s) ≢ None) → IsByteIn s found at (slice_index (word_bytes (word_of_block s found (base_slot s) ∷ [])) (at % 8))
+        go : (found : Option ℕ) → ((block : ℕ) → found ≡ Some block → kept_at s.walk.kept block (base_slot s) ≢ None) →
+            IsByteIn s found at (slice_index (word_bytes (word_of_block s found (base_slot s) ∷ [])) (at % 8))
         go None each = zero_bytes (at % 8)
         go (Some block) each = (
           subst (λ (k : ℕ). kept_at s.walk.kept block k ≢ None) (sym slot) (each block refl),
@@ -145,7 +146,8 @@ module _ (o : Origin) (c : Core) (n : ℕ) (s : Seat) (g : Ghost) (pin began : �
     abbrev words : List ℕ
     words = s.calling.base_words
 
-    byte_is : (place at : ℕ) → place < length s.calling.bases → at < o.geometry.block_bytes → op_of s.calling.job s.calling.bytes ≢ None → place * o.geometry.block_bytes + at < 8 * length (words ++ word ∷ []) →
+    byte_is : (place at : ℕ) → place < length s.calling.bases → at < o.geometry.block_bytes → op_of s.calling.job s.calling.bytes ≢ None →
+        place * o.geometry.block_bytes + at < 8 * length (words ++ word ∷ []) →
         slice_index (word_bytes (words ++ word ∷ [])) (place * o.geometry.block_bytes + at) ≡ slice_index (file_at o c.history s.walk.position) (slice_index s.calling.bases place * o.geometry.block_bytes + at)
     byte_is place at inside small running below = by (cases_lt (place * o.geometry.block_bytes + at) (8 * length words))
       where

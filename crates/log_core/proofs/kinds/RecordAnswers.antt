@@ -1,10 +1,10 @@
 -- A record that a call may add holds: it has the reply that comes at its position, and says what is so of the generations.
-use Rattle.std.proofs.Common.{◌≡◌, ◌≢◌, ◌<◌, ◌≤◌, ◌+◌, ◌-◌, min, ◌⊎◌, inl, inr, ℕ, Bool, true, false, if◌then◌else◌, List, [], ◌∷◌, length, take, drop, refl, sym, ◌∙◌, ap, subst, arith, slice_index, Option, Some, None, length-drop}
+use Rattle.std.proofs.Common.{◌≡◌, ◌≢◌, ◌<◌, ◌≤◌, ◌-◌, min, ◌⊎◌, inl, inr, ℕ, Bool, true, false, if◌then◌else◌, List, [], ◌∷◌, length, take, drop, refl, sym, ◌∙◌, ap, subst, arith, slice_index, Option, Some, None, length-drop}
 use Rattle.std.proofs.lemmas.List.{take_all}
 use Rattle.std.specs.Prelude.{◌↔◌, IsSome}
 use Rattle.std.proofs.lemmas.Bool.{cases_lt}
 use Rattle.log_entry.specs.ByteFile.{read}
-use Rattle.log_entry.specs.Legal.{is_write, Answers, AnswersWrite, write_refusal, touched_blocks, appended_blocks, AnswersCollect}
+use Rattle.log_entry.specs.Legal.{is_write, Answers, AnswersWrite, AnswersCollect}
 use Rattle.log_entry.specs.declared.shapes.Geometry.{Geometry}
 use Rattle.log_entry.specs.declared.calls.Op.{Op}
 use Rattle.log_entry.specs.declared.calls.Op.TheVariants.{Pwrite, Append, Pread, Size, Sync, Collect}
@@ -20,16 +20,18 @@ use Rattle.log_core.specs.Origin.{Origin, first_position}
 use Rattle.log_core.specs.Files.{Write, write_at, call_of, accepted_reply, file_at, end_of, entries}
 use Rattle.log_core.specs.Cores.{Core}
 use Rattle.log_core.specs.Sizes.{SeatFits}
+use Rattle.log_core.specs.May.{refusal_at}
 use Rattle.log_core.specs.Walks.{WalkHolds, HasWalked}
 use Rattle.log_core.specs.Records.{StandsAtTail, RecordHolds, before_call}
-use Rattle.log_core.specs.Answers.{FitsHeld, FitsCollected, FitsNotCollected, Fits, MayAdd}
+use Rattle.log_core.specs.Answers.{FitsHeld, FitsCollect, Fits, MayAdd}
 use Rattle.log_core.specs.Invariant.{Invariant, around}
 use Rattle.log_core.proofs.HistoryFiles.{start_low, some_bytes, write_answers, append_offset}
 use Rattle.log_core.proofs.Replies.{refused_answers, wrote, appended, unwon_no_write}
 use Rattle.log_core.proofs.kinds.RecordGenerations.{says_so}
 
 -- a record has its parts
-same_call : (call : Call) (position seat number : ℕ) (op : Op) (reply : Reply) → call.position ≡ position → call.seat ≡ seat → call.number ≡ number → call.op ≡ op → call.reply ≡ reply →
+same_call : (call : Call) (position seat number : ℕ) (op : Op) (reply : Reply) → call.position ≡ position → call.seat ≡ seat → call.number ≡ number →
+    call.op ≡ op → call.reply ≡ reply →
     call ≡ record { position = position; seat = seat; number = number; op = op; reply = reply }
 same_call call position seat number op reply p s n o r =
     ap (λ (x : ℕ). record { position = x; seat = call.seat; number = call.number; op = call.op; reply = call.reply }) p
@@ -126,16 +128,20 @@ module _ (o : Origin) (c : Core) (n : ℕ) (inv : Invariant o c) (here : n < len
     pub same_op : call.op ≡ write.op
     same_op = (let asks = ((inv.records.writes n).running won).3 in let both : Some call.op ≡ Some write.op = sym may.op ∙ asks in cc)
 
+    -- it is of at least one byte
+    put_in : (op : Op) → write.op ≡ op → is_write op (accepted_reply op write.at) ≡ true
+    put_in op is = subst (λ (asked : Op). is_write asked (accepted_reply asked write.at) ≡ true) is (some_bytes o c inv position late w.to_end)
+
     reply_by : (op : Op) → write.op ≡ op → Fits g s op call.reply → call.reply ≡ accepted_reply op write.at
     reply_by (Pwrite offset []) is fits = absurd fits
     reply_by (Pwrite offset (byte ∷ bytes)) is fits = wrote g s offset byte bytes call.reply won fits
-    reply_by (Append []) is fits = (let some : is_write (Append []) (accepted_reply (Append []) write.at) ≡ true = subst (λ (op : Op). is_write op (accepted_reply op write.at) ≡ true) is (some_bytes o c inv position late w.to_end) in cc)
+    reply_by (Append []) is fits = (let some = put_in (Append []) is in cc)
     reply_by (Append (byte ∷ bytes)) is fits = appended g s byte bytes call.reply won fits
         ∙ ap (λ (at : ℕ). Appended at (length (byte ∷ bytes))) (ap (λ (size : ℕ). size - length (byte ∷ bytes)) size_is ∙ append_offset o c inv position late w.to_end (byte ∷ bytes) is)
-    reply_by (Pread offset count) is fits = (let some : is_write (Pread offset count) (accepted_reply (Pread offset count) write.at) ≡ true = subst (λ (op : Op). is_write op (accepted_reply op write.at) ≡ true) is (some_bytes o c inv position late w.to_end) in cc)
-    reply_by Size is fits = (let some : is_write Size (accepted_reply Size write.at) ≡ true = subst (λ (op : Op). is_write op (accepted_reply op write.at) ≡ true) is (some_bytes o c inv position late w.to_end) in cc)
-    reply_by Sync is fits = (let some : is_write Sync (accepted_reply Sync write.at) ≡ true = subst (λ (op : Op). is_write op (accepted_reply op write.at) ≡ true) is (some_bytes o c inv position late w.to_end) in cc)
-    reply_by Collect is fits = (let some : is_write Collect (accepted_reply Collect write.at) ≡ true = subst (λ (op : Op). is_write op (accepted_reply op write.at) ≡ true) is (some_bytes o c inv position late w.to_end) in cc)
+    reply_by (Pread offset count) is fits = (let some = put_in (Pread offset count) is in cc)
+    reply_by Size is fits = (let some = put_in Size is in cc)
+    reply_by Sync is fits = (let some = put_in Sync is in cc)
+    reply_by Collect is fits = (let some = put_in Collect is in cc)
 
     pub same_reply : call.reply ≡ accepted_reply write.op write.at
     same_reply = reply_by write.op refl (subst (λ (op : Op). Fits g s op call.reply) same_op may.fits)
@@ -159,20 +165,21 @@ module _ (o : Origin) (c : Core) (n : ℕ) (inv : Invariant o c) (here : n < len
   before_is : before_call call ≡ (if s.calling.won then position - 1 else position)
   before_is = ap (λ (b : Bool). if b then call.position - 1 else call.position) writes_won ∙ ap (λ (p : ℕ). if s.calling.won then p - 1 else p) may.position
 
+  same_bytes : s.geometry.block_bytes ≡ o.geometry.block_bytes
+  same_bytes = ap (λ (geometry : Geometry). geometry.block_bytes) seat_fits.geometry
+
   -- the replies of calls that put in no entry
   unwon_answers : (op : Op) → op_in s ≡ Some op → s.calling.won ≡ false → Fits g s op call.reply → Answers o.geometry.block_bytes position File op call.reply
   unwon_answers (Pwrite offset []) asks none fits = absurd fits
   unwon_answers (Pwrite offset (byte ∷ bytes)) asks none fits =
-      subst (λ (block_bytes : ℕ). AnswersWrite (write_refusal block_bytes position (touched_blocks block_bytes offset (length (byte ∷ bytes))) (offset + length (byte ∷ bytes))) (Wrote (length (byte ∷ bytes))) call.reply)
-      (ap (λ (geometry : Geometry). geometry.block_bytes) seat_fits.geometry)
-      (refused_answers g s.calling.won (write_refusal s.geometry.block_bytes position (touched_blocks s.geometry.block_bytes offset (length (byte ∷ bytes))) (offset + length (byte ∷ bytes)))
+      subst (λ (block_bytes : ℕ). AnswersWrite (refusal_at block_bytes position s.walk.size (Pwrite offset (byte ∷ bytes))) (Wrote (length (byte ∷ bytes))) call.reply) same_bytes
+      (refused_answers g s.calling.won (refusal_at s.geometry.block_bytes position s.walk.size (Pwrite offset (byte ∷ bytes)))
       (Wrote (length (byte ∷ bytes))) (Wrote (length (byte ∷ bytes))) call.reply none fits)
   unwon_answers (Append []) asks none fits = fits ∙ ap (λ (size : ℕ). Appended size 0) size_is
   unwon_answers (Append (byte ∷ bytes)) asks none fits =
-      subst (λ (block_bytes : ℕ). AnswersWrite (write_refusal block_bytes position (appended_blocks block_bytes (length (byte ∷ bytes))) (length File + length (byte ∷ bytes))) (Appended (length File) (length (byte ∷ bytes))) call.reply)
-      (ap (λ (geometry : Geometry). geometry.block_bytes) seat_fits.geometry)
-      (subst (λ (size : ℕ). AnswersWrite (write_refusal s.geometry.block_bytes position (appended_blocks s.geometry.block_bytes (length (byte ∷ bytes))) (size + length (byte ∷ bytes))) (Appended (length File) (length (byte ∷ bytes))) call.reply) size_is
-      (refused_answers g s.calling.won (write_refusal s.geometry.block_bytes position (appended_blocks s.geometry.block_bytes (length (byte ∷ bytes))) (s.walk.size + length (byte ∷ bytes)))
+      subst (λ (block_bytes : ℕ). AnswersWrite (refusal_at block_bytes position (length File) (Append (byte ∷ bytes))) (Appended (length File) (length (byte ∷ bytes))) call.reply) same_bytes
+      (subst (λ (size : ℕ). AnswersWrite (refusal_at s.geometry.block_bytes position size (Append (byte ∷ bytes))) (Appended (length File) (length (byte ∷ bytes))) call.reply) size_is
+      (refused_answers g s.calling.won (refusal_at s.geometry.block_bytes position s.walk.size (Append (byte ∷ bytes)))
       (Appended (s.walk.size - length (byte ∷ bytes)) (length (byte ∷ bytes))) (Appended (length File) (length (byte ∷ bytes))) call.reply none fits))
   unwon_answers (Pread offset count) asks none fits = fits.0 ∙ ap (λ (bytes : List ℕ). Bytes bytes)
       ((inv.records.calls n).laid offset count (read_task s.calling.job s.calling.bytes offset count asks)
@@ -181,7 +188,7 @@ module _ (o : Origin) (c : Core) (n : ℕ) (inv : Invariant o c) (here : n < len
   unwon_answers Sync asks none fits = fits.0
   unwon_answers Collect asks none fits = by call.reply fits
     where
-      by : (reply : Reply) → Rattle.log_core.specs.Answers.FitsCollect g s reply → AnswersCollect reply
+      by : (reply : Reply) → FitsCollect g s reply → AnswersCollect reply
       by (Collected done) fits = held_kept s done.kept done.held fits.held
       by (NotCollected why) fits = tt
       by (Wrote count) fits = absurd fits
@@ -194,7 +201,8 @@ module _ (o : Origin) (c : Core) (n : ℕ) (inv : Invariant o c) (here : n < len
   answers : Answers o.geometry.block_bytes (before_call call) (file_at o c.history (before_call call)) call.op call.reply
   answers = subst (λ (before : ℕ). Answers o.geometry.block_bytes before (file_at o c.history before) call.op call.reply) (sym before_is) (go s.calling.won refl)
     where
-      go : (b : Bool) → s.calling.won ≡ b → Answers o.geometry.block_bytes (if b then position - 1 else position) (file_at o c.history (if b then position - 1 else position)) call.op call.reply
+      go : (b : Bool) → s.calling.won ≡ b →
+          Answers o.geometry.block_bytes (if b then position - 1 else position) (file_at o c.history (if b then position - 1 else position)) call.op call.reply
       go true won = subst (λ (op : Op). Answers o.geometry.block_bytes (position - 1) (file_at o c.history (position - 1)) op call.reply) (sym (same_op won))
           (subst (λ (reply : Reply). Answers o.geometry.block_bytes (position - 1) (file_at o c.history (position - 1)) write.op reply) (sym (same_reply won)) (write_answers o c inv position (late won) w.to_end))
       go false none = unwon_answers call.op may.op none may.fits

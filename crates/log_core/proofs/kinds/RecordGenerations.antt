@@ -2,6 +2,7 @@
 use Rattle.std.proofs.Common.{◌≡◌, ◌≢◌, ◌<◌, ◌≤◌, ◌+◌, ◌-◌, ◌==◌, ℕ, true, [], length, refl, sym, ◌∙◌, ap, subst, arith, Option, Some, None}
 use Rattle.log_entry.specs.declared.calls.Op.{Op}
 use Rattle.log_entry.specs.declared.calls.Op.TheVariants.{Collect}
+use Rattle.log_entry.specs.declared.calls.CollectRefusal.{CollectRefusal}
 use Rattle.log_entry.specs.declared.calls.CollectRefusal.TheVariants.{Nothing, NoSpace, Overtaken, GenerationLimit}
 use Rattle.log_entry.specs.declared.calls.Reply.{Reply}
 use Rattle.log_entry.specs.declared.calls.Reply.TheVariants.{Wrote, Appended, NotWritten, Bytes, Size, Synced, Collected, NotCollected}
@@ -36,7 +37,7 @@ module _ (o : Origin) (c : Core) (n : ℕ) (inv : Invariant o c) (unspent : (vie
     inside : s.hold.generation < first_generation o + length c.generations
     inside = (let low = (inv.pins.holds n).to_current some_generation in let is = current_is o c inv in let last = last_place o c inv in omega (arith, low, is, last))
 
-    refused : (why : Rattle.log_entry.specs.declared.calls.CollectRefusal.CollectRefusal) → FitsNotCollected g s why → SaysOfGenerations o c.generations s.walk.position (NotCollected why)
+    refused : (why : CollectRefusal) → FitsNotCollected g s why → SaysOfGenerations o c.generations s.walk.position (NotCollected why)
     refused Nothing fits = (
       s.hold.generation - first_generation o,
       (let low = from_first in let high = inside in omega (arith, low, high)),
@@ -51,7 +52,8 @@ module _ (o : Origin) (c : Core) (n : ℕ) (inv : Invariant o c) (unspent : (vie
 
   said : (reply : Reply) → Fits g s call.op reply → SaysOfGenerations o c.generations s.walk.position reply
   said (Collected done) fits = (let r = collected_fits g s call.op done fits in let own = (inv.records.put n).own r.put r.put_is in
-      subst (λ (generation : ℕ). (first_generation o < generation) × (generation < first_generation o + length c.generations) × (s.walk.position ≡ (nth_generation c.generations (generation - first_generation o)).base)) (sym r.generation)
+      subst (λ (generation : ℕ). (first_generation o < generation) × (generation < first_generation o + length c.generations)
+      × (s.walk.position ≡ (nth_generation c.generations (generation - first_generation o)).base)) (sym r.generation)
       (own.0, own.1, sym own.2 ∙ own.3))
   said (NotCollected why) fits = (let r = not_collected_fits g s call.op why fits in refused r.1 why r.2)
   said (Wrote count) fits = tt

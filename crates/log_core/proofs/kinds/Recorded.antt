@@ -26,16 +26,19 @@ use Rattle.log_core.proofs.kinds.RecordAnswers.{seat_fits, stands, writes_won, c
 use Rattle.log_core.proofs.kinds.RecordGenerations.{same_count}
 
 -- what one record more counts
-writes_more : (position : ℕ) (done : List Call) (call : Call) → writes_at position (done ++ call ∷ []) ≡ writes_at position done + one_if (is_write call.op call.reply && (call.position == position))
+writes_more : (position : ℕ) (done : List Call) (call : Call) →
+    writes_at position (done ++ call ∷ []) ≡ writes_at position done + one_if (is_write call.op call.reply && (call.position == position))
 writes_more position [] call = omega arith
 writes_more position (first ∷ done) call = (let rest = writes_more position done call in omega (arith, rest))
 
-collected_more : (generation : ℕ) (done : List Call) (call : Call) → collected_in generation (done ++ call ∷ []) ≡ collected_in generation done + collects generation call.reply
+collected_more : (generation : ℕ) (done : List Call) (call : Call) →
+    collected_in generation (done ++ call ∷ []) ≡ collected_in generation done + collects generation call.reply
 collected_more generation [] call = omega arith
 collected_more generation (first ∷ done) call = (let rest = collected_more generation done call in omega (arith, rest))
 
 -- a record that is later than those of its seat, and of a greater number
-falls_never : (part position number : ℕ) (done : List Call) (call : Call) → NeverFall part position number done → position ≤ call.position → (call.seat ≡ part → number < call.number) →
+falls_never : (part position number : ℕ) (done : List Call) (call : Call) → NeverFall part position number done → position ≤ call.position →
+    (call.seat ≡ part → number < call.number) →
     AllByRecursion (λ (other : Call). other.position ≤ call.position) done → (call.seat ≡ part → AllByRecursion (λ (other : Call). other.seat ≡ part → other.number < call.number) done) →
     NeverFall part position number (done ++ call ∷ [])
 falls_never part position number [] call fall low few later more = ((λ same. (low, few same)), tt)

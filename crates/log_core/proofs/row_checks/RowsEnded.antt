@@ -49,7 +49,8 @@ module _ (c : Core) (number : ℕ) (ask : Ask) (works : List Work) (call : Call)
   abbrev ghost : Ghost
   ghost = ghost_begun mine.ghost mine.seat before number
 
-  step_ends : 0 < length c.views → mine.parts ≢ [] → MayWorkAll mine.ghost mine.seat works → MayNumber (is_begun (op_in mine.seat) (op_in before)) mine.ghost.call.number number → May image_a c ghost before kind →
+  step_ends : 0 < length c.views → mine.parts ≢ [] → MayWorkAll mine.ghost mine.seat works →
+      MayNumber (is_begun (op_in mine.seat) (op_in before)) mine.ghost.call.number number → May image_a c ghost before kind →
       IsOfferedKind before kind → list_all is_offered_work works ≡ true → MayAdd (ghost_after ghost before left kind (found_answer c.memory ask)) left call → Allowed image_a c (step_of image_a c 0 ask number works [] (call ∷ []))
   step_ends made unspent computes numbered may kind offered adds = record {
     fits = record {
