@@ -1,17 +1,17 @@
 -- An exchange of the head keeps the invariant, won or lost.
-use Rattle.std.proofs.Common.{◌≡◌, ◌≢◌, ◌<◌, ◌≤◌, ◌==◌, ◌*◌, ℕ, Bool, true, false, List, [], length, refl, sym, ◌∙◌, ap, subst, arith, slice_index, slice_set}
+use Rattle.std.proofs.Common.{◌≡◌, ◌≢◌, ◌<◌, ◌≤◌, ◌==◌, ℕ, Bool, true, false, List, [], length, refl, sym, subst, slice_index, slice_set}
 use Rattle.std.proofs.lemmas.Bool.{eqb-true}
 use Rattle.asks.specs.declared.ask.Place.TheVariants.{Image}
 use Rattle.asks.specs.declared.ask.Ask.TheVariants.{Exchange}
 use Rattle.log_image.specs.Chains.{is_listed}
 use Rattle.persistence.specs.Memory.{Memory, memory_after}
 use Rattle.log_core.specs.Entries.{head_place}
-use Rattle.log_core.specs.Views.{View, Ghost, view_of}
+use Rattle.log_core.specs.Views.{Ghost, view_of}
 use Rattle.log_core.specs.Origin.{Origin}
 use Rattle.log_core.specs.Files.{end_of}
 use Rattle.log_core.specs.Cores.{Core}
 use Rattle.log_core.specs.Works.{words_of}
-use Rattle.log_core.specs.Steps.{Note, ExchangesHead, head_exchanged, new_snapshots, replaced_by, stored_but, stored_if, put_if, overtaken_if}
+use Rattle.log_core.specs.Steps.{head_exchanged, new_snapshots, replaced_by, stored_but, stored_if, put_if, overtaken_if}
 use Rattle.log_core.specs.After.{generations_if, owner_if, recorded_if, new_generation}
 use Rattle.log_core.specs.May.{MayExchangeHead}
 use Rattle.log_core.specs.Invariant.{Invariant}
