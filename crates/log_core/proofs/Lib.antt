@@ -13,6 +13,7 @@ pub mod Trails
 pub mod ChainPlaces
 pub mod MapNames
 pub mod SameContents
+pub mod TailEnds
 pub mod PinnedChains
 pub mod WalkMaps
 pub mod BaseWords
