@@ -14,6 +14,7 @@ pub mod ChainPlaces
 pub mod MapNames
 pub mod SameContents
 pub mod TailEnds
+pub mod LogGrowth
 pub mod PinnedChains
 pub mod WalkMaps
 pub mod BaseWords
