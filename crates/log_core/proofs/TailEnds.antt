@@ -1,5 +1,7 @@
 -- A tail that is found empty is in the last log block, behind its used slots or at its link, and the view is at the end.
-use Rattle.std.proofs.Common.{◌≡◌, ◌≢◌, ◌<◌, ◌+◌, ◌-◌, ℕ, true, [], length, sym, ◌∙◌, ap, subst, arith, slice_index}
+use Rattle.std.proofs.Common.{◌≡◌, ◌≢◌, ◌<◌, ◌≤◌, ◌+◌, ◌-◌, ◌/◌, ℕ, true, [], length, sym, ◌∙◌, ap, subst, arith, slice_index}
+use Rattle.std.proofs.lemmas.Nat.{div-mul-add}
+use Rattle.log_entry.specs.declared.calls.Call.{Call}
 use Rattle.log_image.specs.Image.{Shape, words_in, shape_by}
 use Rattle.pmem_words.specs.Seats.{Seat, Walk}
 use Rattle.persistence.specs.Memory.{cell}
@@ -7,12 +9,15 @@ use Rattle.log_core.specs.Entries.{place_in}
 use Rattle.log_core.specs.Views.{Ghost, view_of}
 use Rattle.log_core.specs.Origin.{Origin, shape, LogBlock}
 use Rattle.log_core.specs.Files.{entries, end_of}
-use Rattle.log_core.specs.Cores.{Core, is_named, nth_log, number_at, log_at, entries_used, is_full}
+use Rattle.log_core.specs.Cores.{Core, generation_at, is_named, nth_log, number_at, log_at, entries_used, is_full}
 use Rattle.log_core.specs.Works.{seat_shape, words_of, MayBelieve}
+use Rattle.log_core.specs.May.{MayLoadImageWord}
 use Rattle.log_core.specs.Order.{nth_generation}
 use Rattle.log_core.specs.Walks.{WalkHolds, HasWalked}
+use Rattle.log_core.specs.Records.{RecordHolds, StandsAtTail}
 use Rattle.log_core.specs.Invariant.{Invariant, around}
 use Rattle.log_core.specs.Knows.{Knows}
+use Rattle.log_core.proofs.Each.{each_weaker}
 use Rattle.log_core.proofs.PinnedChains.{place, kept}
 use Rattle.log_core.proofs.LogTails.{TailLog, tail_log, first_empty, last_link, last_end}
 use Rattle.log_core.proofs.clauses.Apart.{log_is_named}
@@ -52,6 +57,14 @@ module _ (o : Origin) (c : Core) (n : ℕ) (s : Seat) (g : Ghost) (pin began : �
   pub tail_named : is_named o c.logs (entries o c.history) (nth_generation c.generations at) s.walk.tail_block ≡ true
   tail_named = subst (λ (b : ℕ). is_named o c.logs (entries o c.history) (nth_generation c.generations at) b ≡ true) tail.block_is
       (log_is_named o c.logs (nth_generation c.generations at) number (entries o c.history) tail.late tail.inside)
+
+  -- so a word of that may be loaded
+  pub tail_load : (index word : ℕ) → index < words_of s → word ≡ place_in (seat_shape s) s.walk.tail_block index →
+      MayLoadImageWord s (λ block. is_named o c.logs (entries o c.history) (generation_at o c.generations s.hold.generation) block) word
+  tail_load index word inside is = record {
+    valid = valid;
+    named = ap (λ (b : ℕ). is_named o c.logs (entries o c.history) (nth_generation c.generations at) b) (ap (λ (k : ℕ). k / words_of s) is ∙ div-mul-add s.walk.tail_block (words_of s) index inside) ∙ tail_named;
+  }
 
   -- the tail's log block, where no other follows it
   module _ (last : number + 1 ≡ length c.logs) where
@@ -128,3 +141,14 @@ module _ (o : Origin) (c : Core) (n : ℕ) (s : Seat) (g : Ghost) (pin began : �
 
     pub last_full : is_full (shape o) (last_log c).slots ≡ true
     last_full = subst (λ (l : LogBlock). is_full (shape o) l.slots ≡ true) (last_at found_link) (walked.at_end (closed ∙ same_words)).0
+
+-- a view that has walked and is at the end stands at its tail
+pub stands_at_end : (o : Origin) (c : Core) (n : ℕ) (s : Seat) (g : Ghost) (pin began : ℕ) → Invariant o c → Knows o c n s g pin began → (view_of c.views n).parts ≢ [] → began ≤ end_of o c.history →
+    (position block : ℕ) → end_of o c.history ≤ position → block ≢ 0 → StandsAtTail (view_of c.views n).first began position block (view_of c.views n).done
+stands_at_end o c n s g pin began inv f unspent low position block past some = record {
+  walked = some;
+  from_first = (let first = (f.fits unspent).first in let synced = inv.syncs.from_first in let upto = inv.syncs.to_end in omega (arith, first, synced, upto, past));
+  begun = omega (arith, low, past);
+  records = each_weaker (RecordHolds o c.history c.generations) (λ (call : Call). call.position ≤ position) (view_of c.views n).done
+      (λ call holds. (let upto = holds.to_end in omega (arith, upto, past))) (inv.records.records n);
+}

@@ -42,3 +42,5 @@ pub mod GrownOthers
 pub mod GrownRecords
 pub mod GrowCore
 pub mod HeadOthers
+pub mod GrownKnows
+pub mod GrowingWords

@@ -35,4 +35,5 @@ pub mod Splits
 pub mod Joins
 pub mod ExchangesHead
 pub mod StepHolds
+pub mod ExchangesLink
 pub mod RunHolds
