@@ -36,4 +36,6 @@ pub mod Joins
 pub mod ExchangesHead
 pub mod StepHolds
 pub mod ExchangesLink
+pub mod LosesExchange
+pub mod LinkHolds
 pub mod RunHolds
