@@ -38,4 +38,5 @@ pub mod StepHolds
 pub mod ExchangesLink
 pub mod LosesExchange
 pub mod LinkHolds
+pub mod ExchangeHolds
 pub mod RunHolds

@@ -1,8 +1,7 @@
--- So does every run: each ask of an offered kind is one of the ten.
+-- So does every run.
 use Rattle.std.proofs.Common.{◌≡◌, ◌≢◌, ◌<◌, ◌==◌, ◌%◌, not, ℕ, Bool, true, false, if◌then◌else◌, List, [], ◌∷◌, length, refl, sym, subst, slice_index}
 use Rattle.std.specs.List.{list_all}
 use Rattle.std.proofs.lemmas.Bool.{eqb-true}
-use Rattle.pmem_words.specs.Seats.{Seat}
 use Rattle.asks.specs.declared.ask.Place.TheVariants.{Image, Pin, Map, FenceOf}
 use Rattle.asks.specs.declared.ask.Ask.{Ask}
 use Rattle.asks.specs.declared.ask.Ask.TheVariants.{Load, Store, Exchange, SetBits, ClearBits, Mark, Fence}
@@ -11,25 +10,16 @@ use Rattle.log_core.specs.Entries.{head_place}
 use Rattle.log_core.specs.Views.{View, view_of}
 use Rattle.log_core.specs.Origin.{Origin, q_of_origin}
 use Rattle.log_core.specs.Cores.{Core, first_core}
-use Rattle.log_core.specs.Steps.{Note, Step, Does, Splits, Joins, Kind, LoadsHead, StoresOwnPin, LoadsImageWord, NoKind, ExchangesHead, ExchangesLink, ExchangesSlot, kind_of_ask, exchange_kind}
+use Rattle.log_core.specs.Steps.{Note, Step, Does, Splits, Joins, Kind, LoadsHead, StoresOwnPin, LoadsImageWord, NoKind, ExchangesHead, ExchangesLink, ExchangesSlot, kind_of_ask}
 use Rattle.log_core.specs.After.{stepped, after}
 use Rattle.log_core.specs.May.{IsOfferedKind}
 use Rattle.log_core.specs.Runs.{MayStep, MaySplit, IsRun, end, is_offered_work}
 use Rattle.log_core.specs.Invariant.{Invariant}
 use Rattle.log_core.specs.Laws.{StepKeeps}
 use Rattle.log_core.proofs.kinds.StepHolds.{head_holds, image_word_holds, pin_holds, seen_holds, bitmap_word_holds, set_bits_holds, clear_bits_holds, stored_holds, mark_holds, fence_holds}
+use Rattle.log_core.proofs.kinds.ExchangeHolds.{link_holds}
 use Rattle.log_core.proofs.kinds.Splits.{split_holds}
 use Rattle.log_core.proofs.kinds.Joins.{join_holds}
-
--- an exchange is of no offered kind
-pub no_exchange : (s : Seat) (q word before next : ℕ) → IsOfferedKind s (exchange_kind q word before next) → ⊥
-no_exchange s q word before next = by (word == head_place) (not (before == 0)) (word % q == 0)
-  where
-    by : (head some link : Bool) → IsOfferedKind s (if head then ExchangesHead before next else if some then NoKind else if link then ExchangesLink word next else ExchangesSlot word next) → ⊥
-    by true some link offered = offered
-    by false true link offered = offered
-    by false false true offered = offered
-    by false false false offered = offered
 
 module _ (o : Origin) (c : Core) (n : ℕ) (inv : Invariant o c) (here : n < length c.views) (unspent : (view_of c.views n).parts ≢ []) (note : Note) where
   abbrev mine : View
@@ -50,6 +40,15 @@ module _ (o : Origin) (c : Core) (n : ℕ) (inv : Invariant o c) (here : n < len
       (λ offered. pin_holds o c n inv here unspent note value f)
   by_own other value f false e = λ offered. absurd offered
 
+  -- an exchange of an image word: of the head it is offered not yet, and else it is from 0
+  by_exchange : (word before next f : ℕ) (head none link : Bool) → (before == 0) ≡ none → slice_index c.memory.now.words word ≡ f →
+      KeepsAsk (Exchange (Image word) before next) (if head then ExchangesHead before next else if not none then NoKind else if link then ExchangesLink word next else ExchangesSlot word next) f f
+  by_exchange word before next f true none link e is = λ offered. absurd offered
+  by_exchange word before next f false false link e is = λ offered. absurd offered
+  by_exchange word before next f false true true e is = subst (λ (k : ℕ). KeepsAsk (Exchange (Image word) k next) (ExchangesLink word next) f f) (sym (eqb-true before 0 e))
+      (subst (λ (k : ℕ). KeepsAsk (Exchange (Image word) 0 next) (ExchangesLink word next) k k) is (λ offered. link_holds o c n inv here unspent note word next))
+  by_exchange word before next f false true false e is = λ offered. absurd offered
+
   each_ask : (ask : Ask) → KeepsAsk ask (kind_of_ask (q_of_origin o) n ask) (found c.memory ask) (found_answer c.memory ask)
   each_ask (Load (Image word)) = by_head word (word == head_place) refl
   each_ask (Load (Pin other)) = λ offered. seen_holds o c n inv here unspent note other
@@ -59,7 +58,7 @@ module _ (o : Origin) (c : Core) (n : ℕ) (inv : Invariant o c) (here : n < len
   each_ask (Store (Pin other) value) = by_own other value (found c.memory (Store (Pin other) value)) (other == n) refl
   each_ask (Store (Map word) value) = λ offered. absurd offered
   each_ask (Store (FenceOf other) value) = λ offered. absurd offered
-  each_ask (Exchange (Image word) before next) = λ offered. absurd (no_exchange note.before (q_of_origin o) word before next offered)
+  each_ask (Exchange (Image word) before next) = by_exchange word before next (slice_index c.memory.now.words word) (word == head_place) (before == 0) (word % q_of_origin o == 0) refl refl
   each_ask (Exchange (Pin other) before next) = λ offered. absurd offered
   each_ask (Exchange (Map word) before next) = λ offered. absurd offered
   each_ask (Exchange (FenceOf other) before next) = λ offered. absurd offered
