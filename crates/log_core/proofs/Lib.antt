@@ -13,6 +13,8 @@ pub mod Trails
 pub mod ChainPlaces
 pub mod MapNames
 pub mod SameContents
+pub mod TailEnds
+pub mod LogGrowth
 pub mod PinnedChains
 pub mod WalkMaps
 pub mod BaseWords

@@ -91,7 +91,7 @@ module _ (o : Origin) (c : Core) (inv : Invariant o c) where
   abbrev nth : ℕ → LogBlock
   nth number = nth_log c.logs number
 
-  some_slot : (slots : List ℕ) → is_full (shape o) slots ≡ true → 0 < length slots
+  pub some_slot : (slots : List ℕ) → is_full (shape o) slots ≡ true → 0 < length slots
   some_slot [] full = (let wide = inv.sizes.image.wide in let none : (3 == words_in (shape o)) ≡ false = ne_eqb 3 (words_in (shape o)) (λ e. omega (arith, e, wide)) in absurd (false_is_true (sym none ∙ full)))
     where
       false_is_true : false ≡ true → ⊥

@@ -43,3 +43,5 @@ pub mod GrownOthers
 pub mod GrownRecords
 pub mod GrowCore
 pub mod HeadOthers
+pub mod GrownKnows
+pub mod GrowingWords

@@ -40,4 +40,8 @@ pub mod LosesHead
 pub mod ExchangesHead
 pub mod HeadHolds
 pub mod StepHolds
+pub mod ExchangesLink
+pub mod LosesExchange
+pub mod LinkHolds
+pub mod ExchangeHolds
 pub mod RunHolds

@@ -249,6 +249,6 @@ IsOfferedKind s (StoresWord word value) = Unit {0}
 IsOfferedKind s (MarksWord word) = Unit {0}
 IsOfferedKind s Fences = Unit {0}
 IsOfferedKind s (ExchangesSlot word entry) = ⊥
-IsOfferedKind s (ExchangesLink word block) = ⊥
+IsOfferedKind s (ExchangesLink word block) = Unit {0}
 IsOfferedKind s (ExchangesHead before next) = Unit {0}
 IsOfferedKind s NoKind = ⊥

@@ -1,4 +1,4 @@
--- So does every run: each ask of an offered kind is one of the ten.
+-- So does every run.
 use Rattle.std.proofs.Common.{◌≡◌, ◌≢◌, ◌<◌, ◌==◌, ◌%◌, not, ℕ, Bool, true, false, if◌then◌else◌, List, [], ◌∷◌, length, refl, sym, subst, slice_index}
 use Rattle.std.specs.List.{list_all}
 use Rattle.std.proofs.lemmas.Bool.{eqb-true}
@@ -17,6 +17,7 @@ use Rattle.log_core.specs.Runs.{MayStep, MaySplit, IsRun, end, is_offered_work}
 use Rattle.log_core.specs.Invariant.{Invariant}
 use Rattle.log_core.specs.Laws.{StepKeeps}
 use Rattle.log_core.proofs.kinds.StepHolds.{head_holds, image_word_holds, pin_holds, seen_holds, bitmap_word_holds, set_bits_holds, clear_bits_holds, stored_holds, mark_holds, head_exchange_holds, fence_holds}
+use Rattle.log_core.proofs.kinds.ExchangeHolds.{link_holds}
 use Rattle.log_core.proofs.kinds.Splits.{split_holds}
 use Rattle.log_core.proofs.kinds.Joins.{join_holds}
 
@@ -39,14 +40,16 @@ module _ (o : Origin) (c : Core) (n : ℕ) (inv : Invariant o c) (here : n < len
       (λ offered. pin_holds o c n inv here unspent note value f)
   by_own other value f false e = λ offered. absurd offered
 
-  -- an exchange of the head, of a link or of a slot
-  by_exchange : (word before next : ℕ) (head some link : Bool) → (word == head_place) ≡ head → KeepsAsk (Exchange (Image word) before next)
-      (if head then ExchangesHead before next else if some then NoKind else if link then ExchangesLink word next else ExchangesSlot word next) (slice_index c.memory.now.words word) (slice_index c.memory.now.words word)
-  by_exchange word before next true some link e = subst (λ (w : ℕ). KeepsAsk (Exchange (Image w) before next) (ExchangesHead before next) (slice_index c.memory.now.words w) (slice_index c.memory.now.words w)) (sym (eqb-true word head_place e))
-      (λ offered. head_exchange_holds o c n inv here unspent note before next)
-  by_exchange word before next false true link e = λ offered. absurd offered
-  by_exchange word before next false false true e = λ offered. absurd offered
-  by_exchange word before next false false false e = λ offered. absurd offered
+  -- an exchange of an image word: of the head, or else from 0
+  by_exchange : (word before next f : ℕ) (head none link : Bool) → (word == head_place) ≡ head → (before == 0) ≡ none → slice_index c.memory.now.words word ≡ f →
+      KeepsAsk (Exchange (Image word) before next) (if head then ExchangesHead before next else if not none then NoKind else if link then ExchangesLink word next else ExchangesSlot word next) f f
+  by_exchange word before next f true none link at e is = subst (λ (k : ℕ). KeepsAsk (Exchange (Image word) before next) (ExchangesHead before next) k k) is
+      (subst (λ (w : ℕ). KeepsAsk (Exchange (Image w) before next) (ExchangesHead before next) (slice_index c.memory.now.words w) (slice_index c.memory.now.words w)) (sym (eqb-true word head_place at))
+      (λ offered. head_exchange_holds o c n inv here unspent note before next))
+  by_exchange word before next f false false link at e is = λ offered. absurd offered
+  by_exchange word before next f false true true at e is = subst (λ (k : ℕ). KeepsAsk (Exchange (Image word) k next) (ExchangesLink word next) f f) (sym (eqb-true before 0 e))
+      (subst (λ (k : ℕ). KeepsAsk (Exchange (Image word) 0 next) (ExchangesLink word next) k k) is (λ offered. link_holds o c n inv here unspent note word next))
+  by_exchange word before next f false true false at e is = λ offered. absurd offered
 
   each_ask : (ask : Ask) → KeepsAsk ask (kind_of_ask (q_of_origin o) n ask) (found c.memory ask) (found_answer c.memory ask)
   each_ask (Load (Image word)) = by_head word (word == head_place) refl
@@ -57,7 +60,7 @@ module _ (o : Origin) (c : Core) (n : ℕ) (inv : Invariant o c) (here : n < len
   each_ask (Store (Pin other) value) = by_own other value (found c.memory (Store (Pin other) value)) (other == n) refl
   each_ask (Store (Map word) value) = λ offered. absurd offered
   each_ask (Store (FenceOf other) value) = λ offered. absurd offered
-  each_ask (Exchange (Image word) before next) = by_exchange word before next (word == head_place) (not (before == 0)) (word % q_of_origin o == 0) refl
+  each_ask (Exchange (Image word) before next) = by_exchange word before next (slice_index c.memory.now.words word) (word == head_place) (before == 0) (word % q_of_origin o == 0) refl refl refl
   each_ask (Exchange (Pin other) before next) = λ offered. absurd offered
   each_ask (Exchange (Map word) before next) = λ offered. absurd offered
   each_ask (Exchange (FenceOf other) before next) = λ offered. absurd offered

@@ -67,16 +67,16 @@ module _ (o : Origin) (c : Core) (n : ℕ) (inv : Invariant o c) (here : n < len
   abbrev mine : View
   mine = view_of c.views n
 
-  abbrev began : List ℕ
+  abbrev pub began : List ℕ
   began = began_if (is_begun (op_in mine.seat) (op_in note.before)) c.began n (end_of o c.history)
 
-  began_fits : length began ≡ length c.began
+  pub began_fits : length began ≡ length c.began
   began_fits = began_length (is_begun (op_in mine.seat) (op_in note.before)) c.began n (end_of o c.history)
 
-  began_others : (k : ℕ) → k ≢ n → slice_index began k ≡ slice_index c.began k
+  pub began_others : (k : ℕ) → k ≢ n → slice_index began k ≡ slice_index c.began k
   began_others = began_other (is_begun (op_in mine.seat) (op_in note.before)) c.began n (end_of o c.history)
 
-  began_lows : (k : ℕ) → slice_index began k ≤ end_of o c.history
+  pub began_lows : (k : ℕ) → slice_index began k ≤ end_of o c.history
   began_lows k = began_low (is_begun (op_in mine.seat) (op_in note.before)) c.began n (end_of o c.history) k (inv.records.begun k)
 
   module _ (kind : Kind) (f : ℕ) (step : MayStep o c mine kind note f) (before : list_all is_offered_work step.begins.works ≡ true) (later : list_all is_offered_work step.enters.computed.works ≡ true) where
@@ -108,7 +108,7 @@ module _ (o : Origin) (c : Core) (n : ℕ) (inv : Invariant o c) (here : n < len
     kind_holds m owner leaves changes = kind_leaves m owner leaves (changes_leave o c n m _ owner changes)
 
   -- the premises of a step of a kind
-  abbrev Keeps : Kind → ℕ → Type 0 → Type 0
+  abbrev pub Keeps : Kind → ℕ → Type 0 → Type 0
   Keeps kind f Holds = (step : MayStep o c mine kind note f) → list_all is_offered_work step.begins.works ≡ true → list_all is_offered_work step.enters.computed.works ≡ true → Holds
 
   -- the memory with other pin words

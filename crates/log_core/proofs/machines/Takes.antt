@@ -1,5 +1,5 @@
 -- An ask that is allowed is on a word that the memory has.
-use Rattle.std.proofs.Common.{◌≡◌, ◌%◌, not, ◌≢◌, ◌<◌, ◌/◌, ◌==◌, ℕ, Bool, true, false, if◌then◌else◌, [], length, refl, sym, subst, arith, slice_index}
+use Rattle.std.proofs.Common.{◌≡◌, ◌≢◌, ◌<◌, ◌/◌, ◌==◌, ◌%◌, not, ℕ, Bool, true, false, if◌then◌else◌, [], length, refl, sym, subst, arith, slice_index}
 use Rattle.std.proofs.lemmas.Bool.{eqb-true}
 use Rattle.asks.specs.declared.ask.Place.TheVariants.{Image, Pin, Map, FenceOf}
 use Rattle.asks.specs.declared.ask.Ask.{Ask}
@@ -11,7 +11,7 @@ use Rattle.log_core.specs.Entries.{head_place}
 use Rattle.log_core.specs.Views.{view_of, op_in}
 use Rattle.log_core.specs.Origin.{Origin, q_of_origin}
 use Rattle.log_core.specs.Cores.{Core}
-use Rattle.log_core.specs.Steps.{ExchangesHead, ExchangesLink, ExchangesSlot, Note, Does, is_begun, LoadsHead, StoresOwnPin, LoadsImageWord, NoKind, kind_of_ask}
+use Rattle.log_core.specs.Steps.{Note, Does, is_begun, LoadsHead, StoresOwnPin, LoadsImageWord, NoKind, ExchangesHead, ExchangesLink, ExchangesSlot, kind_of_ask}
 use Rattle.log_core.specs.Files.{end_of}
 use Rattle.log_core.specs.Works.{words_of}
 use Rattle.log_core.specs.Needs.{owned_numbers}
@@ -26,6 +26,7 @@ use Rattle.log_core.proofs.ChainPlaces.{head_inside}
 use Rattle.log_core.proofs.kinds.MarksFit.{mark_fits}
 use Rattle.log_core.proofs.kinds.LoadsImageWord.{named_inside}
 use Rattle.log_core.proofs.kinds.StepHolds.{at_ask}
+use Rattle.log_core.proofs.kinds.ExchangeHolds.{link_inside}
 
 module _ (o : Origin) (c : Core) (seat : ℕ) (note : Note) (inv : Invariant o c) (made : seat < length c.views) (unspent : (view_of c.views seat).parts ≢ []) where
   head_taken : head_place < length c.memory.now.words
@@ -60,12 +61,16 @@ module _ (o : Origin) (c : Core) (seat : ℕ) (note : Note) (inv : Invariant o c
   image_inside word owned pin began known =
       (let low = own_inside o c seat note.before (ghost_at (view_of c.views seat) note) pin began inv known unspent word owned in let many = inv.sizes.words.words in omega (arith, low, many))
 
-  by_exchange : (word before next : ℕ) (head some link : Bool) → (word == head_place) ≡ head →
-      IsOfferedKind note.before (if head then ExchangesHead before next else if some then NoKind else if link then ExchangesLink word next else ExchangesSlot word next) → word < length c.memory.now.words
-  by_exchange word before next true some link e offered = subst (λ (k : ℕ). k < length c.memory.now.words) (sym (eqb-true word head_place e)) head_taken
-  by_exchange word before next false true link e offered = absurd offered
-  by_exchange word before next false false true e offered = absurd offered
-  by_exchange word before next false false false e offered = absurd offered
+  -- an exchange of an image word
+  by_exchange : (word before next pin began : ℕ) → Knows o c seat note.before (ghost_at (view_of c.views seat) note) pin began → (head none link : Bool) → (word == head_place) ≡ head →
+      IsOfferedKind note.before (if head then ExchangesHead before next else if not none then NoKind else if link then ExchangesLink word next else ExchangesSlot word next) →
+      May o c (ghost_at (view_of c.views seat) note) note.before (if head then ExchangesHead before next else if not none then NoKind else if link then ExchangesLink word next else ExchangesSlot word next) →
+      word < length c.memory.now.words
+  by_exchange word before next pin began known true none link at offered may = subst (λ (k : ℕ). k < length c.memory.now.words) (sym (eqb-true word head_place at)) head_taken
+  by_exchange word before next pin began known false false link at offered may = absurd offered
+  by_exchange word before next pin began known false true true at offered may =
+      (let low = link_inside o c seat note.before (ghost_at (view_of c.views seat) note) pin began inv known unspent word next may in let many = inv.sizes.words.words in omega (arith, low, many))
+  by_exchange word before next pin began known false true false at offered may = absurd offered
 
   takes_by : (ask : Ask) → KnownAt ask → IsOfferedKind note.before (kind_of_ask (q_of_origin o) seat ask) →
       (step : MayStep o c (view_of c.views seat) (kind_of_ask (q_of_origin o) seat ask) note (found_answer c.memory ask)) → MemoryTakes c.memory ask
@@ -77,7 +82,7 @@ module _ (o : Origin) (c : Core) (seat : ℕ) (note : Note) (inv : Invariant o c
   takes_by (Store (Pin other) value) known offered step = by_own other value (other == seat) refl offered
   takes_by (Store (Map word) value) known offered step = absurd offered
   takes_by (Store (FenceOf other) value) known offered step = absurd offered
-  takes_by (Exchange (Image word) before next) known offered step = by_exchange word before next (word == head_place) (not (before == 0)) (word % q_of_origin o == 0) refl offered
+  takes_by (Exchange (Image word) before next) known offered step = by_exchange word before next _ _ (known step) (word == head_place) (before == 0) (word % q_of_origin o == 0) refl offered step.may
   takes_by (Exchange (Pin other) before next) known offered step = absurd offered
   takes_by (Exchange (Map word) before next) known offered step = absurd offered
   takes_by (Exchange (FenceOf other) before next) known offered step = absurd offered
