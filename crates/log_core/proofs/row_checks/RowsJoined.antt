@@ -30,13 +30,13 @@ first_reached o = record { steps = []; is_run = tt; ends = refl }
 sync_reached : IsReached image_a sync_fenced
 sync_reached =
     let begun : IsReached image_a sync_begun = reach (first_reached image_a) (step_allowed image_a (first_core image_a) 0 1 (Load (Image 3)) (Begins Sync [] ∷ []) (omega arith) (one_part 0)
-        (record { none_runs = refl; not_won = refl; no_head = refl; no_marks = refl; none_laid = refl; steps = sync_steps }, tt) (omega arith) tt tt refl) in
+    (record { none_runs = refl; not_won = refl; no_head = refl; no_marks = refl; none_laid = refl; steps = sync_steps }, tt) (omega arith) tt tt refl) in
     let stored : IsReached image_a sync_stored = reach begun (step_allowed image_a sync_begun 0 1 (Store (Pin 0) 1) [] (omega arith) (one_part 0) tt refl (record { value_is = inr (λ none. omega (arith, none), refl); no_marks = λ sync. refl }) tt refl) in
     let pinned : IsReached image_a sync_pinned = reach stored (step_allowed image_a sync_stored 0 1 (Load (Image 3)) [] (omega arith) (one_part 0) tt refl tt tt refl) in
     let read : IsReached image_a sync_read = reach pinned (step_allowed image_a sync_pinned 0 1 (Load (Image 25)) [] (omega arith) (one_part 0) tt refl (record { valid = refl; named = refl }) tt refl) in
     let walked : IsReached image_a sync_walked = reach read (step_allowed image_a sync_read 0 1 (Load (Image 27)) (StartsFromLog ∷ []) (omega arith) (one_part 0)
-        (record { at_front = record { valid = refl; pinned = refl; front = λ none. cc }; free = record { not_won = refl; none_laid = refl; no_sync = refl; no_head = refl }; no_bases = refl; kind_is = refl }, tt)
-        refl (record { valid = refl; named = refl }) tt refl) in
+    (record { at_front = record { valid = refl; pinned = refl; front = λ none. cc }; free = record { not_won = refl; none_laid = refl; no_sync = refl; no_head = refl }; no_bases = refl; kind_is = refl }, tt)
+    refl (record { valid = refl; named = refl }) tt refl) in
     let marked : IsReached image_a sync_marked = reach walked (step_allowed image_a sync_walked 0 1 (Mark 3) [] (omega arith) (one_part 0) tt refl (OfHead refl refl refl) tt refl) in
     reach marked (step_allowed image_a sync_marked 0 1 Fence [] (omega arith) (one_part 0) tt refl (record { in_sync = λ job tail none. (refl, refl, record { head = refl; each = λ place walked. absurd (false≢true walked) }) }) tt refl)
   where
