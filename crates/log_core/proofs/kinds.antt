@@ -35,6 +35,10 @@ pub mod SetsBits
 pub mod ClearsBits
 pub mod GivesBack
 pub mod Splits
+pub mod IdleViews
+pub mod JoinedViews
+pub mod JoinedWalks
+pub mod JoinedRecords
 pub mod Joins
 pub mod LosesHead
 pub mod ExchangesHead

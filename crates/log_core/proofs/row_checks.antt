@@ -26,3 +26,4 @@ pub mod RowsOffered
 pub mod RowsStart
 pub mod RowsReached
 pub mod RowsEnded
+pub mod RowsJoined

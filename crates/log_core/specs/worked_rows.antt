@@ -8,3 +8,4 @@ pub mod CoreGaps
 pub mod Offered
 pub mod Ended
 pub mod Accepted
+pub mod Joined
