@@ -44,3 +44,4 @@ pub mod GrowCore
 pub mod HeadOthers
 pub mod GrownKnows
 pub mod GrowingWords
+pub mod SlotAdded

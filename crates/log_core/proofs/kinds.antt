@@ -38,5 +38,6 @@ pub mod StepHolds
 pub mod ExchangesLink
 pub mod LosesExchange
 pub mod LinkHolds
+pub mod SealsSlot
 pub mod ExchangeHolds
 pub mod RunHolds
