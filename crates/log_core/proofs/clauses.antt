@@ -45,3 +45,4 @@ pub mod HeadOthers
 pub mod GrownKnows
 pub mod GrowingWords
 pub mod SlotAdded
+pub mod WriteAdded
