@@ -39,5 +39,6 @@ pub mod ExchangesLink
 pub mod LosesExchange
 pub mod LinkHolds
 pub mod SealsSlot
+pub mod CommitsFile
 pub mod ExchangeHolds
 pub mod RunHolds
