@@ -40,5 +40,6 @@ pub mod LosesExchange
 pub mod LinkHolds
 pub mod SealsSlot
 pub mod CommitsFile
+pub mod CommitsEntry
 pub mod ExchangeHolds
 pub mod RunHolds
