@@ -41,5 +41,6 @@ pub mod LinkHolds
 pub mod SealsSlot
 pub mod CommitsFile
 pub mod CommitsEntry
+pub mod CommitsSeat
 pub mod ExchangeHolds
 pub mod RunHolds

@@ -59,40 +59,40 @@ module _ (o : Origin) (c : Core) (n : ℕ) (s : Seat) (g : Ghost) (pin began wor
   abbrev m : Memory
   m = memory_after c.memory n (Exchange (Image word) 0 entry)
 
-  abbrev told : Meaning
+  abbrev pub told : Meaning
   told = meaning o c n s g pin began word entry number inv f unspent may empty
 
-  abbrev put : Write
+  abbrev pub put : Write
   put = w o c n s g pin began word entry number inv f unspent may empty
 
-  abbrev writes : List Write
+  abbrev pub writes : List Write
   writes = history o c n s g pin began word entry number inv f unspent may empty
 
   abbrev pub x : Growth
   x = record { n = n; seat = s; memory = m; history = writes; logs = slot_added c.logs entry; linked = []; named = names told; index = s.walk.tail_slot; value = entry }
 
-  same_image : seat_shape s ≡ shape o
+  pub same_image : seat_shape s ≡ shape o
   same_image = image o c n s g pin began word entry number inv f unspent may empty
 
-  words : words_of s ≡ words_in (shape o)
+  pub words : words_of s ≡ words_in (shape o)
   words = same_words o c n s g pin began inv f unspent may.at_tail.valid may.at_tail.ready
 
-  at_last : IsLastTail o c s.walk
+  pub at_last : IsLastTail o c s.walk
   at_last = last o c n s g pin began word entry number inv f unspent may empty
 
   empty_here : slice_index c.memory.now.words (place_in (seat_shape s) s.walk.tail_block s.walk.tail_slot) ≡ 0
   empty_here = ap (λ (k : ℕ). slice_index c.memory.now.words k) (sym may.slot) ∙ empty
 
-  long : length (last_log c).slots ≡ s.walk.tail_slot - 3
+  pub long : length (last_log c).slots ≡ s.walk.tail_slot - 3
   long = last_long o c n s g pin began inv f unspent may.at_tail.valid may.at_tail.ready may.inside empty_here
 
   used : entries_used (last_log c) ≡ s.walk.tail_slot - 3
   used = last_used o c n s g pin began inv f unspent may.at_tail.valid may.at_tail.ready may.inside empty_here
 
-  has_walked : HasWalked o (entries o c.history) c.logs s.walk
+  pub has_walked : HasWalked o (entries o c.history) c.logs s.walk
   has_walked = walked o c n s g pin began inv f unspent may.at_tail.valid may.at_tail.ready
 
-  unclosed : s.walk.tail_slot ≢ words_in (shape o)
+  pub unclosed : s.walk.tail_slot ≢ words_in (shape o)
   unclosed e = (let same = words in let low = may.inside in omega (arith, e, same, low))
 
   word_inside : word < length o.words
@@ -103,13 +103,13 @@ module _ (o : Origin) (c : Core) (n : ℕ) (s : Seat) (g : Ghost) (pin began wor
       (may.slot ∙ (ap (λ (i : Shape). place_in i s.walk.tail_block s.walk.tail_slot) same_image ∙ ap (λ (b : ℕ). place_in (shape o) b s.walk.tail_slot) (sym at_last.block)))
       (exchange_wins o c.memory (length c.views) inv.sizes.words n word entry word_inside empty)
 
-  one_entry : length (entry_words (entry ∷ [])) ≡ 1
+  pub one_entry : length (entry_words (entry ∷ [])) ≡ 1
   one_entry = rw (ne_eqb entry EMPTY used_entry, ne_eqb entry SEAL no_seal) refl
 
-  next_end : end_of o writes ≡ end_of o c.history + 1
+  pub next_end : end_of o writes ≡ end_of o c.history + 1
   next_end = end_more o c.history put
 
-  puts : PutsSlot o c m s.walk.tail_slot entry (entries o writes) (end_of o writes)
+  pub puts : PutsSlot o c m s.walk.tail_slot entry (entries o writes) (end_of o writes)
   puts = (let low = has_walked.from in let many = long in let all = used in let count = inv.order.log.count in let end = next_end in record {
     memory = memory_grows;
     index_is = omega (arith, low, many);

@@ -70,7 +70,7 @@ module _ (o : Origin) (c : Core) (n : ℕ) (s : Seat) (g : Ghost) (pin began wor
   pub last : IsLastTail o c s.walk
   last = slot_last o c n s g pin began inv f unspent may.at_tail.valid may.at_tail.ready may.inside empty_here
 
-  bytes_same : s.geometry.block_bytes ≡ o.geometry.block_bytes
+  pub bytes_same : s.geometry.block_bytes ≡ o.geometry.block_bytes
   bytes_same = ap (λ (geometry : Geometry). geometry.block_bytes) (f.fits unspent).geometry
 
   pub op_same : op_or_size (op_in s) ≡ may.op
@@ -128,7 +128,7 @@ module _ (o : Origin) (c : Core) (n : ℕ) (s : Seat) (g : Ghost) (pin began wor
       ∙ (ap (λ (e : LogEntry). max (history_size_at o (entries o history) end) (entry_end (shape o) e.meaning)) next_entry
       ∙ ap (λ (k : ℕ). max k (entry_end (shape o) meaning)) (size_front end (omega arith))))
 
-  size_now : s.walk.size ≡ history_size_at o es end
+  pub size_now : s.walk.size ≡ history_size_at o es end
   size_now = (walked o c n s g pin began inv f unspent may.at_tail.valid may.at_tail.ready).size_is ∙ ap (λ (k : ℕ). history_size_at o es k) last.position
 
   new_size : length (file_at o history (end_of o history)) ≡ history_size_at o (entries o history) (end_of o history)
