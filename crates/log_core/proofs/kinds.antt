@@ -42,5 +42,6 @@ pub mod SealsSlot
 pub mod CommitsFile
 pub mod CommitsEntry
 pub mod CommitsSeat
+pub mod SlotHolds
 pub mod ExchangeHolds
 pub mod RunHolds

@@ -88,7 +88,7 @@ write_fits = (
       };
     };
   },
-  λ allowed. allowed.offered.kind,
+  λ allowed. (let none = allowed.offered.no_record in cc),
 )
 
 pub views_join : ViewsJoin

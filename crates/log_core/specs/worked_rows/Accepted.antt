@@ -126,7 +126,7 @@ pin_steps =
 abbrev pub PinRuns : Type 0
 PinRuns = IsRun image_a pin_steps × (end image_a pin_steps ≡ pinned)
 
--- the exchange that puts an entry in, with the record that ends its call, meets the condition of its kind; but no exchange is a step yet
+-- the exchange that puts an entry in, with the record that ends its call, meets the condition of its kind; but no record is added yet
 abbrev pub write_step : Step
 write_step = step_of image_a racing 0 (Exchange (Image 27) 0 to_first) 1 [] [] (first_call ∷ [])
 
