@@ -1,13 +1,12 @@
 -- A history with a write more.
-use Rattle.std.proofs.Common.{◌≡◌, ◌≢◌, ◌<◌, ◌≤◌, ◌+◌, ◌-◌, ◌*◌, ◌^◌, ◌==◌, nat_lt, max, if◌then◌else◌, ℕ, Bool, true, false, List, [], ◌∷◌, ◌++◌, length, map, take, drop, refl, sym, ◌∙◌, ap, subst, arith, slice_index_or, append_assoc, append-nil, ⊎_elim, Option, Some, None}
-use Rattle.std.proofs.lemmas.Bool.{le-ltb, eq-eqb, cases_lt}
+use Rattle.std.proofs.Common.{◌≡◌, ◌≢◌, ◌≤◌, ◌+◌, ◌-◌, ◌==◌, nat_lt, if◌then◌else◌, ℕ, Bool, true, false, List, [], ◌∷◌, ◌++◌, length, map, take, drop, refl, sym, ◌∙◌, ap, subst, arith, slice_index_or, append_assoc, append-nil, Some, None}
+use Rattle.std.proofs.lemmas.Bool.{le-ltb, eq-eqb}
 use Rattle.std.proofs.lemmas.Grind.{flat_map-append}
-use Rattle.std.proofs.lemmas.List.{length-map, length_push, get_or_push, get_or_append_left, take-append-le, drop-append-le, map-append, take_all}
+use Rattle.std.proofs.lemmas.List.{length_push, get_or_push, get_or_append_left, take-append-le, drop-append-le, map-append, take_all}
 use Rattle.log_entry.specs.Shape.{longest_of, limit_of}
 use Rattle.log_entry.specs.Legal.{is_write, file_after, write_refusal, last_position, touched_blocks, appended_blocks}
 use Rattle.log_entry.specs.declared.calls.Op.{Op}
 use Rattle.log_entry.specs.declared.calls.Op.TheVariants.{Pwrite, Append, Pread, Size, Sync, Collect}
-use Rattle.log_entry.specs.declared.calls.WriteRefusal.{WriteRefusal}
 use Rattle.log_entry.specs.declared.calls.WriteRefusal.TheVariants.{TooLong, TooLarge, PositionLimit}
 use Rattle.log_image.specs.Entries.{names}
 use Rattle.log_core.specs.Entries.{LogEntry, no_entry, entry_names}
@@ -15,7 +14,6 @@ use Rattle.log_core.specs.Origin.{Origin, first_position, first_entries}
 use Rattle.log_core.specs.Files.{Write, no_write, entries, end_of, file_at, early_file, file_after_writes, accepted_reply, write_at}
 use Rattle.log_core.specs.May.{refusal_at}
 use Rattle.log_core.proofs.clauses.Growth.{HistoryGrows}
-use Rattle.log_core.proofs.clauses.OneView.{same_or_other}
 
 module _ (o : Origin) (history : List Write) (w : Write) where
   abbrev pub more : List Write

@@ -1,58 +1,38 @@
 -- An exchange of the tail's slot for an entry that wins: its blocks are in the chain, and the call has put in its entry.
-use Rattle.std.proofs.Common.{◌≡◌, ◌≢◌, ◌<◌, ◌≤◌, ◌+◌, ◌-◌, ◌*◌, ◌==◌, ◌&&◌, ◌||◌, max, ℕ, Bool, true, false, List, [], ◌∷◌, ◌++◌, length, refl, sym, ◌∙◌, ap, subst, arith, inr, slice_index, slice_index_or, Option, Some, None}
-use Rattle.std.specs.List.{AllByRecursion}
-use Rattle.std.specs.Option.{option_or}
-use Rattle.std.proofs.lemmas.Bool.{eq-eqb, ne_eqb, or_right, and_parts}
+use Rattle.std.proofs.Common.{◌≡◌, ◌≢◌, ◌<◌, ◌+◌, ◌-◌, ℕ, true, List, [], ◌∷◌, length, refl, sym, ◌∙◌, ap, subst, arith, slice_index}
+use Rattle.std.proofs.lemmas.Bool.{ne_eqb}
 use Rattle.std.proofs.lemmas.List.{length_push}
-use Rattle.log_entry.specs.Shape.{longest_of}
-use Rattle.log_entry.specs.Fields.{field}
-use Rattle.log_entry.specs.Legal.{is_write, file_after}
-use Rattle.log_entry.specs.declared.calls.Call.{Call}
-use Rattle.log_entry.specs.declared.calls.Op.{Op}
-use Rattle.log_entry.specs.declared.layouts.TheConstants.{EMPTY, SEAL, INDIRECT_BLOCK}
-use Rattle.log_entry.specs.declared.shapes.Geometry.{Geometry}
+use Rattle.log_entry.specs.declared.layouts.TheConstants.{EMPTY, SEAL}
 use Rattle.log_image.specs.Image.{Shape, words_in, is_in_data}
 use Rattle.log_image.specs.Entries.{Meaning, names}
-use Rattle.log_image.specs.Maps.{block_in, entry_end}
 use Rattle.log_image.specs.Blocks.{entry_words}
 use Rattle.log_image.specs.Chains.{is_listed}
-use Rattle.log_image.specs.Format.{fits, is_direct, is_indirect, is_indirect_block}
-use Rattle.pmem_words.specs.Seats.{Seat, Walk, Calling, Blocks}
+use Rattle.pmem_words.specs.Seats.{Seat}
 use Rattle.asks.specs.declared.ask.Place.TheVariants.{Image}
 use Rattle.asks.specs.declared.ask.Ask.TheVariants.{Exchange}
 use Rattle.persistence.specs.Memory.{Memory, cell, memory_after}
-use Rattle.log_core.specs.Entries.{place_in, LogEntry, no_entry}
-use Rattle.log_core.specs.Views.{Ghost, Stored, HeadPut, view_of, op_in, op_of}
-use Rattle.log_core.specs.Origin.{Origin, shape, start_base, first_position, LogBlock}
-use Rattle.log_core.specs.Files.{Write, entries, end_of, file_at, history_map_at, write_at}
-use Rattle.log_core.specs.Cores.{Core, log_at, entries_used, is_sealed, is_full}
-use Rattle.log_core.specs.Works.{seat_shape, words_of, touches, bases_left, without_bases, walk_past}
-use Rattle.log_core.specs.Steps.{blocks_but, content_of, stored_but}
+use Rattle.log_core.specs.Entries.{place_in, LogEntry}
+use Rattle.log_core.specs.Views.{Ghost, view_of}
+use Rattle.log_core.specs.Origin.{Origin, shape, start_base}
+use Rattle.log_core.specs.Files.{Write, entries, end_of}
+use Rattle.log_core.specs.Cores.{Core, entries_used}
+use Rattle.log_core.specs.Works.{seat_shape, words_of}
+use Rattle.log_core.specs.Steps.{content_of}
 use Rattle.log_core.specs.After.{slot_added}
 use Rattle.log_core.specs.May.{MayCommit, is_fenced}
 use Rattle.log_core.specs.Certain.{IsCertain}
-use Rattle.log_core.specs.Walks.{WalkHolds, HasWalked}
-use Rattle.log_core.specs.Records.{WritesFit, WritesOnce, BasesHold, RecordHolds, one_if, writes_at}
-use Rattle.log_core.specs.Invariant.{Invariant, around}
-use Rattle.log_core.specs.Knows.{with_seat, Knows}
-use Rattle.log_core.proofs.Each.{each_push, each_weaker}
-use Rattle.log_core.proofs.BaseWords.{AreBases, left_bases, left_some}
-use Rattle.log_core.proofs.FileLimits.{fits_inside}
-use Rattle.log_core.proofs.LogGrowth.{more_used}
-use Rattle.log_core.proofs.WalkMaps.{entry_taken, length_with_entry}
-use Rattle.log_core.proofs.TailEnds.{IsLastTail, stands_at_end, same_words, tail_load, walked, last_long, last_used}
+use Rattle.log_core.specs.Walks.{HasWalked}
+use Rattle.log_core.specs.Invariant.{Invariant}
+use Rattle.log_core.specs.Knows.{Knows}
+use Rattle.log_core.proofs.Each.{each_push}
+use Rattle.log_core.proofs.TailEnds.{IsLastTail, same_words, tail_load, walked, last_long, last_used}
 use Rattle.log_core.proofs.kinds.LoadsImageWord.{named_inside}
-use Rattle.log_core.proofs.kinds.TakesEntry.{untouched, eight_bytes}
-use Rattle.log_core.proofs.kinds.CommitsFile.{meaning, w, history, image, last, op_same, write_ok, allowed, form, next_file, map_end, size_end, history_holds, mine, entry_says, file_holds}
+use Rattle.log_core.proofs.kinds.CommitsFile.{meaning, w, history, image, last, write_ok, allowed, history_holds, mine, entry_says, file_holds}
 use Rattle.log_core.proofs.clauses.Exchanged.{WordGrows, exchange_wins}
 use Rattle.log_core.proofs.clauses.FencedContents.{fenced_owned, content_long, content_certain}
-use Rattle.log_core.proofs.clauses.SlotAdded.{PutsSlot, logs_grow, order, stands, synced_stay, used_more, more_at}
-use Rattle.log_core.proofs.clauses.WriteAdded.{end_more, entries_more, history_more, write_is, entry_is, below_last}
-use Rattle.log_core.proofs.clauses.Growth.{Growth, Grows, last_log, grown}
-use Rattle.log_core.proofs.clauses.GrownKnows.{owns_left, walk_same, FitsGrown, grown_knows}
-use Rattle.log_core.proofs.clauses.GrownOthers.{owned_grown}
-use Rattle.log_core.proofs.clauses.GrownRecords.{old_or_new, none_at, writes_grown}
-use Rattle.log_core.proofs.clauses.OwnedBut.{left_hold}
+use Rattle.log_core.proofs.clauses.SlotAdded.{PutsSlot, logs_grow, order, stands, synced_stay}
+use Rattle.log_core.proofs.clauses.WriteAdded.{end_more, entries_more, history_more, entry_is, below_last}
+use Rattle.log_core.proofs.clauses.Growth.{Growth, Grows, last_log}
 
 module _ (o : Origin) (c : Core) (n : ℕ) (s : Seat) (g : Ghost) (pin began word entry number : ℕ) (inv : Invariant o c) (f : Knows o c n s g pin began) (here : n < length c.views) (unspent : (view_of c.views n).parts ≢ [])
     (used_entry : entry ≢ EMPTY) (no_seal : entry ≢ SEAL) (may : MayCommit o c.history s word entry) (empty : slice_index c.memory.now.words word ≡ 0) where

@@ -1,5 +1,5 @@
 -- An exchange of the tail's slot for an entry that wins: the history has its write, and the file after it is what the new map holds.
-use Rattle.std.proofs.Common.{◌≡◌, ◌≢◌, ◌<◌, ◌≤◌, ◌+◌, ◌-◌, ◌*◌, ◌==◌, ◌||◌, max, if◌then◌else◌, ℕ, Bool, true, false, List, [], ◌∷◌, ◌++◌, length, take, refl, sym, ◌∙◌, ap, subst, arith, slice_index, slice_index_or, Option, Some, None}
+use Rattle.std.proofs.Common.{◌≡◌, ◌≢◌, ◌<◌, ◌≤◌, ◌+◌, ◌-◌, ◌*◌, ◌||◌, max, if◌then◌else◌, ℕ, Bool, true, List, [], ◌∷◌, ◌++◌, length, take, refl, sym, ◌∙◌, ap, subst, arith, slice_index, slice_index_or, Option, Some, None}
 use Rattle.std.specs.Option.{option_or}
 use Rattle.std.proofs.lemmas.Bool.{eq-eqb}
 use Rattle.std.proofs.lemmas.List.{length_push, get_or_push, get_or_append_left}
@@ -9,18 +9,18 @@ use Rattle.log_entry.specs.Legal.{is_write, file_after}
 use Rattle.log_entry.specs.declared.calls.Op.{Op}
 use Rattle.log_entry.specs.declared.layouts.TheConstants.{ENTRY_KIND, INDIRECT, INDIRECT_BLOCK}
 use Rattle.log_entry.specs.declared.shapes.Geometry.{Geometry}
-use Rattle.log_image.specs.Image.{Shape, words_in}
+use Rattle.log_image.specs.Image.{Shape}
 use Rattle.log_image.specs.Entries.{Meaning, names, indirect_meaning}
 use Rattle.log_image.specs.Maps.{block_in, map_of, entry_end, size_after}
 use Rattle.log_image.specs.Chains.{is_listed}
 use Rattle.pmem_words.specs.Seats.{Seat}
 use Rattle.persistence.specs.Memory.{cell}
-use Rattle.log_core.specs.Entries.{head_place, place_in, LogEntry, no_entry, entry_by, meaning_by, meanings}
+use Rattle.log_core.specs.Entries.{head_place, place_in, LogEntry, no_entry, entry_by, meanings}
 use Rattle.log_core.specs.Views.{Ghost, view_of, op_in}
 use Rattle.log_core.specs.Origin.{Origin, shape, first_position, start_base, start_size, first_snapshot, OwnedBy}
 use Rattle.log_core.specs.Files.{Write, no_write, entries, end_of, file_at, history_map_at, history_size_at, accepted_reply, byte_in}
 use Rattle.log_core.specs.Cores.{Core, is_named, data_names}
-use Rattle.log_core.specs.Works.{seat_shape, words_of}
+use Rattle.log_core.specs.Works.{seat_shape}
 use Rattle.log_core.specs.Steps.{content_of, new_meaning}
 use Rattle.log_core.specs.After.{op_or_size}
 use Rattle.log_core.specs.May.{MayCommit, is_log_entry_by, refusal_at}

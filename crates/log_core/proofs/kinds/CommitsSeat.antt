@@ -1,5 +1,5 @@
 -- What a core knows of the seat that has put in its entry.
-use Rattle.std.proofs.Common.{◌≡◌, ◌≢◌, ◌<◌, ◌≤◌, ◌+◌, ◌-◌, ◌*◌, ◌==◌, ◌&&◌, ◌||◌, max, if◌then◌else◌, ℕ, Bool, true, false, List, [], ◌∷◌, ◌++◌, length, refl, sym, ◌∙◌, ap, subst, arith, slice_index, Option, Some, None}
+use Rattle.std.proofs.Common.{◌≡◌, ◌≢◌, ◌<◌, ◌≤◌, ◌+◌, ◌-◌, ◌*◌, ◌==◌, ◌&&◌, max, if◌then◌else◌, ℕ, Bool, true, false, List, [], length, refl, sym, ◌∙◌, ap, subst, arith, slice_index, Option, Some, None}
 use Rattle.std.specs.Option.{option_or}
 use Rattle.std.proofs.lemmas.Bool.{eq-eqb, ne_eqb, or_right, and_parts}
 use Rattle.std.proofs.lemmas.List.{length_push}
@@ -20,7 +20,7 @@ use Rattle.pmem_words.specs.declared.keeps.Task.{Task}
 use Rattle.pmem_words.specs.declared.keeps.Task.TheVariants.{Pread, Sync, Collect}
 use Rattle.pmem_words.specs.Seats.{Seat, Walk, Calling, Blocks}
 use Rattle.persistence.specs.Memory.{cell}
-use Rattle.log_core.specs.Views.{Ghost, Stored, HeadPut, View, view_of, op_in, op_of}
+use Rattle.log_core.specs.Views.{Ghost, Stored, HeadPut, View, view_of, op_of}
 use Rattle.log_core.specs.Origin.{Origin, shape, LogBlock}
 use Rattle.log_core.specs.Files.{Write, entries, end_of, file_at, history_map_at, history_size_at, accepted_reply, write_at}
 use Rattle.log_core.specs.Cores.{Core, log_at, entries_used, is_sealed, is_full}
@@ -28,12 +28,12 @@ use Rattle.log_core.specs.Works.{words_of, touches, bases_left, without_bases, s
 use Rattle.log_core.specs.Steps.{blocks_but, content_of, stored_but}
 use Rattle.log_core.specs.After.{op_or_size, slot_added}
 use Rattle.log_core.specs.May.{MayCommit}
-use Rattle.log_core.specs.Walks.{WalkHolds, HasWalked}
+use Rattle.log_core.specs.Walks.{WalkHolds}
 use Rattle.log_core.specs.Records.{WritesFit, WritesOnce, BasesHold, RecordHolds, one_if, writes_at}
 use Rattle.log_core.specs.Invariant.{Invariant, around}
 use Rattle.log_core.specs.Knows.{with_seat, Knows}
 use Rattle.log_core.proofs.Each.{each_weaker}
-use Rattle.log_core.proofs.BaseWords.{AreBases, left_bases, left_some}
+use Rattle.log_core.proofs.BaseWords.{AreBases, left_bases}
 use Rattle.log_core.proofs.FileLimits.{fits_inside}
 use Rattle.log_core.proofs.LogGrowth.{more_used}
 use Rattle.log_core.proofs.WalkMaps.{entry_taken, length_with_entry}
@@ -44,7 +44,6 @@ use Rattle.log_core.proofs.kinds.CommitsEntry.{x, told, put, writes, same_image,
 use Rattle.log_core.proofs.clauses.SlotAdded.{used_more, more_at}
 use Rattle.log_core.proofs.clauses.WriteAdded.{history_more, write_is}
 use Rattle.log_core.proofs.clauses.Growth.{Growth, Grows, last_log, grown}
-use Rattle.log_core.proofs.clauses.GrowCore.{position_low}
 use Rattle.log_core.proofs.clauses.GrownKnows.{owns_left, walk_same, FitsGrown, grown_knows}
 use Rattle.log_core.proofs.clauses.GrownOthers.{owned_grown}
 use Rattle.log_core.proofs.clauses.GrownRecords.{old_or_new, none_at, writes_grown}

@@ -61,7 +61,7 @@ module _ (o : Origin) (c : Core) (n : ℕ) (s : Seat) (g : Ghost) (word entry nu
   after_slot seal won memory = record c {
     memory = memory;
     views = slice_set c.views n (with_seat (view_of c.views n) (if seal then slot_sealed s word found won else slot_exchanged s word entry found won)
-    (record g { stored = stored_if (won && not seal) (stored_but (words_of s) (λ (block : ℕ). is_listed (names (new_meaning s entry)) block) g.stored) g.stored }));
+        (record g { stored = stored_if (won && not seal) (stored_but (words_of s) (λ (block : ℕ). is_listed (names (new_meaning s entry)) block) g.stored) g.stored }));
     history = history_if (won && not seal) c.history w;
     logs = slot_if won c.logs entry;
     owner = λ block. owner_if (won && not seal) (names (new_meaning s entry)) InChain (c.owner block) block;
@@ -71,10 +71,16 @@ module _ (o : Origin) (c : Core) (n : ℕ) (s : Seat) (g : Ghost) (word entry nu
 
   -- where it is lost
   lost_keeps : (lost : ℕ) → MayLoadImageWord s (λ block. is_named o c.logs (entries o c.history) (generation_at o c.generations s.hold.generation) block) word → (found == 0) ≡ false →
-      Invariant o (record c { memory = memory_after c.memory n (Exchange (Image word) 0 entry);
-      views = slice_set c.views n (with_seat (view_of c.views n) (record s { walk = record (s.walk) { kept = kept_with (words_of s) s.walk.kept word found; at_tail = false }; calling = record (s.calling) { lost = lost } }) g); began = began })
-  lost_keeps lost load is = subst (λ (memory : Memory). Invariant o (record c { memory = memory;
-      views = slice_set c.views n (with_seat (view_of c.views n) (record s { walk = record (s.walk) { kept = kept_with (words_of s) s.walk.kept word found; at_tail = false }; calling = record (s.calling) { lost = lost } }) g); began = began }))
+      Invariant o (record c {
+        memory = memory_after c.memory n (Exchange (Image word) 0 entry);
+        views = slice_set c.views n (with_seat (view_of c.views n) (record s { walk = record (s.walk) { kept = kept_with (words_of s) s.walk.kept word found; at_tail = false }; calling = record (s.calling) { lost = lost } }) g);
+        began = began;
+      })
+  lost_keeps lost load is = subst (λ (memory : Memory). Invariant o (record c {
+    memory = memory;
+    views = slice_set c.views n (with_seat (view_of c.views n) (record s { walk = record (s.walk) { kept = kept_with (words_of s) s.walk.kept word found; at_tail = false }; calling = record (s.calling) { lost = lost } }) g);
+    began = began;
+  }))
       (sym (exchange_lost o c.memory (length c.views) inv.sizes.words n word entry is))
       (set_core o c n _ g c.memory c.owner began inv here unspent (pins_leave o c n inv c.memory.now.pins refl (λ k other. refl)) (changes_leave o c n c.memory _ c.owner (no_changes c n)) inv.owners.bits
       (away_facts o c n s g pin start word inv f unspent load (low_began n) (eqb-false found 0 is) lost) same_began other_began low_began)
