@@ -24,6 +24,8 @@ pub mod SnapshotNames
 pub mod ChainEntries
 pub mod MappedBlocks
 pub mod WordBytesAt
+pub mod HistoryFiles
+pub mod Replies
 pub mod kinds
 pub mod machines
 pub mod starts

@@ -1,5 +1,5 @@
 -- The blocks that a snapshot's entries name, where no virtual block is given twice: each is one of the map, and none is named twice.
-use Rattle.std.proofs.Common.{◌≡◌, ◌<◌, ◌≤◌, ◌+◌, ◌-◌, ◌++◌, ◌==◌, ◌||◌, ◌&&◌, not, nat_le, nat_lt, ℕ, zero, suc, Bool, true, false, if◌then◌else◌, List, [], ◌∷◌, length, map, take, refl, sym, ◌∙◌, ap, subst, arith, Option, Some, None, ◌⊎◌, inl, inr}
+use Rattle.std.proofs.Common.{◌≡◌, ◌≤◌, ◌+◌, ◌-◌, ◌++◌, ◌==◌, ◌||◌, ◌&&◌, not, nat_le, nat_lt, ℕ, zero, suc, Bool, true, false, if◌then◌else◌, List, [], ◌∷◌, length, map, refl, sym, ◌∙◌, ap, subst, arith, Option, Some, None, ◌⊎◌, inl, inr}
 use Rattle.std.specs.List.{AllByRecursion, list_any, slice_get}
 use Rattle.std.specs.Option.{option_or}
 use Rattle.std.proofs.lemmas.Bool.{and_parts, eqb-true, not-true, le-leb, lt-ltb, leb-true}
@@ -16,7 +16,7 @@ use Rattle.log_core.specs.After.{snapshot_meanings}
 use Rattle.log_core.specs.May.{names_virt, AreApart}
 use Rattle.log_core.proofs.ChainWords.{in_one_part, front_different}
 use Rattle.log_core.proofs.MappedBlocks.{at_in, given_name, mapped_name, one_of}
-use Rattle.log_core.proofs.clauses.Apart.{has_left, has_right, either_of}
+use Rattle.log_core.proofs.clauses.Apart.{either_of}
 use Rattle.log_core.proofs.clauses.GrownNames.{never, back_different}
 
 -- an entry that names its blocks alone, each once

@@ -4,6 +4,7 @@ pub mod Narrows
 pub mod Leaves
 pub mod Apart
 pub mod Others
+pub mod SetSizes
 pub mod SetCore
 pub mod SetRecords
 pub mod SetBlocks

@@ -24,6 +24,9 @@ pub mod LoadsHead
 pub mod LoadsImageWord
 pub mod StoresOwnPin
 pub mod LoadsPinWord
+pub mod RecordGenerations
+pub mod RecordAnswers
+pub mod Recorded
 pub mod GoingOn
 pub mod Worked
 pub mod Entered
@@ -32,8 +35,14 @@ pub mod SetsBits
 pub mod ClearsBits
 pub mod GivesBack
 pub mod Splits
+pub mod IdleViews
+pub mod JoinedViews
+pub mod JoinedWalks
+pub mod JoinedRecords
 pub mod Joins
+pub mod LosesHead
 pub mod ExchangesHead
+pub mod HeadHolds
 pub mod StepHolds
 pub mod ExchangesLink
 pub mod LosesExchange

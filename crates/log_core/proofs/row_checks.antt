@@ -25,3 +25,5 @@ pub mod RowsTurns
 pub mod RowsOffered
 pub mod RowsStart
 pub mod RowsReached
+pub mod RowsEnded
+pub mod RowsJoined

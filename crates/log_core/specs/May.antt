@@ -250,5 +250,5 @@ IsOfferedKind s (MarksWord word) = Unit {0}
 IsOfferedKind s Fences = Unit {0}
 IsOfferedKind s (ExchangesSlot word entry) = Unit {0}
 IsOfferedKind s (ExchangesLink word block) = Unit {0}
-IsOfferedKind s (ExchangesHead before next) = ⊥
+IsOfferedKind s (ExchangesHead before next) = Unit {0}
 IsOfferedKind s NoKind = ⊥

@@ -101,12 +101,11 @@ is_offered_work KeepsReplaced = true
 is_offered_work TakesSeal = true
 is_offered_work Follows = true
 
--- a step of an offered kind, with offered computations, and no record yet
+-- a step of an offered kind, with offered computations
 pub record DoesOffered (o : Origin) (c : Core) (seat : ℕ) (ask : Ask) (note : Note) (fits : MayDo o c seat ask note) : Type 0 where
   pub kind : IsOfferedKind note.before (kind_of_ask (q_of_origin o) seat ask)
   pub before : list_all is_offered_work fits.step.begins.works ≡ true
   pub later : list_all is_offered_work fits.step.enters.computed.works ≡ true
-  pub no_record : note.adds ≡ []
 
 -- the steps that are proved to keep the invariant; no other is allowed yet
 abbrev pub IsOffered : (o : Origin) (c : Core) (step : Step) → MayMakeStep o c step → Type 0

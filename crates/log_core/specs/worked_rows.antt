@@ -6,4 +6,6 @@ pub mod Gaps
 pub mod CallGaps
 pub mod CoreGaps
 pub mod Offered
+pub mod Ended
 pub mod Accepted
+pub mod Joined

@@ -2,6 +2,8 @@
 
 ghost use Rattle.log_core.specs.worked_rows.Rows.{JustMade, PinsInThreeSteps, ScanSeesPins, ComesToTail, BitsTaken, FenceFollows, SlotWon, SlotLost, WriteEnds, LinkWon, LinkLost, HeadWon, HeadLost, KeptUntilUnpinned, BitsCleared, BitsNotCleared, CollectEnds, SyncEnds, FilesByPosition, EarlyFiles, WalkedTrail, LacksBlocks, EntryTakenIn, ReadLays, BaseWords, SnapshotRead, QuietCalls, RepliesFit, LimitsFit};
 ghost use Rattle.log_core.specs.worked_rows.Offered.{FilledNoMore, BitmapMayBeRead, OfferedKinds, BlockRuns};
+ghost use Rattle.log_core.specs.worked_rows.Ended.{CallsEnd, WriteNotPut, SizeBeforeTail, KeptTooEarly};
+ghost use Rattle.log_core.specs.worked_rows.Joined.{SyncRuns, NoMarkOutsideOfSyncs, SeatsAreJoined};
 ghost use Rattle.log_core.specs.worked_rows.Refused.{OtherEntryPossible, HeadSkips, LogHasMore, BitWithoutOwner, BlockOnTwoLists, ChainBlockFree, OtherContentPossible, PinOfAnother, ViewOfAnother, StoredNotPresent, ReplacedStillNamed, RecordOfNoWrite, SyncedMayBeLost, NamedTwice, SnapshotNamesMore, WriteOfNoSeat};
 ghost use Rattle.log_core.specs.worked_rows.Gaps.{BitPastTheWord, MarkOfOwnedBlock, FloorAhead, SpentViewHolds};
 ghost use Rattle.log_core.specs.worked_rows.CallGaps.{TableOfAnother, BaseFromBefore, BasesDropped, BaseLeftOver, FirstBaseShort, TailNotWalked, HeadOfNoCollection, SyncOfNoSync, CallOfNoNumber};
@@ -77,6 +79,9 @@ pub fn law_gaps()
     ensures head_of_no_collection { HeadOfNoCollection }
     ensures sync_of_no_sync { SyncOfNoSync }
     ensures call_of_no_number { CallOfNoNumber }
+    ensures write_not_put { WriteNotPut }
+    ensures size_before_tail { SizeBeforeTail }
+    ensures kept_too_early { KeptTooEarly }
     ensures begun_past_end { BegunPastEnd }
     ensures parts_of_another { PartsOfAnother }
     ensures made_more { MadeMore }
@@ -95,6 +100,10 @@ pub fn law_accepted()
     ensures bitmap_may_be_read { BitmapMayBeRead }
     ensures offered_kinds { OfferedKinds }
     ensures block_runs { BlockRuns }
+    ensures calls_end { CallsEnd }
+    ensures sync_runs { SyncRuns }
+    ensures no_mark_outside_of_syncs { NoMarkOutsideOfSyncs }
+    ensures seats_are_joined { SeatsAreJoined }
     ensures order_stands { OrderStands }
     ensures pins_stand { PinsStand }
     ensures views_stand { ViewsStand }

@@ -1,5 +1,5 @@
 -- A won exchange of the head: what the blocks of the kept generations hold, and those of the new one.
-use Rattle.std.proofs.Common.{◌≡◌, ◌≢◌, ◌<◌, ◌≤◌, ◌+◌, ◌-◌, ◌*◌, ◌/◌, ◌==◌, ◌∷◌, ◌++◌, nat_lt, if◌then◌else◌, ℕ, Bool, true, false, List, [], length, drop, refl, sym, ◌∙◌, ap, subst, arith, inl, inr, slice_index, slice_index_or, Option}
+use Rattle.std.proofs.Common.{◌≡◌, ◌≢◌, ◌<◌, ◌≤◌, ◌+◌, ◌-◌, ◌*◌, ◌/◌, ◌==◌, ◌∷◌, ◌++◌, if◌then◌else◌, ℕ, Bool, true, List, [], length, drop, refl, sym, ◌∙◌, ap, subst, arith, inl, inr, slice_index, slice_index_or}
 use Rattle.std.proofs.lemmas.Bool.{eq-eqb}
 use Rattle.std.proofs.lemmas.Nat.{div-mul-add}
 use Rattle.std.proofs.lemmas.List.Folds.{list_any-append}
@@ -8,21 +8,17 @@ use Rattle.log_entry.specs.declared.layouts.TheConstants.{ENTRY_KIND, INDIRECT, 
 use Rattle.log_entry.specs.declared.shapes.Geometry.{Geometry}
 use Rattle.log_image.specs.Image.{Shape, shape_by, words_in}
 use Rattle.log_image.specs.Entries.{Meaning, names, all_names, indirect_meaning}
-use Rattle.log_image.specs.Maps.{map_of}
 use Rattle.log_image.specs.Chains.{is_listed}
 use Rattle.pmem_words.specs.Seats.{Seat}
-use Rattle.pmem_words.specs.Owned.{owned_at}
-use Rattle.pmem_words.specs.declared.owned.OwnedBlock.{OwnedBlock}
 use Rattle.persistence.specs.Memory.{Memory, cell}
-use Rattle.log_core.specs.Entries.{LogEntry, no_entry, entry_by, meaning_by, entry_names, head_place, place_in}
+use Rattle.log_core.specs.Entries.{LogEntry, no_entry, meaning_by, entry_names, head_place, place_in}
 use Rattle.log_core.specs.Views.{Ghost, view_of}
-use Rattle.log_core.specs.Origin.{Origin, shape, q_of_origin, start_base, Owner, Header, OwnedBy, Generation}
-use Rattle.log_core.specs.Files.{entries, end_of, file_at, history_map_at, history_size_at, byte_in}
-use Rattle.log_core.specs.Cores.{Core, nth_log, log_blocks, data_names, is_named}
+use Rattle.log_core.specs.Origin.{Origin, shape, start_base, Owner, Header, OwnedBy, Generation}
+use Rattle.log_core.specs.Files.{entries, end_of, file_at, history_map_at, byte_in}
+use Rattle.log_core.specs.Cores.{Core, nth_log, data_names, is_named}
 use Rattle.log_core.specs.Works.{seat_shape, words_of}
-use Rattle.log_core.specs.Steps.{content_of, content_from, replaced_by}
-use Rattle.log_core.specs.After.{snapshot_meanings}
-use Rattle.log_core.specs.May.{MayExchangeHead, is_log_entry_by, is_fenced}
+use Rattle.log_core.specs.Steps.{content_of}
+use Rattle.log_core.specs.May.{MayExchangeHead}
 use Rattle.log_core.specs.Order.{nth_generation}
 use Rattle.log_core.specs.Certain.{IsCertain}
 use Rattle.log_core.specs.Contents.{IsStillTaken, EntriesSay, HoldsFileAt, SnapshotHolds, GenerationHolds}

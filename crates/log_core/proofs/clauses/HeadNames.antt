@@ -1,6 +1,5 @@
 -- A won exchange of the head: what the new generation names, and who has each block then.
 use Rattle.std.proofs.Common.{◌≡◌, ◌≢◌, ◌<◌, ◌≤◌, ◌+◌, ◌-◌, ◌++◌, ◌==◌, ◌||◌, ◌&&◌, not, if◌then◌else◌, ℕ, zero, suc, Bool, true, false, List, [], ◌∷◌, length, drop, refl, sym, ◌∙◌, ap, subst, arith, slice_index, Option, Some, None}
-use Rattle.std.specs.List.{list_any}
 use Rattle.std.proofs.lemmas.Bool.{and_parts, and_from, not-true}
 use Rattle.std.proofs.lemmas.List.{drop-drop}
 use Rattle.std.proofs.lemmas.List.Folds.{list_any-append}
@@ -11,21 +10,19 @@ use Rattle.log_image.specs.Entries.{Meaning, all_names}
 use Rattle.log_image.specs.Maps.{map_of}
 use Rattle.log_image.specs.Chains.{all_different, is_listed}
 use Rattle.log_image.proofs.NameLemmas.{different_join}
-use Rattle.pmem_words.specs.declared.owned.OwnedBlock.{OwnedBlock}
 use Rattle.pmem_words.specs.Seats.{Seat}
 use Rattle.log_core.specs.Entries.{LogEntry, head_place, entry_names}
 use Rattle.log_core.specs.Views.{Ghost, view_of}
-use Rattle.log_core.specs.Origin.{Origin, shape, start_base, first_generation, Owner, Free, Header, InChain, OwnedBy, LeftTo, LogBlock, Generation}
-use Rattle.log_core.specs.Files.{entries, history_map_at}
+use Rattle.log_core.specs.Origin.{Origin, shape, start_base, Owner, Free, Header, InChain, OwnedBy, LeftTo, LogBlock, Generation}
+use Rattle.log_core.specs.Files.{entries}
 use Rattle.log_core.specs.Cores.{Core, current, generation_at, nth_log, log_at, number_at, log_blocks, chain_names, data_names, is_named}
-use Rattle.log_core.specs.Needs.{owned_numbers}
 use Rattle.log_core.specs.Steps.{content_of, new_snapshots, replaced_by}
 use Rattle.log_core.specs.After.{new_generation, snapshot_meanings}
-use Rattle.log_core.specs.May.{MayExchangeHead, is_fenced}
+use Rattle.log_core.specs.May.{MayExchangeHead}
 use Rattle.log_core.specs.Order.{nth_generation}
 use Rattle.log_core.specs.Owners.{bit_for, BitsFit, IsListOf, NamesOnce}
 use Rattle.log_core.specs.Contents.{IsStillTaken}
-use Rattle.log_core.specs.Walks.{WalkHolds, HasWalked}
+use Rattle.log_core.specs.Walks.{WalkHolds}
 use Rattle.log_core.specs.Invariant.{Invariant, KeptIn, around}
 use Rattle.log_core.specs.Knows.{Knows}
 use Rattle.log_core.proofs.Heads.{head_generation, present_place}

@@ -1,5 +1,5 @@
 -- A won exchange of the head: what is known of any seat that does not make it, and what the new generation leaves of each clause.
-use Rattle.std.proofs.Common.{◌≡◌, ◌≢◌, ◌<◌, ◌≤◌, ◌+◌, ◌-◌, ◌*◌, ◌/◌, ◌^◌, ◌⊎◌, ◌++◌, ◌==◌, ⊎_elim, inl, inr, ℕ, zero, suc, Bool, true, false, List, [], ◌∷◌, length, drop, refl, sym, ◌∙◌, ap, subst, arith, slice_index, Option, Some, None}
+use Rattle.std.proofs.Common.{◌≡◌, ◌≢◌, ◌<◌, ◌≤◌, ◌+◌, ◌-◌, ◌*◌, ◌/◌, ◌^◌, ◌++◌, ⊎_elim, inl, inr, ℕ, true, false, List, [], ◌∷◌, length, drop, refl, sym, ◌∙◌, ap, subst, arith, slice_index, Option}
 use Rattle.std.specs.List.{AllByRecursion}
 use Rattle.std.proofs.lemmas.Bool.{cases_lt}
 use Rattle.std.proofs.lemmas.Nat.{div-mul-add}
@@ -10,7 +10,6 @@ use Rattle.log_entry.specs.declared.calls.Reply.{Reply}
 use Rattle.log_entry.specs.declared.calls.Reply.TheVariants.{Wrote, Appended, NotWritten, Bytes, Size as FileSize, Synced, Collected, NotCollected}
 use Rattle.log_entry.specs.declared.calls.Call.{Call}
 use Rattle.log_entry.specs.declared.layouts.TheConstants.{HEAD_GENERATION}
-use Rattle.log_image.specs.Image.{words_in}
 use Rattle.log_image.specs.Entries.{Meaning}
 use Rattle.log_image.specs.Maps.{map_of}
 use Rattle.log_image.specs.Blocks.{entry_count}
@@ -19,11 +18,11 @@ use Rattle.pmem_words.specs.declared.keeps.KeptWord.{KeptWord}
 use Rattle.pmem_words.specs.Seats.{Seat, Hold, Walk, Giving}
 use Rattle.persistence.specs.Memory.{Memory, PendingMark, Cell, cell, pending_of}
 use Rattle.persistence.specs.Survivors.{value_at}
-use Rattle.log_core.specs.Entries.{head_place, place_in}
+use Rattle.log_core.specs.Entries.{head_place}
 use Rattle.log_core.specs.Views.{View, Ghost, HeadPut, view_of}
 use Rattle.log_core.specs.Origin.{Origin, shape, q_of_origin, first_generation, Header, InChain, OwnedBy, LeftTo, Generation}
-use Rattle.log_core.specs.Files.{Write, entries}
-use Rattle.log_core.specs.Cores.{Core, current, generation_at, is_named, head_floor, log_blocks, data_names}
+use Rattle.log_core.specs.Files.{entries}
+use Rattle.log_core.specs.Cores.{Core, current, generation_at, is_named, head_floor, data_names}
 use Rattle.log_core.specs.May.{MayExchangeHead}
 use Rattle.log_core.specs.Order.{nth_generation}
 use Rattle.log_core.specs.Owners.{IsListOf}
@@ -43,7 +42,7 @@ use Rattle.log_core.proofs.clauses.GrownNames.{never}
 use Rattle.log_core.proofs.clauses.Others.{notes_early}
 use Rattle.log_core.proofs.clauses.OwnedSame.{KeepsOwned, value_same, pending_same}
 use Rattle.log_core.proofs.clauses.HeadMoved.{HeadMoves, moved_values}
-use Rattle.log_core.proofs.clauses.HeadNames.{at_last, named_or_new, named_chain, mine, present_is}
+use Rattle.log_core.proofs.clauses.HeadNames.{named_or_new, named_chain, mine, present_is}
 use Rattle.log_core.proofs.clauses.HeadContents.{made_gen, owner_now, recorded_now, recorded_same, block_cell, named_some}
 
 module _ (o : Origin) (c : Core) (n : ℕ) (s : Seat) (g : Ghost) (pin began before next : ℕ) (inv : Invariant o c) (unspent : (view_of c.views n).parts ≢ [])
@@ -234,14 +233,21 @@ module _ (o : Origin) (c : Core) (n : ℕ) (s : Seat) (g : Ghost) (pin began bef
   -- a head that a call put in place before, and a record of a collection
   pub put_moved : (position overtaken : ℕ) (put : Option HeadPut) → HeadFits o c.generations position overtaken put → HeadFits o gens position overtaken put
   put_moved position overtaken put r = record {
-    own = λ head is. (let q = r.own head is in let count = gens_count in (q.0, (let low = q.1 in omega (arith, low, count)), q.2,
-      q.3 ∙ ap (λ (x : Generation). x.base) (sym (old_gen (head.generation - first_generation o) (let low = q.1 in let from = q.0 in omega (arith, low, from))))));
+    own = λ head is. (let q = r.own head is in let count = gens_count in (
+      q.0,
+      (let low = q.1 in omega (arith, low, count)),
+      q.2,
+      q.3 ∙ ap (λ (x : Generation). x.base) (sym (old_gen (head.generation - first_generation o) (let low = q.1 in let from = q.0 in omega (arith, low, from)))),
+    ));
     found = (let low = r.found in let count = gens_count in omega (arith, low, count));
   }
 
   says_moved : (position : ℕ) (reply : Reply) → SaysOfGenerations o c.generations position reply → SaysOfGenerations o gens position reply
-  says_moved position (Collected collected) r = (r.0, (let low = r.1 in let count = gens_count in omega (arith, low, count)),
-    r.2 ∙ ap (λ (x : Generation). x.base) (sym (old_gen (collected.generation - first_generation o) (let low = r.1 in let from = r.0 in omega (arith, low, from)))))
+  says_moved position (Collected collected) r = (
+    r.0,
+    (let low = r.1 in let count = gens_count in omega (arith, low, count)),
+    r.2 ∙ ap (λ (x : Generation). x.base) (sym (old_gen (collected.generation - first_generation o) (let low = r.1 in let from = r.0 in omega (arith, low, from)))),
+  )
   says_moved position (NotCollected Nothing) r = (r.0, (let low = r.1 in let count = gens_count in omega (arith, low, count)), r.2 ∙ ap (λ (x : Generation). x.base) (sym (old_gen r.0 r.1)))
   says_moved position (NotCollected (Overtaken generation)) r = (r.0, (let low = r.1 in let count = gens_count in omega (arith, low, count)))
   says_moved position (NotCollected GenerationLimit) r = absurd (let below = may.below_limit in let is = present_is o c n s g pin began before next inv unspent f may won in let now = current_is o c inv in let count = inv.order.heads.count in

@@ -1,18 +1,17 @@
 -- The invariant stays where a step of one seat replaces its view, and changes the memory and the owners: the others are left what they
 -- know, and what has to hold of the new view does.
-use Rattle.std.proofs.Common.{◌≡◌, ◌≢◌, ◌<◌, ◌≤◌, ◌+◌, ◌-◌, ℕ, true, nat_lt, List, [], length, refl, sym, ◌∙◌, ap, subst, arith, inl, inr, ⊎_elim, ◌⊎◌, slice_set, slice_index}
+use Rattle.std.proofs.Common.{◌≡◌, ◌≢◌, ◌<◌, ◌≤◌, ◌+◌, ◌-◌, ℕ, true, List, [], length, refl, sym, ◌∙◌, ap, subst, arith, inl, inr, ⊎_elim, ◌⊎◌, slice_set, slice_index}
 use Rattle.std.specs.List.{AllByRecursion}
-use Rattle.std.proofs.lemmas.List.{length-set}
 use Rattle.log_entry.specs.declared.calls.Call.{Call}
 use Rattle.pmem_words.specs.Seats.{Seat}
-use Rattle.persistence.specs.Memory.{Memory, PendingMark, cell}
+use Rattle.persistence.specs.Memory.{Memory, cell}
 use Rattle.log_image.specs.Chains.{is_listed}
 use Rattle.log_core.specs.Entries.{head_place}
-use Rattle.log_core.specs.Views.{View, Ghost, view_of, spent_view}
+use Rattle.log_core.specs.Views.{View, Ghost, view_of}
 use Rattle.log_core.specs.Origin.{Origin, shape, q_of_origin, first_generation, Owner, InChain, OwnedBy, LeftTo}
 use Rattle.log_core.specs.Files.{entries, end_of}
 use Rattle.log_core.specs.Cores.{Core, current, head_floor, nth_log, IsPinned}
-use Rattle.log_core.specs.Sizes.{Sizes, SeatFits}
+use Rattle.log_core.specs.Sizes.{Sizes}
 use Rattle.log_core.specs.Order.{nth_generation}
 use Rattle.log_core.specs.Owners.{BitsFit, SeatOwns}
 use Rattle.log_core.specs.Contents.{GenerationHolds}
@@ -20,11 +19,12 @@ use Rattle.log_core.specs.Pins.{PinHolds}
 use Rattle.log_core.specs.Walks.{WalkHolds}
 use Rattle.log_core.specs.Owned.{OwnedHold}
 use Rattle.log_core.specs.Giving.{GivingHolds, ScanHolds}
-use Rattle.log_core.specs.Records.{WritesFit, WritesOnce, SeatsOnce, PutFits, CallHolds, TailHolds, MarksFit, RecordHolds, NeverFall, one_if}
+use Rattle.log_core.specs.Records.{WritesFit, WritesOnce, PutFits, CallHolds, TailHolds, MarksFit, RecordHolds, NeverFall}
 use Rattle.log_core.specs.Synced.{SyncHolds}
 use Rattle.log_core.specs.Invariant.{Invariant, KeptIn, around, names_by, Order, Owners, Pins, Givings, Records, Syncs}
 use Rattle.log_core.specs.Knows.{with_seat, Knows}
-use Rattle.log_core.proofs.clauses.OneView.{each_set, parts_set, collected_set, all_set, all_at}
+use Rattle.log_core.proofs.clauses.OneView.{each_set, collected_set, all_at}
+use Rattle.log_core.proofs.clauses.SetSizes.{sizes_set, seats_once_set}
 use Rattle.log_core.proofs.Heads.{kept_place}
 use Rattle.log_core.proofs.clauses.Narrows.{heads_narrow, log_narrows, recorded_narrow, synced_narrows}
 use Rattle.log_core.proofs.clauses.Leaves.{Leaves, LeavesOwners, moved, others_stay, chain_others, owned_others, left_others}
@@ -43,9 +43,6 @@ module _ (o : Origin) (c : Core) (n : ℕ) (s : Seat) (g : Ghost) (m : Memory) (
 
   abbrev new : Core
   new = record c { memory = m; views = views; owner = owner; began = began }
-
-  count : length views ≡ length c.views
-  count = length-set c.views n w
 
   floor_up : head_floor c.memory ≤ head_floor m
   floor_up = floor_rises o c n m inv leaves
@@ -82,30 +79,7 @@ module _ (o : Origin) (c : Core) (n : ℕ) (s : Seat) (g : Ghost) (m : Memory) (
           (λ k other valid same inside. record { inside = inside; why = inr (record { seat = k; valid = valid; same = same }) }) seat
 
   sizes : Sizes o m views began
-  sizes = record {
-    seats = inv.sizes.seats;
-    image = inv.sizes.image;
-    words = record {
-      words = leaves.fits.words;
-      taken = leaves.fits.taken;
-      pins = leaves.fits.pins;
-      floors = leaves.fits.floors;
-      reached = leaves.fits.reached;
-      pending = subst (λ (k : ℕ). AllByRecursion (λ (note : PendingMark). (note.seat < k) × (note.word < length o.words) × (note.time ≤ length m.past)) m.pending) (sym count) leaves.fits.pending;
-    };
-    some = subst (λ (k : ℕ). 0 < k) (sym count) inv.sizes.some;
-    few = subst (λ (k : ℕ). k ≤ o.seats) (sym count) inv.sizes.few;
-    begun = same_began ∙ (inv.sizes.begun ∙ sym count);
-    made = λ some. subst (λ (k : ℕ). (view_of views 0).made ≡ k) (sym count)
-        (each_set (λ (k : ℕ) (v : View). k ≡ 0 → v.parts ≢ [] → v.made ≡ length c.views) c.views n w here
-        (λ zero_is parts. subst (λ (k : ℕ). (view_of c.views k).parts ≢ [] → (view_of c.views k).made ≡ length c.views) (sym zero_is) inv.sizes.made parts)
-        (λ k other zero_is parts. subst (λ (j : ℕ). (view_of c.views j).parts ≢ [] → (view_of c.views j).made ≡ length c.views) (sym zero_is) inv.sizes.made parts) 0 refl some);
-    few_made = λ number. subst (λ (k : ℕ). (view_of views number).made ≤ k) (sym count)
-        (each_set (λ (k : ℕ) (v : View). v.made ≤ length c.views) c.views n w here (inv.sizes.few_made n) (λ k other. inv.sizes.few_made k) number);
-    spent = each_set (λ (k : ℕ) (v : View). v.parts ≡ [] → v ≡ spent_view) c.views n w here (λ none. absurd (unspent none)) (λ k other none. inv.sizes.spent k none);
-    each = λ number inside some. each_set (λ (k : ℕ) (v : View). k < length c.views → v.parts ≢ [] → SeatFits o k v) c.views n w here
-        (λ low parts. facts.fits parts) (λ k other low parts. inv.sizes.each k low parts) number (subst (λ (k : ℕ). number < k) count inside) some;
-  }
+  sizes = sizes_set o c.views n w here unspent refl c.memory m c.began began inv.sizes leaves.fits same_began refl (facts.fits unspent)
 
   order : Order o m c.history c.generations c.logs (λ place. KeptIn o new place)
   order = record {
@@ -188,20 +162,12 @@ module _ (o : Origin) (c : Core) (n : ℕ) (s : Seat) (g : Ghost) (m : Memory) (
     scans = scans;
   }
 
-  seats_once : SeatsOnce c.history views
-  seats_once = record {
-    once = λ seat. parts_set c.views n w seat refl here ∙ (inv.records.seats_once.once seat ∙ ap (λ (k : ℕ). one_if (nat_lt seat k)) (sym count));
-    own = each_set (λ (k : ℕ) (v : View). v.parts ≢ [] → is_listed v.parts k ≡ true) c.views n w here (inv.records.seats_once.own n) (λ k other. inv.records.seats_once.own k);
-    writes = subst (λ (k : ℕ). AllByRecursion (λ (write : Rattle.log_core.specs.Files.Write). write.seat < k) c.history) (sym count) inv.records.seats_once.writes;
-    records = all_set (λ (v : View). AllByRecursion (λ (call : Call). is_listed v.parts call.seat ≡ true) v.done) c.views n w
-        (all_at (λ (v : View). AllByRecursion (λ (call : Call). is_listed v.parts call.seat ≡ true) v.done) c.views n here inv.records.seats_once.records) inv.records.seats_once.records;
-  }
-
   records : Records o m views c.history c.generations (λ seat. slice_index began seat)
   records = record {
     writes = each_set (λ (k : ℕ) (v : View). WritesFit o c.history v) c.views n w here facts.writes (λ k other. inv.records.writes k);
     writes_once = each_set (λ (k : ℕ) (v : View). WritesOnce o c.history v) c.views n w here facts.writes_once (λ k other. inv.records.writes_once k);
-    seats_once = seats_once;
+    seats_once = seats_once_set o c.views n w here unspent refl c.history inv.records.seats_once
+        (all_at (λ (v : View). AllByRecursion (λ (call : Call). is_listed v.parts call.seat ≡ true) v.done) c.views n here inv.records.seats_once.records);
     collected_once = λ generation above below. collected_set c.views n w generation refl facts.same_put here ∙ inv.records.collected_once generation above below;
     put = each_set (λ (k : ℕ) (v : View). PutFits o c.generations v) c.views n w here facts.put (λ k other. inv.records.put k);
     records = each_set (λ (k : ℕ) (v : View). AllByRecursion (RecordHolds o c.history c.generations) v.done) c.views n w here (inv.records.records n) (λ k other. inv.records.records k);

@@ -1,26 +1,26 @@
 -- A view gets other records, and its call another state: what has to hold of it, so that the invariant stays.
-use Rattle.std.proofs.Common.{◌≡◌, ◌≢◌, ◌<◌, ◌≤◌, ◌+◌, ◌-◌, ℕ, true, nat_lt, List, [], length, refl, sym, ◌∙◌, ap, subst, inl, inr, ⊎_elim, slice_set, slice_index, Option}
+use Rattle.std.proofs.Common.{◌≡◌, ◌≢◌, ◌<◌, ◌+◌, ◌-◌, ℕ, true, List, [], length, refl, ◌∙◌, inl, inr, ⊎_elim, slice_set, slice_index, Option}
 use Rattle.std.specs.List.{AllByRecursion}
-use Rattle.std.proofs.lemmas.List.{length-set}
 use Rattle.log_entry.specs.declared.calls.Call.{Call}
 use Rattle.pmem_words.specs.Seats.{Calling}
-use Rattle.persistence.specs.Memory.{PendingMark, cell}
+use Rattle.persistence.specs.Memory.{cell}
 use Rattle.log_image.specs.Chains.{is_listed}
 use Rattle.log_core.specs.Entries.{head_place}
-use Rattle.log_core.specs.Views.{View, HeadPut, view_of, spent_view}
+use Rattle.log_core.specs.Views.{View, HeadPut, view_of}
 use Rattle.log_core.specs.Origin.{Origin, q_of_origin, first_generation}
-use Rattle.log_core.specs.Files.{Write, entries}
+use Rattle.log_core.specs.Files.{entries}
 use Rattle.log_core.specs.Cores.{Core, current, head_floor, IsPinned}
-use Rattle.log_core.specs.Sizes.{Sizes, SeatFits}
+use Rattle.log_core.specs.Sizes.{Sizes}
 use Rattle.log_core.specs.Owners.{SeatOwns}
 use Rattle.log_core.specs.Pins.{PinHolds}
 use Rattle.log_core.specs.Walks.{WalkHolds}
 use Rattle.log_core.specs.Owned.{OwnedHold}
 use Rattle.log_core.specs.Giving.{GivingHolds, ScanHolds}
-use Rattle.log_core.specs.Records.{WritesFit, WritesOnce, SeatsOnce, PutFits, CallHolds, TailHolds, MarksFit, RecordHolds, NeverFall, one_if, collected_in, putting}
+use Rattle.log_core.specs.Records.{WritesFit, WritesOnce, PutFits, CallHolds, TailHolds, MarksFit, RecordHolds, NeverFall, collected_in, putting}
 use Rattle.log_core.specs.Synced.{SyncHolds}
 use Rattle.log_core.specs.Invariant.{Invariant, KeptIn, around, names_by, Order, Owners, Pins, Givings, Records, Syncs}
-use Rattle.log_core.proofs.clauses.OneView.{each_set, parts_set, collected_with, all_set}
+use Rattle.log_core.proofs.clauses.OneView.{each_set, collected_with}
+use Rattle.log_core.proofs.clauses.SetSizes.{sizes_set, seats_once_set}
 
 -- a view with another state of its call, and other records
 abbrev pub with_records : View → Calling → Option HeadPut → List Call → View
@@ -54,11 +54,9 @@ module _ (o : Origin) (c : Core) (n : ℕ) (calling : Calling) (put : Option Hea
   abbrev new : Core
   new = record c { views = views }
 
-  count : length views ≡ length c.views
-  count = length-set c.views n w
-
   -- a generation that is kept now was kept before
-  pinned_before : (place seat : ℕ) → (view_of views seat).seat.hold.valid ≡ true → (view_of views seat).seat.hold.generation ≡ first_generation o + place → IsPinned o c.views place
+  pinned_before : (place seat : ℕ) → (view_of views seat).seat.hold.valid ≡ true →
+      (view_of views seat).seat.hold.generation ≡ first_generation o + place → IsPinned o c.views place
   pinned_before place = each_set (λ (k : ℕ) (u : View). u.seat.hold.valid ≡ true → u.seat.hold.generation ≡ first_generation o + place → IsPinned o c.views place) c.views n w here
       (λ valid same. record { seat = n; valid = valid; same = same }) (λ k other valid same. record { seat = k; valid = valid; same = same })
 
@@ -66,31 +64,8 @@ module _ (o : Origin) (c : Core) (n : ℕ) (calling : Calling) (put : Option Hea
   kept_before place kept = record { inside = kept.inside; why = ⊎_elim (λ floor. inl floor) (λ pin. inr (pinned_before place pin.seat pin.valid pin.same)) kept.why }
 
   sizes : Sizes o c.memory views c.began
-  sizes = record {
-    seats = inv.sizes.seats;
-    image = inv.sizes.image;
-    words = (let r = inv.sizes.words in record {
-      words = r.words;
-      taken = r.taken;
-      pins = r.pins;
-      floors = r.floors;
-      reached = r.reached;
-      pending = subst (λ (k : ℕ). AllByRecursion (λ (note : PendingMark). (note.seat < k) × (note.word < length o.words) × (note.time ≤ length c.memory.past)) c.memory.pending) (sym count) r.pending;
-    });
-    some = subst (λ (k : ℕ). 0 < k) (sym count) inv.sizes.some;
-    few = subst (λ (k : ℕ). k ≤ o.seats) (sym count) inv.sizes.few;
-    begun = inv.sizes.begun ∙ sym count;
-    made = λ some. subst (λ (k : ℕ). (view_of views 0).made ≡ k) (sym count)
-        (each_set (λ (k : ℕ) (u : View). k ≡ 0 → u.parts ≢ [] → u.made ≡ length c.views) c.views n w here
-        (λ zero_is parts. subst (λ (k : ℕ). (view_of c.views k).parts ≢ [] → (view_of c.views k).made ≡ length c.views) (sym zero_is) inv.sizes.made parts)
-        (λ k other zero_is parts. subst (λ (j : ℕ). (view_of c.views j).parts ≢ [] → (view_of c.views j).made ≡ length c.views) (sym zero_is) inv.sizes.made parts) 0 refl some);
-    few_made = λ number. subst (λ (k : ℕ). (view_of views number).made ≤ k) (sym count)
-        (each_set (λ (k : ℕ) (u : View). u.made ≤ length c.views) c.views n w here (inv.sizes.few_made n) (λ k other. inv.sizes.few_made k) number);
-    spent = each_set (λ (k : ℕ) (u : View). u.parts ≡ [] → u ≡ spent_view) c.views n w here (λ none. absurd (unspent none)) (λ k other none. inv.sizes.spent k none);
-    each = λ number inside some. each_set (λ (k : ℕ) (u : View). k < length c.views → u.parts ≢ [] → SeatFits o k u) c.views n w here
-        (λ low parts. (let r = inv.sizes.each n low parts in record { number = r.number; seats = r.seats; geometry = r.geometry; first = r.first; found = r.found; named = r.named; map = r.map }))
-        (λ k other low parts. inv.sizes.each k low parts) number (subst (λ (k : ℕ). number < k) count inside) some;
-  }
+  sizes = sizes_set o c.views n w here unspent refl c.memory c.memory c.began c.began inv.sizes inv.sizes.words refl refl
+      (let r = inv.sizes.each n here unspent in record { number = r.number; seats = r.seats; geometry = r.geometry; first = r.first; found = r.found; named = r.named; map = r.map })
 
   order : Order o c.memory c.history c.generations c.logs (λ place. KeptIn o new place)
   order = record { heads = inv.order.heads; generations_rise = inv.order.generations_rise; log = inv.order.log; chains = λ place kept. inv.order.chains place (kept_before place kept) }
@@ -147,19 +122,11 @@ module _ (o : Origin) (c : Core) (n : ℕ) (calling : Calling) (put : Option Hea
       scan_by : (k other : ℕ) → ScanHolds (view_of c.views k).seat.giving other (view_of views other).seat.hold
       scan_by k other = each_set (λ (t : ℕ) (u : View). ScanHolds (view_of c.views k).seat.giving t u.seat.hold) c.views n w here (inv.givings.scans k n) (λ t apart. inv.givings.scans k t) other
 
-  seats_once : SeatsOnce c.history views
-  seats_once = record {
-    once = λ seat. parts_set c.views n w seat refl here ∙ (inv.records.seats_once.once seat ∙ ap (λ (k : ℕ). one_if (nat_lt seat k)) (sym count));
-    own = each_set (λ (k : ℕ) (u : View). u.parts ≢ [] → is_listed u.parts k ≡ true) c.views n w here (inv.records.seats_once.own n) (λ k other. inv.records.seats_once.own k);
-    writes = subst (λ (k : ℕ). AllByRecursion (λ (write : Write). write.seat < k) c.history) (sym count) inv.records.seats_once.writes;
-    records = all_set (λ (u : View). AllByRecursion (λ (call : Call). is_listed u.parts call.seat ≡ true) u.done) c.views n w facts.mine inv.records.seats_once.records;
-  }
-
   records : Records o c.memory views c.history c.generations (λ seat. slice_index c.began seat)
   records = record {
     writes = each_set (λ (k : ℕ) (u : View). WritesFit o c.history u) c.views n w here facts.writes (λ k other. inv.records.writes k);
     writes_once = each_set (λ (k : ℕ) (u : View). WritesOnce o c.history u) c.views n w here facts.writes_once (λ k other. inv.records.writes_once k);
-    seats_once = seats_once;
+    seats_once = seats_once_set o c.views n w here unspent refl c.history inv.records.seats_once facts.mine;
     collected_once = λ generation above below. collected_with c.views n w generation (facts.collected generation) here ∙ inv.records.collected_once generation above below;
     put = each_set (λ (k : ℕ) (u : View). PutFits o c.generations u) c.views n w here facts.put (λ k other. inv.records.put k);
     records = each_set (λ (k : ℕ) (u : View). AllByRecursion (RecordHolds o c.history c.generations) u.done) c.views n w here facts.records (λ k other. inv.records.records k);

@@ -1,10 +1,8 @@
 -- The present content of a partly touched virtual block, a base, is begun, or gets a word more: what a core knows of the seat stays.
-use Rattle.std.proofs.Common.{◌≡◌, ◌≢◌, ◌<◌, ◌≤◌, ◌+◌, ◌-◌, ◌*◌, ◌/◌, ◌%◌, ◌⊎◌, inl, inr, ◌++◌, ℕ, zero, suc, true, false, List, [], ◌∷◌, length, get_or, refl, sym, ◌∙◌, ap, subst, arith, slice_index, Option, Some, None, append_assoc, length-append, mul-le-mul_right}
+use Rattle.std.proofs.Common.{◌≡◌, ◌≢◌, ◌<◌, ◌≤◌, ◌+◌, ◌-◌, ◌*◌, ◌/◌, ◌%◌, ◌⊎◌, inl, inr, ◌++◌, ℕ, zero, suc, true, false, List, [], ◌∷◌, length, refl, sym, ◌∙◌, ap, subst, arith, slice_index, Option, Some, None, length-append, mul-le-mul_right}
 use Rattle.std.proofs.Math.ListN.{get_or-append}
 use Rattle.std.proofs.lemmas.Bool.{cases_lt}
-use Rattle.std.proofs.lemmas.List.{get_or-append-add}
 use Rattle.log_entry.specs.WordBytes.{word_bytes}
-use Rattle.log_entry.proofs.WordBytesLemmas.{eight_each}
 use Rattle.pmem_words.specs.Maps.{map_at}
 use Rattle.pmem_words.specs.Seats.{Seat, q_of}
 use Rattle.log_core.specs.Views.{Ghost, view_of, op_in, op_of}
@@ -16,7 +14,8 @@ use Rattle.log_core.specs.Records.{BasesHold}
 use Rattle.log_core.specs.Invariant.{Invariant}
 use Rattle.log_core.specs.Knows.{Knows}
 use Rattle.log_core.proofs.Facts.{moved_facts}
-use Rattle.log_core.proofs.WordBytesAt.{eight_words, first_word}
+use Rattle.log_core.proofs.BaseWords.{earlier_byte, later_byte}
+use Rattle.log_core.proofs.WordBytesAt.{eight_words}
 use Rattle.log_core.proofs.kinds.ReadsFile.{from_start, found_byte}
 
 -- other bases of the call
@@ -67,13 +66,6 @@ last_is default (number ∷ []) some = refl
 last_is default (number ∷ next ∷ rest) some =
     (let place : length (number ∷ next ∷ rest) - 1 ≡ suc (length (next ∷ rest) - 1) = omega arith in
     ap (λ (k : ℕ). slice_index (number ∷ next ∷ rest) k) place ∙ last_is number (next ∷ rest) (omega arith))
-
--- the bytes of one word more
-bytes_more : (words : List ℕ) (word : ℕ) → word_bytes (words ++ word ∷ []) ≡ word_bytes words ++ word_bytes (word ∷ [])
-bytes_more [] word = refl
-bytes_more (first ∷ words) word = first_word first (words ++ word ∷ [])
-    ∙ (ap (λ (l : List ℕ). word_bytes (first ∷ []) ++ l) (bytes_more words word)
-    ∙ (sym (append_assoc (word_bytes (first ∷ [])) (word_bytes words) (word_bytes (word ∷ []))) ∙ ap (λ (l : List ℕ). l ++ word_bytes (word ∷ [])) (sym (first_word first words))))
 
 zero_bytes : (k : ℕ) → slice_index (word_bytes (0 ∷ [])) k ≡ 0
 zero_bytes zero = refl
@@ -143,7 +135,8 @@ module _ (o : Origin) (c : Core) (n : ℕ) (s : Seat) (g : Ghost) (pin began : �
     known : (at : ℕ) → at / 8 ≡ base_slot s → IsByteIn s (map_at s.walk.map virt) at (slice_index (word_bytes (word ∷ [])) (at % 8))
     known at slot = go (base_block s) may.known
       where
-        go : (found : Option ℕ) → ((block : ℕ) → found ≡ Some block → kept_at s.walk.kept block (base_slot s) ≢ None) → IsByteIn s found at (slice_index (word_bytes (word_of_block s found (base_slot s) ∷ [])) (at % 8))
+        go : (found : Option ℕ) → ((block : ℕ) → found ≡ Some block → kept_at s.walk.kept block (base_slot s) ≢ None) →
+            IsByteIn s found at (slice_index (word_bytes (word_of_block s found (base_slot s) ∷ [])) (at % 8))
         go None each = zero_bytes (at % 8)
         go (Some block) each = (
           subst (λ (k : ℕ). kept_at s.walk.kept block k ≢ None) (sym slot) (each block refl),
@@ -153,23 +146,19 @@ module _ (o : Origin) (c : Core) (n : ℕ) (s : Seat) (g : Ghost) (pin began : �
     abbrev words : List ℕ
     words = s.calling.base_words
 
-    long : length (word_bytes words) ≡ 8 * length words
-    long = eight_each words
-
-    byte_is : (place at : ℕ) → place < length s.calling.bases → at < o.geometry.block_bytes → op_of s.calling.job s.calling.bytes ≢ None → place * o.geometry.block_bytes + at < 8 * length (words ++ word ∷ []) →
+    byte_is : (place at : ℕ) → place < length s.calling.bases → at < o.geometry.block_bytes → op_of s.calling.job s.calling.bytes ≢ None →
+        place * o.geometry.block_bytes + at < 8 * length (words ++ word ∷ []) →
         slice_index (word_bytes (words ++ word ∷ [])) (place * o.geometry.block_bytes + at) ≡ slice_index (file_at o c.history s.walk.position) (slice_index s.calling.bases place * o.geometry.block_bytes + at)
-    byte_is place at inside small running below = ap (λ (bytes : List ℕ). get_or bytes (place * o.geometry.block_bytes + at) 0) (bytes_more words word) ∙ by (cases_lt (place * o.geometry.block_bytes + at) (8 * length words))
+    byte_is place at inside small running below = by (cases_lt (place * o.geometry.block_bytes + at) (8 * length words))
       where
         by : (place * o.geometry.block_bytes + at < 8 * length words) ⊎ (8 * length words ≤ place * o.geometry.block_bytes + at) →
-            slice_index (word_bytes words ++ word_bytes (word ∷ [])) (place * o.geometry.block_bytes + at) ≡ slice_index (file_at o c.history s.walk.position) (slice_index s.calling.bases place * o.geometry.block_bytes + at)
-        by (inl earlier) = get_or-append (word_bytes words) (word_bytes (word ∷ [])) 0 (place * o.geometry.block_bytes + at) (let l = long in omega (arith, earlier, l))
-            ∙ f.calls.bases.bytes running place at inside small earlier
+            slice_index (word_bytes (words ++ word ∷ [])) (place * o.geometry.block_bytes + at) ≡ slice_index (file_at o c.history s.walk.position) (slice_index s.calling.bases place * o.geometry.block_bytes + at)
+        by (inl earlier) = earlier_byte words (word ∷ []) (place * o.geometry.block_bytes + at) earlier ∙ f.calls.bases.bytes running place at inside small earlier
         by (inr late) =
             (let more = length-append words (word ∷ []) in
             let next = place_of_next (length s.calling.bases) (words_of s) o.geometry.block_bytes (length words) place at eight may.begun f.calls.bases.whole may.inside inside small late (omega (arith, below, more)) in
-            let index : place * o.geometry.block_bytes + at ≡ length (word_bytes words) + at % 8 = (let l = long in let b = next.byte in omega (arith, l, b)) in
-            ap (λ (k : ℕ). get_or (word_bytes words ++ word_bytes (word ∷ [])) k 0) index
-            ∙ (get_or-append-add (word_bytes words) (word_bytes (word ∷ [])) (at % 8) 0
+            ap (λ (k : ℕ). slice_index (word_bytes (words ++ word ∷ [])) k) (sym next.byte)
+            ∙ (later_byte words (word ∷ []) (at % 8)
             ∙ (found_byte o c n s g pin began inv f some may.reads virt at (slice_index (word_bytes (word ∷ [])) (at % 8)) small (known at next.word)
             ∙ ap (λ (base : ℕ). slice_index (file_at o c.history s.walk.position) (base * o.geometry.block_bytes + at))
             (sym (ap (λ (k : ℕ). slice_index s.calling.bases k) next.last ∙ last_is 0 s.calling.bases may.begun)))))

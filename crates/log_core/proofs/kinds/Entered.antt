@@ -1,14 +1,13 @@
 -- What enters a view after a step: from the state that the kind of step leaves the call computes on, and the core that has it keeps the
 -- invariant.
-use Rattle.std.proofs.Common.{◌≡◌, ◌≢◌, ◌<◌, ℕ, true, List, [], ◌∷◌, ◌++◌, length, refl, sym, ◌∙◌, ap, subst, slice_set, slice_index, append-nil}
+use Rattle.std.proofs.Common.{◌≡◌, ◌≢◌, ◌<◌, ℕ, true, List, [], ◌++◌, length, refl, sym, ◌∙◌, ap, subst, slice_set, slice_index}
 use Rattle.std.specs.List.{list_all}
 use Rattle.std.proofs.lemmas.List.{length-set, get_or-set_same, set-set}
-use Rattle.log_entry.specs.declared.calls.Call.{Call}
 use Rattle.pmem_words.specs.Seats.{Seat}
 use Rattle.log_core.specs.Views.{View, view_of, spent_view}
 use Rattle.log_core.specs.Origin.{Origin}
 use Rattle.log_core.specs.Cores.{Core}
-use Rattle.log_core.specs.Works.{Computes, ended, is_going_on}
+use Rattle.log_core.specs.Works.{Computes, is_going_on}
 use Rattle.log_core.specs.Steps.{Note, Kind, ghost_ended, view_after}
 use Rattle.log_core.specs.Runs.{MayStep, effect_at, ghost_left, is_offered_work}
 use Rattle.log_core.specs.Invariant.{Invariant}
@@ -17,6 +16,7 @@ use Rattle.log_core.proofs.clauses.Leaves.{no_changes, changes_leave, pins_leave
 use Rattle.log_core.proofs.clauses.SetCore.{set_core}
 use Rattle.log_core.proofs.Facts.{facts_of}
 use Rattle.log_core.proofs.kinds.Worked.{later_hold}
+use Rattle.log_core.proofs.kinds.Recorded.{recorded_from}
 
 -- a seat of a core computes
 module _ (o : Origin) (d : Core) (n : ℕ) (inv : Invariant o d) (here : n < length d.views) (unspent : (view_of d.views n).parts ≢ []) where
@@ -49,23 +49,28 @@ module _ (o : Origin) (c : Core) (n : ℕ) (note : Note) (kind : Kind) (f : ℕ)
   abbrev pub views_left : List View
   views_left = slice_set c.views n left
 
-  ended_none : (adds : List Call) (last : Seat) → adds ≡ [] → ended adds last ≡ last
-  ended_none [] last e = refl
-  ended_none (call ∷ calls) last e = cc
+  -- what the call has computed then
+  abbrev worked : View
+  worked = with_seat left step.enters.last left.ghost
 
-  -- the view that the step leaves
-  view_is : note.adds ≡ [] → view_after mine kind note f ≡ with_seat left note.seat (ghost_left mine note kind f)
-  view_is no_record = ap (λ (adds : List Call). record mine { seat = note.seat; ghost = ghost_ended adds (ghost_left mine note kind f); done = mine.done ++ adds }) no_record
-      ∙ ap (λ (calls : List Call). record mine { seat = note.seat; ghost = ghost_left mine note kind f; done = calls }) (append-nil mine.done)
+  abbrev views_worked : List View
+  views_worked = slice_set c.views n worked
 
-  pub entered : (d : Core) → Invariant o (record d { views = views_left }) → list_all is_offered_work step.enters.computed.works ≡ true → note.adds ≡ [] →
-      Invariant o (record d { views = slice_set c.views n (view_after mine kind note f) })
-  entered d inv later no_record = subst (λ (views : List View). Invariant o (record d { views = views }))
-      (set-set c.views n left (with_seat left note.seat left.ghost) ∙ ap (λ (v : View). slice_set c.views n v) (sym (view_is no_record)))
+  works_entered : (d : Core) → Invariant o (record d { views = views_left }) → list_all is_offered_work step.enters.computed.works ≡ true → Invariant o (record d { views = views_worked })
+  works_entered d inv later = subst (λ (views : List View). Invariant o (record d { views = views })) (set-set c.views n left worked)
       (computed_from o (record d { views = views_left }) n inv (subst (λ (k : ℕ). n < k) (sym (length-set c.views n left)) here)
-      (λ none. unspent (ap (λ (v : View). v.parts) (sym is_left) ∙ none)) left is_left note.seat
-      (record { works = step.enters.computed.works; may = step.enters.computed.may; gives = step.enters.seat_is ∙ (ended_none note.adds step.enters.last no_record ∙ step.enters.computed.gives) })
-      later step.enters.going_on)
+      (λ none. unspent (ap (λ (v : View). v.parts) (sym is_left) ∙ none)) left is_left step.enters.last step.enters.computed later step.enters.going_on)
     where
       is_left : view_of views_left n ≡ left
       is_left = get_or-set_same c.views n left spent_view here
+
+  -- and with its record, where it ends
+  pub entered : (d : Core) → Invariant o (record d { views = views_left }) → list_all is_offered_work step.enters.computed.works ≡ true →
+      Invariant o (record d { views = slice_set c.views n (view_after mine kind note f) })
+  entered d inv later = subst (λ (t : Seat). Invariant o (record d { views = slice_set c.views n (record worked { seat = t; ghost = ghost_ended note.adds worked.ghost; done = worked.done ++ note.adds }) })) (sym step.enters.seat_is)
+      (subst (λ (views : List View). Invariant o (record d { views = views })) (set-set c.views n worked _)
+      (recorded_from o (record d { views = views_worked }) n (works_entered d inv later) (subst (λ (k : ℕ). n < k) (sym (length-set c.views n worked)) here)
+      (λ none. unspent (ap (λ (v : View). v.parts) (sym is_worked) ∙ none)) worked is_worked note.adds step.enters.adds_are))
+    where
+      is_worked : view_of views_worked n ≡ worked
+      is_worked = get_or-set_same c.views n worked spent_view here

@@ -1,5 +1,5 @@
 -- An exchange of the head that is won: the seat's snapshot becomes the front of the present chain, and what it replaces is left to the seat.
-use Rattle.std.proofs.Common.{◌≡◌, ◌≢◌, ◌<◌, ◌≤◌, ◌+◌, ◌-◌, ◌^◌, ◌++◌, ◌==◌, ◌||◌, ◌&&◌, not, if◌then◌else◌, nat_lt, ⊎_elim, inl, inr, ℕ, zero, suc, Bool, true, false, List, [], ◌∷◌, length, filter, drop, refl, sym, ◌∙◌, ap, subst, arith, slice_index, slice_set, Option, Some, None}
+use Rattle.std.proofs.Common.{◌≡◌, ◌≢◌, ◌<◌, ◌≤◌, ◌+◌, ◌-◌, ◌^◌, ◌++◌, ◌==◌, not, if◌then◌else◌, nat_lt, ⊎_elim, inl, inr, ℕ, zero, suc, Bool, true, false, List, [], ◌∷◌, length, filter, refl, sym, ◌∙◌, ap, subst, arith, slice_index, slice_set, Option, Some, None}
 use Rattle.std.specs.List.{AllByRecursion}
 use Rattle.std.proofs.lemmas.Bool.{and_parts, and_from, not-true, ne_eqb, eq-eqb, cases_lt}
 use Rattle.std.proofs.lemmas.List.{length-set, length_push, get_or_push}
@@ -17,12 +17,12 @@ use Rattle.pmem_words.specs.Seats.{Seat}
 use Rattle.persistence.specs.Memory.{Memory, PendingMark, Cell, cell}
 use Rattle.persistence.specs.Survivors.{value_at}
 use Rattle.log_core.specs.Entries.{head_place, place_in}
-use Rattle.log_core.specs.Views.{View, Ghost, HeadPut, RunningCall, view_of, spent_view, op_in}
+use Rattle.log_core.specs.Views.{View, Ghost, HeadPut, view_of, spent_view}
 use Rattle.log_core.specs.Origin.{Origin, shape, q_of_origin, first_generation, Owner, InChain, OwnedBy, LeftTo, Generation}
 use Rattle.log_core.specs.Files.{Write, entries, end_of}
 use Rattle.log_core.specs.Cores.{Core, current, head_floor, nth_log, is_named}
 use Rattle.log_core.specs.Works.{words_of}
-use Rattle.log_core.specs.Steps.{head_exchanged, new_snapshots, replaced_by, stored_but, put_if}
+use Rattle.log_core.specs.Steps.{head_exchanged, new_snapshots, replaced_by, stored_but}
 use Rattle.log_core.specs.May.{MayExchangeHead}
 use Rattle.log_core.specs.Sizes.{Sizes, SeatFits}
 use Rattle.log_core.specs.Order.{nth_generation, front_of, HeadsInOrder, GenerationsRise, LogsStand}
@@ -40,17 +40,15 @@ use Rattle.log_core.specs.Knows.{with_seat, Knows}
 use Rattle.log_core.proofs.BlockLists.{has_filter, different_filter, numbers_but}
 use Rattle.log_core.proofs.Heads.{kept_place, current_is}
 use Rattle.log_core.proofs.Each.{each_weaker}
-use Rattle.log_core.proofs.PinnedChains.{from_first}
 use Rattle.log_core.proofs.clauses.Apart.{has_left, has_right, either_of, log_is_named}
 use Rattle.log_core.proofs.clauses.Exchanged.{grown_value}
-use Rattle.log_core.proofs.clauses.FencedContents.{fenced_owned}
 use Rattle.log_core.proofs.clauses.GrownNames.{never}
 use Rattle.log_core.proofs.clauses.Narrows.{same_narrows, log_narrows, synced_narrows, certain_narrows}
 use Rattle.log_core.proofs.clauses.OneView.{each_set, parts_set, all_set, all_at}
 use Rattle.log_core.proofs.clauses.OwnedBut.{left_hold}
 use Rattle.log_core.proofs.clauses.OwnedSame.{owned_kept, owned_view_kept, marks_kept}
 use Rattle.log_core.proofs.clauses.HeadMoved.{HeadMoves}
-use Rattle.log_core.proofs.clauses.HeadNames.{at, at_last, in_chain, present_is, base_is, above, from_start, cut, cut_inside, cut_base, cut_block, cut_late, mine, snaps, new_once, owner_moved, owner_by, owner_snap, owner_replaced, owner_same, owner_was, list_same, replaced_was, replaced_not_now, bits_moved, chain_moved_named, chain_moved_all}
+use Rattle.log_core.proofs.clauses.HeadNames.{at, at_last, in_chain, present_is, above, from_start, cut_inside, cut_base, cut_late, mine, snaps, new_once, owner_by, owner_replaced, owner_same, list_same, replaced_was, replaced_not_now, bits_moved, chain_moved_named, chain_moved_all}
 use Rattle.log_core.proofs.clauses.HeadContents.{owner_now, recorded_now, block_cell, named_some, old_contents, new_contents}
 use Rattle.log_core.proofs.clauses.HeadOthers.{made, gens, gens_count, current_more, old_gen, last_gen, keeps, pin_moved, floor_same, no_later, giving_moved, moved_core, walk_moved, sync_moved, put_moved, record_moved}
 
@@ -327,8 +325,8 @@ module _ (o : Origin) (c : Core) (n : ℕ) (s : Seat) (g : Ghost) (ends : List �
         ap (λ (k : ℕ). nth_generation all_gens k) (let more = current_more o c n s g pn bn before next inv unspent f may won m moves in let now = current_is o c inv in let last = inv.order.heads.count in
         let e : current o all_gens - first_generation o ≡ length c.generations = omega (arith, more, now, last) in e) ∙ new_is in
         subst (λ (x : Generation). Rattle.log_core.specs.Owners.ChainOwns (is_named o c.logs (entries o c.history) x) owner) (sym is) (record {
-        named = λ block own. chain_moved_named o c n s g pn bn before next inv unspent f may won block own;
-        all = λ block named. chain_moved_all o c n s g pn bn before next inv unspent f may won block named;
+          named = λ block own. chain_moved_named o c n s g pn bn before next inv unspent f may won block own;
+          all = λ block named. chain_moved_all o c n s g pn bn before next inv unspent f may won block named;
         }));
     seats = each_set (λ (k : ℕ) (v : View). SeatOwns owner k v.seat) c.views n w here (record { owned = own_list; left = left_list }) (λ k other. record {
       owned = list_same o c n s g pn bn before next inv unspent f may won _ (OwnedBy k) (λ is. cc) (λ is. other (ap owned_number is)) (λ is. cc) (inv.owners.seats k).owned;
@@ -383,12 +381,12 @@ module _ (o : Origin) (c : Core) (n : ℕ) (s : Seat) (g : Ghost) (ends : List �
   owned_mine : OwnedHold (λ word. cell m word) m.past m.pending n h e
   owned_mine = (let r = left_hold (λ word. cell m word) m.past m.pending n s g h
       (owned_kept o c m inv keep n g s own_words own_image (λ block listed. f.owns.owned.listed block listed) f.owned) (λ block. is_listed (new_snapshots s next) block) refl s.blocks.found in record {
-    contents = r.contents;
-    areas = r.areas;
-    stored = r.stored;
-    filled = λ place inside filled. (let q = r.filled place inside filled in record { owned = q.owned; each = q.each });
-    fenced = r.fenced;
-  })
+        contents = r.contents;
+        areas = r.areas;
+        stored = r.stored;
+        filled = λ place inside filled. (let q = r.filled place inside filled in record { owned = q.owned; each = q.each });
+        fenced = r.fenced;
+      })
 
   owned : (seat : ℕ) → OwnedHold (λ word. cell m word) m.past m.pending seat (view_of views seat).ghost (view_of views seat).seat
   owned = each_set (λ (k : ℕ) (v : View). OwnedHold (λ word. cell m word) m.past m.pending k v.ghost v.seat) c.views n w here owned_mine (λ k other. owned_view_kept o c m inv keep k)
@@ -418,9 +416,11 @@ module _ (o : Origin) (c : Core) (n : ℕ) (s : Seat) (g : Ghost) (ends : List �
 
   -- the new generation is this call's alone
   none_before : (generation : ℕ) → generation ≡ first_generation o + length c.generations → collected_by generation c.views ≡ 0
-  none_before generation is = none_by generation c.views (λ k inside. (none_in generation (view_of c.views k).done
-      (each_weaker (RecordHolds o c.history c.generations) (λ (call : Call). collects generation call.reply ≡ 0) (view_of c.views k).done (λ call r. none_said call.position call.reply r.of_generations) (inv.records.records k)),
-      none_put (view_of c.views k).ghost.call.put (λ head put. (let low = ((inv.records.put k).own head put).1 in omega (arith, low, is)))))
+  none_before generation is = none_by generation c.views (λ k inside. (
+    none_in generation (view_of c.views k).done
+        (each_weaker (RecordHolds o c.history c.generations) (λ (call : Call). collects generation call.reply ≡ 0) (view_of c.views k).done (λ call r. none_said call.position call.reply r.of_generations) (inv.records.records k)),
+    none_put (view_of c.views k).ghost.call.put (λ head put. (let low = ((inv.records.put k).own head put).1 in omega (arith, low, is))),
+  ))
     where
       none_said : (position : ℕ) (reply : Reply) → Rattle.log_core.specs.Records.SaysOfGenerations o c.generations position reply → collects generation reply ≡ 0
       none_said position (Collected collected) r = ap one_if (ne_eqb collected.generation generation (let low = r.1 in λ same. omega (arith, low, is, same)))
@@ -463,11 +463,12 @@ module _ (o : Origin) (c : Core) (n : ℕ) (s : Seat) (g : Ghost) (ends : List �
   put_mine : PutFits o all_gens w
   put_mine = record {
     own = λ head is. (let same : head_put ≡ head = cc in subst (λ (put : HeadPut). (first_generation o < put.generation) × (put.generation < first_generation o + length all_gens) × (put.base ≡ s.walk.position)
-        × (put.base ≡ (nth_generation all_gens (put.generation - first_generation o)).base)) same
-        ((let generation = put_generation in let some = inv.order.heads.count in omega (arith, generation, some)),
-        (let generation = put_generation in let long = gens_count o c n s g pn bn before next inv unspent f may won m moves in omega (arith, generation, long)),
-        refl,
-        ap (λ (x : Generation). x.base) (sym (ap (λ (k : ℕ). nth_generation all_gens k) (let generation = put_generation in let e : head_put.generation - first_generation o ≡ length c.generations = omega (arith, generation) in e) ∙ new_is))));
+        × (put.base ≡ (nth_generation all_gens (put.generation - first_generation o)).base)) same (
+          (let generation = put_generation in let some = inv.order.heads.count in omega (arith, generation, some)),
+          (let generation = put_generation in let long = gens_count o c n s g pn bn before next inv unspent f may won m moves in omega (arith, generation, long)),
+          refl,
+          ap (λ (x : Generation). x.base) (sym (ap (λ (k : ℕ). nth_generation all_gens k) (let generation = put_generation in let e : head_put.generation - first_generation o ≡ length c.generations = omega (arith, generation) in e) ∙ new_is)),
+        ));
     found = (let low = f.put.found in let long = gens_count o c n s g pn bn before next inv unspent f may won m moves in omega (arith, low, long));
   }
 

@@ -1,12 +1,12 @@
 -- The blocks that a collection replaced are kept for later: what a core knows of the seat stays.
-use Rattle.std.proofs.Common.{◌≡◌, ◌≢◌, ◌<◌, ◌⊎◌, inl, inr, ◌++◌, ◌||◌, ◌==◌, not, max, ℕ, Bool, true, false, List, [], ◌∷◌, length, sym, ◌∙◌, arith, slice_index}
+use Rattle.std.proofs.Common.{◌≡◌, ◌<◌, ◌⊎◌, inl, inr, ◌++◌, ◌==◌, not, max, ℕ, Bool, true, false, List, [], ◌∷◌, refl, sym, ◌∙◌, arith, slice_index}
 use Rattle.std.proofs.lemmas.Bool.{and_parts}
 use Rattle.std.proofs.lemmas.List.Folds.{list_any-append}
 use Rattle.log_image.specs.Chains.{all_different, is_listed}
 use Rattle.log_image.proofs.NameLemmas.{different_join}
 use Rattle.pmem_words.specs.Seats.{Seat, Giving, Hold}
 use Rattle.log_core.specs.Views.{Ghost, view_of}
-use Rattle.log_core.specs.Origin.{Origin, LeftTo, first_generation}
+use Rattle.log_core.specs.Origin.{Origin, Owner, LeftTo}
 use Rattle.log_core.specs.Files.{entries}
 use Rattle.log_core.specs.Cores.{Core, current}
 use Rattle.log_core.specs.Works.{KeepsReplaced, state_after_work}
@@ -22,14 +22,15 @@ back_different : (first second : List ℕ) → all_different (first ++ second) �
 back_different [] second different = different
 back_different (number ∷ first) second different = back_different first second (and_parts (not (is_listed (first ++ second) number)) (all_different (first ++ second)) different).1
 
-in_either : {P : Type 0} (first second : List ℕ) (block : ℕ) → is_listed (first ++ second) block ≡ true → (is_listed first block ≡ true → P) → (is_listed second block ≡ true → P) → P
+in_either : {P : Type 0} (first second : List ℕ) (block : ℕ) → is_listed (first ++ second) block ≡ true → (is_listed first block ≡ true → P) →
+    (is_listed second block ≡ true → P) → P
 in_either first second block listed = either_of (is_listed first block) (is_listed second block) (sym (list_any-append (λ (other : ℕ). other == block) first second) ∙ listed)
 
 turned : (first second : List ℕ) (block : ℕ) → is_listed (first ++ second) block ≡ true → is_listed (second ++ first) block ≡ true
 turned first second block listed = in_either first second block listed (has_right second first block) (has_left second first block)
 
 -- a list of two parts is one of the same parts turned round
-list_turned : (owner : ℕ → Rattle.log_core.specs.Origin.Owner) (first second : List ℕ) (whose : Rattle.log_core.specs.Origin.Owner) → IsListOf owner (first ++ second) whose → IsListOf owner (second ++ first) whose
+list_turned : (owner : ℕ → Owner) (first second : List ℕ) (whose : Owner) → IsListOf owner (first ++ second) whose → IsListOf owner (second ++ first) whose
 list_turned owner first second whose r = record {
   listed = λ block listed. r.listed block (turned second first block listed);
   all = λ block is. turned first second block (r.all block is);
@@ -40,11 +41,12 @@ list_turned owner first second whose r = record {
     apart number there = go (is_listed first number) (λ here. in_one_part first second number r.once here there)
       where
         go : (b : Bool) → (b ≡ true → ⊥) → b ≡ false
-        go true none = absurd (none Rattle.std.proofs.Common.refl)
-        go false none = Rattle.std.proofs.Common.refl
+        go true none = absurd (none refl)
+        go false none = refl
 
 -- blocks of two lists, at the later one of their generations
-none_later : (names : ℕ → ℕ → Bool) (current first second : ℕ) (a b : List ℕ) → AreInNoLater names current first a → AreInNoLater names current second b → AreInNoLater names current (max first second) (a ++ b)
+none_later : (names : ℕ → ℕ → Bool) (current first second : ℕ) (a b : List ℕ) → AreInNoLater names current first a →
+    AreInNoLater names current second b → AreInNoLater names current (max first second) (a ++ b)
 none_later names current first second a b one other block later listed above upto = in_either a b block listed
     (λ here. one block later here (omega (arith, above)) upto) (λ there. other block later there (omega (arith, above)) upto)
 
@@ -65,7 +67,8 @@ scan_kept g other h r = record {
       omega (arith, first, second));
 }
 
-pub replaced_facts : (o : Origin) (c : Core) (n : ℕ) (s : Seat) (g : Ghost) (pin began : ℕ) → Knows o c n s g pin began → s.giving.head_fenced ≡ true → Knows o c n (state_after_work s KeepsReplaced) g pin began
+pub replaced_facts : (o : Origin) (c : Core) (n : ℕ) (s : Seat) (g : Ghost) (pin began : ℕ) → Knows o c n s g pin began →
+    s.giving.head_fenced ≡ true → Knows o c n (state_after_work s KeepsReplaced) g pin began
 replaced_facts o c n s g pin began f fenced = record {
   fits = λ some. (let r = f.fits some in record { number = r.number; seats = r.seats; geometry = r.geometry; first = r.first; found = r.found; named = r.named; map = r.map });
   kept = f.kept;

@@ -20,7 +20,8 @@ use Rattle.log_core.proofs.WordBytesAt.{eight_words}
 use Rattle.log_core.proofs.kinds.ReadsFile.{size_is, found_byte}
 
 -- bytes that are a list's, from its beginning on
-first_bytes : (bytes file : List ℕ) → length bytes ≤ length file → ((k : ℕ) → k < length bytes → slice_index bytes k ≡ slice_index file k) → bytes ≡ take (length bytes) file
+first_bytes : (bytes file : List ℕ) → length bytes ≤ length file → ((k : ℕ) → k < length bytes → slice_index bytes k ≡ slice_index file k) →
+    bytes ≡ take (length bytes) file
 first_bytes [] file few same = refl
 first_bytes (byte ∷ bytes) [] few same = absurd (omega (arith, few))
 first_bytes (byte ∷ bytes) (first ∷ file) few same =
@@ -37,7 +38,8 @@ read_more file offset laid bytes so_far inside each =
     ap (λ (l : List ℕ). l ++ bytes) so_far ∙ (ap (λ (l : List ℕ). take (length laid) (drop offset file) ++ l) rest
     ∙ (sym (take-add (length laid) (length bytes) (drop offset file)) ∙ ap (λ (count : ℕ). take count (drop offset file)) (sym (length-append laid bytes)))))
 
-pub lay_facts : (o : Origin) (c : Core) (n : ℕ) (s : Seat) (g : Ghost) (pin began : ℕ) → Invariant o c → (view_of c.views n).parts ≢ [] → (bytes : List ℕ) → Knows o c n s g pin began → MayLay s bytes →
+pub lay_facts : (o : Origin) (c : Core) (n : ℕ) (s : Seat) (g : Ghost) (pin began : ℕ) → Invariant o c → (view_of c.views n).parts ≢ [] →
+    (bytes : List ℕ) → Knows o c n s g pin began → MayLay s bytes →
     Knows o c n (state_after_work s (Lays bytes)) g pin began
 lay_facts o c n s g pin began inv some bytes f may = moved_facts o c n s g pin began f s.walk (record (s.calling) { bytes = s.calling.bytes ++ bytes }) s.giving.pins_seen s.giving.limbo_held (record {
   map = λ some. (f.fits some).map;

@@ -144,7 +144,7 @@ module _ (o : Origin) (c : Core) (n : ℕ) (s : Seat) (g : Ghost) (pin began wor
   sync_marks b (note ∷ pending) valid all = subst (λ (generation : ℕ). AllByRecursion (Marked generation) (note ∷ pending))
       (sym (valid_same b (valid (some_notes note pending)))) all
 
-  loaded_facts : (b : Bool) → (b ≡ true → s.hold.pin ≡ current o c.generations) → Knows o c n (loaded_by b s word) g pin began
+  pub loaded_facts : (b : Bool) → (b ≡ true → s.hold.pin ≡ current o c.generations) → Knows o c n (loaded_by b s word) g pin began
   loaded_facts b is = record {
     fits = λ some. (let r = f.fits some in record { number = r.number; seats = r.seats; geometry = r.geometry; first = r.first; found = r.found; named = r.named; map = r.map });
     kept = kept b is;

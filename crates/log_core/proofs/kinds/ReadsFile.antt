@@ -66,7 +66,8 @@ module _ (o : Origin) (c : Core) (n : ℕ) (s : Seat) (g : Ghost) (pin began : �
   size_is = walked.size_is ∙ sym says.size_is
 
   module _ (virt at byte : ℕ) (inside : at < (shape o).block_bytes) where
-    mapped : (block : ℕ) → map_at s.walk.map virt ≡ Some block → (kept_at s.walk.kept block (at / 8) ≢ None) × (byte ≡ slice_index (word_bytes (kept_word s block (at / 8) ∷ [])) (at % 8)) →
+    mapped : (block : ℕ) → map_at s.walk.map virt ≡ Some block →
+        (kept_at s.walk.kept block (at / 8) ≢ None) × (byte ≡ slice_index (word_bytes (kept_word s block (at / 8) ∷ [])) (at % 8)) →
         byte ≡ slice_index File (virt * (shape o).block_bytes + at)
     mapped block is known = known.1 ∙ (ap (λ (word : ℕ). slice_index (word_bytes (word ∷ [])) (at % 8)) (chain_says o c n s g pin began inv f reads.valid some block (at / 8) named known.0)
         ∙ (sym (byte_in_word (c.recorded block) at long) ∙ (ap (λ (found : Option ℕ). byte_in c.recorded found at) (sym in_map) ∙ holds.each virt at inside)))

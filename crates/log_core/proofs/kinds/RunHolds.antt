@@ -16,7 +16,7 @@ use Rattle.log_core.specs.May.{IsOfferedKind}
 use Rattle.log_core.specs.Runs.{MayStep, MaySplit, IsRun, end, is_offered_work}
 use Rattle.log_core.specs.Invariant.{Invariant}
 use Rattle.log_core.specs.Laws.{StepKeeps}
-use Rattle.log_core.proofs.kinds.StepHolds.{head_holds, image_word_holds, pin_holds, seen_holds, bitmap_word_holds, set_bits_holds, clear_bits_holds, stored_holds, mark_holds, fence_holds}
+use Rattle.log_core.proofs.kinds.StepHolds.{head_holds, image_word_holds, pin_holds, seen_holds, bitmap_word_holds, set_bits_holds, clear_bits_holds, stored_holds, mark_holds, head_exchange_holds, fence_holds}
 use Rattle.log_core.proofs.kinds.ExchangeHolds.{link_holds, slot_holds}
 use Rattle.log_core.proofs.kinds.Splits.{split_holds}
 use Rattle.log_core.proofs.kinds.Joins.{join_holds}
@@ -28,7 +28,7 @@ module _ (o : Origin) (c : Core) (n : ℕ) (inv : Invariant o c) (here : n < len
   -- what a step of this kind, with this ask and what it finds, has to keep
   abbrev KeepsAsk : Ask → Kind → ℕ → ℕ → Type 0
   KeepsAsk ask kind f answered = IsOfferedKind note.before kind → (step : MayStep o c mine kind note answered) → list_all is_offered_work step.begins.works ≡ true →
-      list_all is_offered_work step.enters.computed.works ≡ true → note.adds ≡ [] → Invariant o (stepped o c n ask note kind f)
+      list_all is_offered_work step.enters.computed.works ≡ true → Invariant o (stepped o c n ask note kind f)
 
   by_head : (word : ℕ) (b : Bool) → (word == head_place) ≡ b → KeepsAsk (Load (Image word)) (if b then LoadsHead else LoadsImageWord word) (slice_index c.memory.now.words word) (slice_index c.memory.now.words word)
   by_head word true e = subst (λ (w : ℕ). KeepsAsk (Load (Image w)) LoadsHead (slice_index c.memory.now.words w) (slice_index c.memory.now.words w)) (sym (eqb-true word head_place e))
@@ -40,14 +40,16 @@ module _ (o : Origin) (c : Core) (n : ℕ) (inv : Invariant o c) (here : n < len
       (λ offered. pin_holds o c n inv here unspent note value f)
   by_own other value f false e = λ offered. absurd offered
 
-  -- an exchange of an image word: of the head it is offered not yet, and else it is from 0
-  by_exchange : (word before next f : ℕ) (head none link : Bool) → (before == 0) ≡ none → slice_index c.memory.now.words word ≡ f →
+  -- an exchange of an image word: of the head, or else from 0
+  by_exchange : (word before next f : ℕ) (head none link : Bool) → (word == head_place) ≡ head → (before == 0) ≡ none → slice_index c.memory.now.words word ≡ f →
       KeepsAsk (Exchange (Image word) before next) (if head then ExchangesHead before next else if not none then NoKind else if link then ExchangesLink word next else ExchangesSlot word next) f f
-  by_exchange word before next f true none link e is = λ offered. absurd offered
-  by_exchange word before next f false false link e is = λ offered. absurd offered
-  by_exchange word before next f false true true e is = subst (λ (k : ℕ). KeepsAsk (Exchange (Image word) k next) (ExchangesLink word next) f f) (sym (eqb-true before 0 e))
+  by_exchange word before next f true none link at e is = subst (λ (k : ℕ). KeepsAsk (Exchange (Image word) before next) (ExchangesHead before next) k k) is
+      (subst (λ (w : ℕ). KeepsAsk (Exchange (Image w) before next) (ExchangesHead before next) (slice_index c.memory.now.words w) (slice_index c.memory.now.words w)) (sym (eqb-true word head_place at))
+      (λ offered. head_exchange_holds o c n inv here unspent note before next))
+  by_exchange word before next f false false link at e is = λ offered. absurd offered
+  by_exchange word before next f false true true at e is = subst (λ (k : ℕ). KeepsAsk (Exchange (Image word) k next) (ExchangesLink word next) f f) (sym (eqb-true before 0 e))
       (subst (λ (k : ℕ). KeepsAsk (Exchange (Image word) 0 next) (ExchangesLink word next) k k) is (λ offered. link_holds o c n inv here unspent note word next))
-  by_exchange word before next f false true false e is = subst (λ (k : ℕ). KeepsAsk (Exchange (Image word) k next) (ExchangesSlot word next) f f) (sym (eqb-true before 0 e))
+  by_exchange word before next f false true false at e is = subst (λ (k : ℕ). KeepsAsk (Exchange (Image word) k next) (ExchangesSlot word next) f f) (sym (eqb-true before 0 e))
       (subst (λ (k : ℕ). KeepsAsk (Exchange (Image word) 0 next) (ExchangesSlot word next) k k) is (λ offered. slot_holds o c n inv here unspent note word next))
 
   each_ask : (ask : Ask) → KeepsAsk ask (kind_of_ask (q_of_origin o) n ask) (found c.memory ask) (found_answer c.memory ask)
@@ -59,7 +61,7 @@ module _ (o : Origin) (c : Core) (n : ℕ) (inv : Invariant o c) (here : n < len
   each_ask (Store (Pin other) value) = by_own other value (found c.memory (Store (Pin other) value)) (other == n) refl
   each_ask (Store (Map word) value) = λ offered. absurd offered
   each_ask (Store (FenceOf other) value) = λ offered. absurd offered
-  each_ask (Exchange (Image word) before next) = by_exchange word before next (slice_index c.memory.now.words word) (word == head_place) (before == 0) (word % q_of_origin o == 0) refl refl
+  each_ask (Exchange (Image word) before next) = by_exchange word before next (slice_index c.memory.now.words word) (word == head_place) (before == 0) (word % q_of_origin o == 0) refl refl refl
   each_ask (Exchange (Pin other) before next) = λ offered. absurd offered
   each_ask (Exchange (Map word) before next) = λ offered. absurd offered
   each_ask (Exchange (FenceOf other) before next) = λ offered. absurd offered
@@ -80,7 +82,7 @@ split_keeps o c seat inv may = subst (λ (k : ℕ). MaySplit o c k → Invariant
 
 pub step_keeps : StepKeeps
 step_keeps o c (Does seat ask note) inv allowed =
-    each_ask o c seat inv allowed.fits.made allowed.fits.unspent note ask allowed.offered.kind allowed.fits.step allowed.offered.before allowed.offered.later allowed.offered.no_record
+    each_ask o c seat inv allowed.fits.made allowed.fits.unspent note ask allowed.offered.kind allowed.fits.step allowed.offered.before allowed.offered.later
 step_keeps o c (Splits seat) inv allowed = split_keeps o c seat inv allowed.fits
 step_keeps o c (Joins seat other) inv allowed = join_holds o c seat other inv allowed.fits
 

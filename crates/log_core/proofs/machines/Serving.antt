@@ -106,7 +106,7 @@ module _ (o : Origin) (start : Invariant o (first_core o)) (seat number : ℕ) w
               enters = (laws.enters f is admits).enters;
             };
           };
-          offered = record { kind = laws.offered; before = linked.offered; later = (laws.enters f is admits).offered; no_record = laws.none_added f is admits };
+          offered = record { kind = laws.offered; before = linked.offered; later = (laws.enters f is admits).offered };
         })
 
     linked_to : (m : M) (s : Seat) (v : View) (c : Core) → view_of c.views seat ≡ v → IsLinkedToView number rest (P m) s v → IsLinkedToView number rest (P m) s (view_of c.views seat)

@@ -62,15 +62,15 @@ module _ (o : Origin) (c : Core) (seat : ℕ) (note : Note) (inv : Invariant o c
       (let low = own_inside o c seat note.before (ghost_at (view_of c.views seat) note) pin began inv known unspent word owned in let many = inv.sizes.words.words in omega (arith, low, many))
 
   -- an exchange of an image word
-  by_exchange : (word before next pin began : ℕ) → Knows o c seat note.before (ghost_at (view_of c.views seat) note) pin began → (head none link : Bool) →
+  by_exchange : (word before next pin began : ℕ) → Knows o c seat note.before (ghost_at (view_of c.views seat) note) pin began → (head none link : Bool) → (word == head_place) ≡ head →
       IsOfferedKind note.before (if head then ExchangesHead before next else if not none then NoKind else if link then ExchangesLink word next else ExchangesSlot word next) →
       May o c (ghost_at (view_of c.views seat) note) note.before (if head then ExchangesHead before next else if not none then NoKind else if link then ExchangesLink word next else ExchangesSlot word next) →
       word < length c.memory.now.words
-  by_exchange word before next pin began known true none link offered may = absurd offered
-  by_exchange word before next pin began known false false link offered may = absurd offered
-  by_exchange word before next pin began known false true true offered may =
+  by_exchange word before next pin began known true none link at offered may = subst (λ (k : ℕ). k < length c.memory.now.words) (sym (eqb-true word head_place at)) head_taken
+  by_exchange word before next pin began known false false link at offered may = absurd offered
+  by_exchange word before next pin began known false true true at offered may =
       (let low = link_inside o c seat note.before (ghost_at (view_of c.views seat) note) pin began inv known unspent word next may in let many = inv.sizes.words.words in omega (arith, low, many))
-  by_exchange word before next pin began known false true false offered may =
+  by_exchange word before next pin began known false true false at offered may =
       (let low = slot_inside o c seat note.before (ghost_at (view_of c.views seat) note) pin began inv known unspent word next may in let many = inv.sizes.words.words in omega (arith, low, many))
 
   takes_by : (ask : Ask) → KnownAt ask → IsOfferedKind note.before (kind_of_ask (q_of_origin o) seat ask) →
@@ -83,7 +83,7 @@ module _ (o : Origin) (c : Core) (seat : ℕ) (note : Note) (inv : Invariant o c
   takes_by (Store (Pin other) value) known offered step = by_own other value (other == seat) refl offered
   takes_by (Store (Map word) value) known offered step = absurd offered
   takes_by (Store (FenceOf other) value) known offered step = absurd offered
-  takes_by (Exchange (Image word) before next) known offered step = by_exchange word before next _ _ (known step) (word == head_place) (before == 0) (word % q_of_origin o == 0) offered step.may
+  takes_by (Exchange (Image word) before next) known offered step = by_exchange word before next _ _ (known step) (word == head_place) (before == 0) (word % q_of_origin o == 0) refl offered step.may
   takes_by (Exchange (Pin other) before next) known offered step = absurd offered
   takes_by (Exchange (Map word) before next) known offered step = absurd offered
   takes_by (Exchange (FenceOf other) before next) known offered step = absurd offered
@@ -103,5 +103,5 @@ module _ (o : Origin) (c : Core) (seat : ℕ) (note : Note) (inv : Invariant o c
 pub takes_asked : (o : Origin) (c : Core) (seat : ℕ) (ask : Ask) (note : Note) → Invariant o c → Allowed o c (Does seat ask note) → MemoryTakes c.memory ask
 takes_asked o c seat ask note inv allowed =
     takes_by o c seat note inv allowed.fits.made allowed.fits.unspent ask
-    (λ step. at_ask o c seat inv allowed.fits.made allowed.fits.unspent note (kind_of_ask (q_of_origin o) seat ask) (found_answer c.memory ask) allowed.fits.step allowed.offered.before allowed.offered.later allowed.offered.no_record)
+    (λ step. at_ask o c seat inv allowed.fits.made allowed.fits.unspent note (kind_of_ask (q_of_origin o) seat ask) (found_answer c.memory ask) allowed.fits.step allowed.offered.before allowed.offered.later)
     allowed.offered.kind allowed.fits.step

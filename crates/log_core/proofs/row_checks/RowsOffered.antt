@@ -54,7 +54,7 @@ module _ (o : Origin) (c : Core) (seat number : ℕ) (ask : Ask) (works : List W
       IsOfferedKind (state_after_all_work (view_of c.views seat).seat works) (kind_of_ask (q_of_origin o) seat ask) → list_all is_offered_work works ≡ true → Allowed o c (step_of o c seat ask number works [] [])
   step_allowed made unspent computes numbered may kind offered = record {
     fits = step_fits made unspent computes numbered may;
-    offered = record { kind = kind; before = offered; later = refl; no_record = refl };
+    offered = record { kind = kind; before = offered; later = refl };
   }
 
 pub offered_kinds : OfferedKinds

@@ -36,7 +36,7 @@ pin_runs = (
               enters = record { last = _; computed = record { works = []; may = tt; gives = refl }; going_on = refl; adds_are = tt; seat_is = refl };
             };
           };
-          offered = record { kind = tt; before = refl; later = refl; no_record = refl };
+          offered = record { kind = tt; before = refl; later = refl };
         },
       ),
       record {
@@ -50,7 +50,7 @@ pin_runs = (
             enters = record { last = _; computed = record { works = []; may = tt; gives = refl }; going_on = refl; adds_are = tt; seat_is = refl };
           };
         };
-        offered = record { kind = tt; before = refl; later = refl; no_record = refl };
+        offered = record { kind = tt; before = refl; later = refl };
       },
     ),
     record {
@@ -64,15 +64,15 @@ pin_runs = (
           enters = record { last = _; computed = record { works = []; may = tt; gives = refl }; going_on = refl; adds_are = tt; seat_is = refl };
         };
       };
-      offered = record { kind = tt; before = refl; later = refl; no_record = refl };
+      offered = record { kind = tt; before = refl; later = refl };
     },
   ),
   refl,
 )
 
 pub write_fits : WriteFits
-write_fits = (
-  record {
+write_fits = record {
+  fits = record {
     made = omega arith;
     unspent = one_part 0;
     step = record {
@@ -87,9 +87,9 @@ write_fits = (
         seat_is = refl;
       };
     };
-  },
-  λ allowed. (let none = allowed.offered.no_record in cc),
-)
+  };
+  offered = record { kind = tt; before = refl; later = refl };
+}
 
 pub views_join : ViewsJoin
 views_join = (

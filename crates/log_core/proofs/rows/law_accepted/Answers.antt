@@ -9,6 +9,8 @@ use Rattle.log_core.proofs.row_checks.RowsLate.{late_write, late_sync, late_walk
 use Rattle.log_core.proofs.row_checks.RowsTurns.{runs_may_be_put, collections_in_turn}
 use Rattle.log_core.proofs.row_checks.RowsOffered.{bitmap_may_be_read, offered_kinds}
 use Rattle.log_core.proofs.row_checks.RowsReached.{block_runs}
+use Rattle.log_core.proofs.row_checks.RowsEnded.{calls_end}
+use Rattle.log_core.proofs.row_checks.RowsJoined.{sync_runs, no_mark_outside_of_syncs, seats_are_joined}
 use Rattle.log_core.proofs.rows.law_accepted.Goals as goal
 
 pub returns : goal.returns
@@ -20,6 +22,10 @@ returns c = record {
   bitmap_may_be_read = bitmap_may_be_read;
   offered_kinds = offered_kinds;
   block_runs = block_runs;
+  calls_end = calls_end;
+  sync_runs = sync_runs;
+  no_mark_outside_of_syncs = no_mark_outside_of_syncs;
+  seats_are_joined = seats_are_joined;
   order_stands = order_stands;
   pins_stand = pins_stand;
   views_stand = views_stand;
