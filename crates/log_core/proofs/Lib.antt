@@ -15,6 +15,7 @@ pub mod MapNames
 pub mod SameContents
 pub mod TailEnds
 pub mod LogGrowth
+pub mod SlotPlaces
 pub mod PinnedChains
 pub mod WalkMaps
 pub mod BaseWords

@@ -47,5 +47,10 @@ pub mod StepHolds
 pub mod ExchangesLink
 pub mod LosesExchange
 pub mod LinkHolds
+pub mod SealsSlot
+pub mod CommitsFile
+pub mod CommitsEntry
+pub mod CommitsSeat
+pub mod SlotHolds
 pub mod ExchangeHolds
 pub mod RunHolds

@@ -25,5 +25,6 @@ pub mod RowsTurns
 pub mod RowsOffered
 pub mod RowsStart
 pub mod RowsReached
+pub mod RowsWritten
 pub mod RowsEnded
 pub mod RowsJoined

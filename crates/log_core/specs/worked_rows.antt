@@ -6,6 +6,7 @@ pub mod Gaps
 pub mod CallGaps
 pub mod CoreGaps
 pub mod Offered
+pub mod Written
 pub mod Ended
 pub mod Accepted
 pub mod Joined

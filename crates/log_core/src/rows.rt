@@ -2,6 +2,7 @@
 
 ghost use Rattle.log_core.specs.worked_rows.Rows.{JustMade, PinsInThreeSteps, ScanSeesPins, ComesToTail, BitsTaken, FenceFollows, SlotWon, SlotLost, WriteEnds, LinkWon, LinkLost, HeadWon, HeadLost, KeptUntilUnpinned, BitsCleared, BitsNotCleared, CollectEnds, SyncEnds, FilesByPosition, EarlyFiles, WalkedTrail, LacksBlocks, EntryTakenIn, ReadLays, BaseWords, SnapshotRead, QuietCalls, RepliesFit, LimitsFit};
 ghost use Rattle.log_core.specs.worked_rows.Offered.{FilledNoMore, BitmapMayBeRead, OfferedKinds, BlockRuns};
+ghost use Rattle.log_core.specs.worked_rows.Written.{WriteRuns, EntriesNotPut};
 ghost use Rattle.log_core.specs.worked_rows.Ended.{CallsEnd, WriteNotPut, SizeBeforeTail, KeptTooEarly};
 ghost use Rattle.log_core.specs.worked_rows.Joined.{SyncRuns, NoMarkOutsideOfSyncs, SeatsAreJoined};
 ghost use Rattle.log_core.specs.worked_rows.Refused.{OtherEntryPossible, HeadSkips, LogHasMore, BitWithoutOwner, BlockOnTwoLists, ChainBlockFree, OtherContentPossible, PinOfAnother, ViewOfAnother, StoredNotPresent, ReplacedStillNamed, RecordOfNoWrite, SyncedMayBeLost, NamedTwice, SnapshotNamesMore, WriteOfNoSeat};
@@ -100,6 +101,8 @@ pub fn law_accepted()
     ensures bitmap_may_be_read { BitmapMayBeRead }
     ensures offered_kinds { OfferedKinds }
     ensures block_runs { BlockRuns }
+    ensures write_runs { WriteRuns }
+    ensures entries_not_put { EntriesNotPut }
     ensures calls_end { CallsEnd }
     ensures sync_runs { SyncRuns }
     ensures no_mark_outside_of_syncs { NoMarkOutsideOfSyncs }

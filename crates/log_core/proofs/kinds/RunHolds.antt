@@ -17,7 +17,7 @@ use Rattle.log_core.specs.Runs.{MayStep, MaySplit, IsRun, end, is_offered_work}
 use Rattle.log_core.specs.Invariant.{Invariant}
 use Rattle.log_core.specs.Laws.{StepKeeps}
 use Rattle.log_core.proofs.kinds.StepHolds.{head_holds, image_word_holds, pin_holds, seen_holds, bitmap_word_holds, set_bits_holds, clear_bits_holds, stored_holds, mark_holds, head_exchange_holds, fence_holds}
-use Rattle.log_core.proofs.kinds.ExchangeHolds.{link_holds}
+use Rattle.log_core.proofs.kinds.ExchangeHolds.{link_holds, slot_holds}
 use Rattle.log_core.proofs.kinds.Splits.{split_holds}
 use Rattle.log_core.proofs.kinds.Joins.{join_holds}
 
@@ -49,7 +49,8 @@ module _ (o : Origin) (c : Core) (n : ℕ) (inv : Invariant o c) (here : n < len
   by_exchange word before next f false false link at e is = λ offered. absurd offered
   by_exchange word before next f false true true at e is = subst (λ (k : ℕ). KeepsAsk (Exchange (Image word) k next) (ExchangesLink word next) f f) (sym (eqb-true before 0 e))
       (subst (λ (k : ℕ). KeepsAsk (Exchange (Image word) 0 next) (ExchangesLink word next) k k) is (λ offered. link_holds o c n inv here unspent note word next))
-  by_exchange word before next f false true false at e is = λ offered. absurd offered
+  by_exchange word before next f false true false at e is = subst (λ (k : ℕ). KeepsAsk (Exchange (Image word) k next) (ExchangesSlot word next) f f) (sym (eqb-true before 0 e))
+      (subst (λ (k : ℕ). KeepsAsk (Exchange (Image word) 0 next) (ExchangesSlot word next) k k) is (λ offered. slot_holds o c n inv here unspent note word next))
 
   each_ask : (ask : Ask) → KeepsAsk ask (kind_of_ask (q_of_origin o) n ask) (found c.memory ask) (found_answer c.memory ask)
   each_ask (Load (Image word)) = by_head word (word == head_place) refl

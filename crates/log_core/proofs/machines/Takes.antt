@@ -26,7 +26,7 @@ use Rattle.log_core.proofs.ChainPlaces.{head_inside}
 use Rattle.log_core.proofs.kinds.MarksFit.{mark_fits}
 use Rattle.log_core.proofs.kinds.LoadsImageWord.{named_inside}
 use Rattle.log_core.proofs.kinds.StepHolds.{at_ask}
-use Rattle.log_core.proofs.kinds.ExchangeHolds.{link_inside}
+use Rattle.log_core.proofs.kinds.ExchangeHolds.{link_inside, slot_inside}
 
 module _ (o : Origin) (c : Core) (seat : ℕ) (note : Note) (inv : Invariant o c) (made : seat < length c.views) (unspent : (view_of c.views seat).parts ≢ []) where
   head_taken : head_place < length c.memory.now.words
@@ -70,7 +70,8 @@ module _ (o : Origin) (c : Core) (seat : ℕ) (note : Note) (inv : Invariant o c
   by_exchange word before next pin began known false false link at offered may = absurd offered
   by_exchange word before next pin began known false true true at offered may =
       (let low = link_inside o c seat note.before (ghost_at (view_of c.views seat) note) pin began inv known unspent word next may in let many = inv.sizes.words.words in omega (arith, low, many))
-  by_exchange word before next pin began known false true false at offered may = absurd offered
+  by_exchange word before next pin began known false true false at offered may =
+      (let low = slot_inside o c seat note.before (ghost_at (view_of c.views seat) note) pin began inv known unspent word next may in let many = inv.sizes.words.words in omega (arith, low, many))
 
   takes_by : (ask : Ask) → KnownAt ask → IsOfferedKind note.before (kind_of_ask (q_of_origin o) seat ask) →
       (step : MayStep o c (view_of c.views seat) (kind_of_ask (q_of_origin o) seat ask) note (found_answer c.memory ask)) → MemoryTakes c.memory ask

@@ -14,7 +14,8 @@ use Rattle.log_core.specs.Runs.{MayMakeStep, Allowed, MayNumber, is_offered_work
 use Rattle.log_core.specs.worked_rows.Samples.{step_of}
 use Rattle.log_core.specs.worked_rows.Offered.{FilledNoMore, BitmapMayBeRead, OfferedKinds}
 use Rattle.log_core.proofs.row_checks.RowsTaken.{bits_taken, fence_follows}
-use Rattle.log_core.proofs.row_checks.RowsMay.{word_may_be_marked}
+use Rattle.log_core.proofs.row_checks.RowsMay.{word_may_be_marked, entry_may_be_put}
+use Rattle.log_core.proofs.row_checks.RowsExchanged.{link_won}
 use Rattle.log_core.proofs.row_checks.RowsGiven.{bits_cleared, sync_ends}
 use Rattle.log_core.proofs.row_checks.RowsWrong.{one_part}
 use Rattle.log_core.proofs.row_checks.RowTells.{is_sync, is_put}
@@ -74,4 +75,10 @@ offered_kinds = (
   step_allowed _ _ 0 _ _ [] (omega arith) (one_part 0) tt refl (OfTrail refl refl refl) tt refl,
   step_allowed _ _ 0 _ _ [] (omega arith) (one_part 0) tt refl (OfNewHead refl (λ none. true≢false (ap is_put none))) tt refl,
   step_allowed _ _ 0 _ _ [] (omega arith) (one_part 0) tt refl sync_ends.3 tt refl,
+  step_allowed _ _ 0 _ _ [] (omega arith) (one_part 0) tt refl (λ seal. absurd (omega (arith, seal)), λ entry. entry_may_be_put.0) tt refl,
+  step_allowed _ _ 0 _ _ [] (omega arith) (one_part 0) tt refl
+      (λ seal. record { at_tail = record { valid = refl; ready = refl; not_won = refl; at_tail = refl }; slot = refl; later = omega arith; inside = omega arith; job = refl }, λ entry. absurd (entry refl)) tt refl,
+  step_allowed _ _ 0 _ _ [] (omega arith) (one_part 0) tt refl link_won.5 tt refl,
+  λ allowed. link_won.6 allowed.fits.step.may,
+  λ allowed. (let same = (allowed.fits.step.may.0 refl).slot in omega (arith, same)),
 )

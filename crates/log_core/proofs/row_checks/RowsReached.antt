@@ -101,7 +101,7 @@ each_marked (suc (suc (suc (suc (suc (suc zero)))))) less = refl
 each_marked (suc (suc (suc (suc (suc (suc (suc zero))))))) less = refl
 each_marked (suc (suc (suc (suc (suc (suc (suc (suc word)))))))) less = absurd (omega (arith, less))
 
-fenced_reached : IsReached image_a own_fenced
+pub fenced_reached : IsReached image_a own_fenced
 fenced_reached = reach marked_reached (step_allowed image_a own_marked 0 1 Fence (CountsFilled 0 ∷ []) (omega arith) (one_part 0) (record { owned = omega arith; each = each_marked }, tt) refl
     (record { in_sync = λ sync tail none. absurd (no_sync_runs sync) }) tt refl)
 

@@ -71,8 +71,8 @@ pin_runs = (
 )
 
 pub write_fits : WriteFits
-write_fits = (
-  record {
+write_fits = record {
+  fits = record {
     made = omega arith;
     unspent = one_part 0;
     step = record {
@@ -87,9 +87,9 @@ write_fits = (
         seat_is = refl;
       };
     };
-  },
-  λ allowed. allowed.offered.kind,
-)
+  };
+  offered = record { kind = tt; before = refl; later = refl };
+}
 
 pub views_join : ViewsJoin
 views_join = (

@@ -126,12 +126,12 @@ pin_steps =
 abbrev pub PinRuns : Type 0
 PinRuns = IsRun image_a pin_steps × (end image_a pin_steps ≡ pinned)
 
--- the exchange that puts an entry in, with the record that ends its call, meets the condition of its kind; but no exchange is a step yet
+-- the exchange that puts an entry in, with the record that ends its call, is allowed
 abbrev pub write_step : Step
 write_step = step_of image_a racing 0 (Exchange (Image 27) 0 to_first) 1 [] [] (first_call ∷ [])
 
 abbrev pub WriteFits : Type 0
-WriteFits = MayMakeStep image_a racing write_step × (Allowed image_a racing write_step → ⊥)
+WriteFits = Allowed image_a racing write_step
 
 -- seat 0 has its records and its blocks kept for later, and holds nothing; seat 1 has come further, and holds nothing
 abbrev pub idle : View → View
