@@ -215,7 +215,6 @@ begins_among {M} {Out} F seat script m P R w promises holds among = ∥∥₁_ma
                   (promises o rests.stands.start seat number v.done (seat_of w seat) v (record {
                     unspent = at.holds.unspent;
                     begins = at.holds.begins;
-                    offered = at.holds.offered;
                     number_is = next_may v (seat_of w seat);
                     done = refl;
                     fits = holds o c g (known_in w o c seat rests.stands at);

@@ -20,12 +20,12 @@ use Rattle.log_core.specs.Works.{Work, Begins, SetsWord, MaySetWord, MayWork, st
 use Rattle.log_core.specs.Steps.{is_begun, ghost_begun}
 use Rattle.log_core.specs.After.{began_if}
 use Rattle.log_core.specs.Records.{mark_of}
-use Rattle.log_core.specs.Runs.{MayNumber, is_offered_work}
+use Rattle.log_core.specs.Runs.{MayNumber}
 use Rattle.log_core.specs.Invariant.{Invariant}
 use Rattle.log_core.specs.Knows.{Knows}
 use Rattle.log_core.specs.Starts.{origin_of}
 use Rattle.log_core.proofs.clauses.OneView.{same_or_other}
-use Rattle.log_core.proofs.machines.Parts.{worked_more, may_more, all_more}
+use Rattle.log_core.proofs.machines.Parts.{worked_more, may_more}
 use Rattle.log_core.proofs.machines.Serving.{knows_here, reached_keeps}
 use Rattle.log_core.proofs.starts.StartKept.{same_position}
 use Rattle.log_core.proofs.starts.StartMeets.{start_meets}
@@ -35,7 +35,7 @@ use Rattle.crash_model.proofs.Standing.{stands_with, new_stands_by}
 
 -- a seat has computed nothing where its state is its view's
 pub left_computed : (v : View) (s : Seat) → v.parts ≢ [] → s ≡ v.seat → IsComputed v s
-left_computed v s unspent same = record { unspent = unspent; begins = record { works = []; may = tt; gives = same }; offered = refl }
+left_computed v s unspent same = record { unspent = unspent; begins = record { works = []; may = tt; gives = same } }
 
 -- the number of the call that a seat's next step is of: a greater one, where the seat has begun a call
 abbrev number_by : Bool → ℕ → ℕ
@@ -72,7 +72,7 @@ known_in w o c seat stands at =
       holds = inv;
       pin = slice_index c.memory.now.pins seat;
       began = slice_index (began_if (is_begun (op_in v.seat) (op_in (seat_of w seat))) c.began seat (end_of o c.history)) seat;
-      knows = knows_here o start seat (number_next v (seat_of w seat)) c (seat_of w seat) inv at.made at.holds.unspent at.holds.begins at.holds.offered (next_may v (seat_of w seat));
+      knows = knows_here o start seat (number_next v (seat_of w seat)) c (seat_of w seat) inv at.made at.holds.unspent at.holds.begins (next_may v (seat_of w seat));
     })
 
 pub known_at_rest : (w : WorldNow) (o : Origin) (c : Core) (seat : ℕ) → seat < length w.seats → EachIn Rests w o c →
@@ -103,8 +103,8 @@ module _ (w : WorldNow) (o : Origin) (c : Core) (seat : ℕ) (g : Ghost) (known 
   no_marks_known none = known.knows.marks
       ∙ ap (λ (pending : List PendingMark). map (mark_of (λ word. cell c.memory word) c.memory.past) pending) (ap (λ (m : Memory). pending_of seat m.pending) known.stands.memory ∙ none)
 
--- a world at rest stays so where a seat computes, by a computation that is offered
-module _ (w : WorldNow) (seat : ℕ) (work : Work) (offered : is_offered_work work ≡ true) (inside : seat < length w.seats) where
+-- a world at rest stays so where a seat computes
+module _ (w : WorldNow) (seat : ℕ) (work : Work) (inside : seat < length w.seats) where
   abbrev computed : WorldNow
   computed = set_seat w seat (state_after_work (seat_of w seat) work)
 
@@ -119,7 +119,6 @@ module _ (w : WorldNow) (seat : ℕ) (work : Work) (offered : is_offered_work wo
           may = may_more v.ghost v.seat begins.works (work ∷ []) begins.may (subst (λ (s : Seat). MayWork v.ghost s work) begins.gives may, tt);
           gives = ap (λ (s : Seat). state_after_work s work) begins.gives ∙ sym (worked_more v.seat begins.works (work ∷ []));
         };
-        offered = all_more is_offered_work begins.works (work ∷ []) at.holds.offered (rw offered refl);
       })
 
   rests_computed : (o : Origin) (c : Core) → MayWork (view_of c.views seat).ghost (seat_of w seat) work → EachIn Rests w o c → EachIn Rests computed o c
@@ -141,10 +140,10 @@ module _ (w : WorldNow) (seat : ℕ) (work : Work) (offered : is_offered_work wo
 
 -- it sets a word of an owned block, or begins a task
 pub word_rests : (w : WorldNow) (seat place word value : ℕ) → seat < length w.seats → MaySetWord (seat_of w seat) place word value → IsResting w → IsResting (set_seat w seat (state_after_work (seat_of w seat) (SetsWord place word value)))
-word_rests w seat place word value inside may resting = computed_rests w seat (SetsWord place word value) refl inside (λ o c rests. may) resting
+word_rests w seat place word value inside may resting = computed_rests w seat (SetsWord place word value) inside (λ o c rests. may) resting
 
 pub begun_rests : (w : WorldNow) (seat : ℕ) (task : Task) (bytes : List ℕ) → seat < length w.seats → MayBeginAt w seat task bytes → IsResting w → IsResting (set_seat w seat (state_after_work (seat_of w seat) (Begins task bytes)))
-begun_rests w seat task bytes inside may resting = computed_rests w seat (Begins task bytes) refl inside
+begun_rests w seat task bytes inside may resting = computed_rests w seat (Begins task bytes) inside
     (λ o c rests. (let v = view_of c.views seat in
     let g = ghost_begun v.ghost v.seat (seat_of w seat) (number_next v (seat_of w seat)) in
     let known = known_at_rest w o c seat inside rests in

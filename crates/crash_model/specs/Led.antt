@@ -1,6 +1,5 @@
 -- Seats of a world: at rest, or each in the middle of a machine that leads to its end within a core.
-use Rattle.std.specs.Prelude.{ℕ, ◌<◌, ◌+◌, ◌≡◌, ◌≢◌, true, false, length, List, [], Some, None}
-use Rattle.std.specs.List.{list_all}
+use Rattle.std.specs.Prelude.{ℕ, ◌<◌, ◌+◌, ◌≡◌, ◌≢◌, false, length, List, [], Some, None}
 use Rattle.log_entry.specs.declared.calls.Op.{Op}
 use Rattle.log_entry.specs.declared.calls.Call.{Call}
 use Rattle.pmem_words.specs.declared.keeps.Task.{Task}
@@ -12,15 +11,13 @@ use Rattle.log_core.specs.Views.{View, view_of, op_in, op_of}
 use Rattle.log_core.specs.Origin.{Origin}
 use Rattle.log_core.specs.Cores.{Core}
 use Rattle.log_core.specs.Works.{Computes, laid_bytes, is_quiet}
-use Rattle.log_core.specs.Runs.{is_offered_work}
 use Rattle.log_core.specs.Within.{within}
 use Rattle.crash_model.specs.Worlds.{WorldNow, StandsForCore, seat_of}
 
--- a view that is not spent is computed on to this state, by computations that are offered
+-- a view that is not spent is computed on to this state
 pub record IsComputed (v : View) (s : Seat) : Type 0 where
   pub unspent : v.parts ≢ []
   pub begins : Computes v.ghost v.seat s
-  pub offered : list_all is_offered_work begins.works ≡ true
 
 -- what holds of a seat, of its state and its view, in a run from a start
 abbrev pub Held : Type 1

@@ -22,7 +22,7 @@ pub mod RowsOwners
 pub mod RowsRun
 pub mod RowsLate
 pub mod RowsTurns
-pub mod RowsOffered
+pub mod RowsAllowed
 pub mod RowsStart
 pub mod RowsReached
 pub mod RowsWritten

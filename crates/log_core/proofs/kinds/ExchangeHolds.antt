@@ -49,18 +49,18 @@ module _ (o : Origin) (c : Core) (n : ℕ) (inv : Invariant o c) (here : n < len
   -- an exchange of a link
   pub link_holds : (word block : ℕ) → Keeps o c n inv here unspent note (ExchangesLink word block) (slice_index c.memory.now.words word)
       (Invariant o (stepped o c n (Exchange (Image word) 0 block) note (ExchangesLink word block) (slice_index c.memory.now.words word)))
-  link_holds word block step before later = (let f = slice_index c.memory.now.words word in
+  link_holds word block step = (let f = slice_index c.memory.now.words word in
       entered o c n note (ExchangesLink word block) f here unspent step (stepped o c n (Exchange (Image word) 0 block) note (ExchangesLink word block) f)
       (link_keeps o c n note.before (ghost_at (view_of c.views n) note) word block (began o c n inv here unspent note) inv here unspent
-      (at_ask o c n inv here unspent note (ExchangesLink word block) f step before later) step.may
-      (began_fits o c n inv here unspent note) (began_others o c n inv here unspent note) (began_lows o c n inv here unspent note) (f == 0) refl) later)
+      (at_ask o c n inv here unspent note (ExchangesLink word block) f step) step.may
+      (began_fits o c n inv here unspent note) (began_others o c n inv here unspent note) (began_lows o c n inv here unspent note) (f == 0) refl))
 
   -- an exchange of a slot
   pub slot_holds : (word entry : ℕ) → Keeps o c n inv here unspent note (ExchangesSlot word entry) (slice_index c.memory.now.words word)
       (Invariant o (stepped o c n (Exchange (Image word) 0 entry) note (ExchangesSlot word entry) (slice_index c.memory.now.words word)))
-  slot_holds word entry step before later = (let f = slice_index c.memory.now.words word in
+  slot_holds word entry step = (let f = slice_index c.memory.now.words word in
       entered o c n note (ExchangesSlot word entry) f here unspent step (stepped o c n (Exchange (Image word) 0 entry) note (ExchangesSlot word entry) f)
       (slot_keeps o c n note.before (ghost_at (view_of c.views n) note) word entry note.number (began o c n inv here unspent note) inv here unspent
-      (at_ask o c n inv here unspent note (ExchangesSlot word entry) f step before later) step.may
+      (at_ask o c n inv here unspent note (ExchangesSlot word entry) f step) step.may
       (call_number (view_of c.views n).ghost (is_begun (op_in (view_of c.views n).seat) (op_in note.before)) note.number step.number)
-      (began_fits o c n inv here unspent note) (began_others o c n inv here unspent note) (began_lows o c n inv here unspent note) (entry == SEAL) refl (f == 0) refl) later)
+      (began_fits o c n inv here unspent note) (began_others o c n inv here unspent note) (began_lows o c n inv here unspent note) (entry == SEAL) refl (f == 0) refl))

@@ -32,10 +32,10 @@ module _ (o : Origin) (c : Core) (n : ℕ) (inv : Invariant o c) (here : n < len
 
   -- a fence: the position that a sync answers stays, or the fence gives it
   pub fence_holds : Keeps o c n inv here unspent note Fences 0 (Invariant o (stepped o c n Fence note Fences 0))
-  fence_holds step before later = by (sync_fences note.before.calling.job note.before.walk.at_tail note.before.walk.position note.before.calling.sync_to)
+  fence_holds step = by (sync_fences note.before.calling.job note.before.walk.at_tail note.before.walk.position note.before.calling.sync_to)
     where
       asked : Knows o c n note.before (ghost_at mine note) (slice_index c.memory.now.pins n) (slice_index began n)
-      asked = at_ask o c n inv here unspent note Fences 0 step before later
+      asked = at_ask o c n inv here unspent note Fences 0 step
 
       same_to : (to : Option ℕ) → synced_to c.synced to to ≡ c.synced
       same_to None = refl
@@ -55,7 +55,7 @@ module _ (o : Origin) (c : Core) (n : ℕ) (inv : Invariant o c) (here : n < len
           Invariant o (stepped o c n Fence note Fences 0)
       by (inl same) = subst (λ (synced : ℕ). Invariant o (record c { memory = memory_after c.memory n Fence; views = slice_set c.views n (view_after mine Fences note 0); synced = synced; began = began }))
           (sym (ap (synced_to c.synced note.before.calling.sync_to) same ∙ same_to note.before.calling.sync_to))
-          (kind_holds o c n inv here unspent note Fences 0 step before later (memory_after c.memory n Fence) c.owner leaves (no_changes c n) inv.owners.bits
+          (kind_holds o c n inv here unspent note Fences 0 step (memory_after c.memory n Fence) c.owner leaves (no_changes c n) inv.owners.bits
           (subst (λ (to : Option ℕ). Knows o (moved c (memory_after c.memory n Fence) (λ block. c.owner block)) n (fenced_seat o c n note.before (ghost_at mine note) (slice_index c.memory.now.pins n) (slice_index began n) inv asked to)
           (ghost_left mine note Fences 0) (slice_index c.memory.now.pins n) (slice_index began n)) (sym same) fenced_facts))
       by (inr rises) = subst (λ (synced : ℕ). Invariant o (record c { memory = memory_after c.memory n Fence; views = slice_set c.views n (view_after mine Fences note 0); synced = synced; began = began }))
@@ -63,7 +63,7 @@ module _ (o : Origin) (c : Core) (n : ℕ) (inv : Invariant o c) (here : n < len
           (entered o c n note Fences 0 here unspent step (record c { memory = memory_after c.memory n Fence; synced = max c.synced note.before.walk.position; began = began })
           (subst (λ (views : List View). Invariant o (record c { memory = memory_after c.memory n Fence; views = views; synced = max c.synced note.before.walk.position; began = began })) views_are
           (answered_from o still still_holds note.before.walk.position words (asked.walk unspent).to_end n still_view (get_or-set_same c.views n still_view spent_view here) (subst (λ (k : ℕ). n < k) (sym (length-set c.views n still_view)) here)
-          unspent rises.0 refl rises.1)) later)
+          unspent rises.0 refl rises.1)))
         where
           still_view : View
           still_view = with_seat mine (fenced_seat o c n note.before (ghost_at mine note) (slice_index c.memory.now.pins n) (slice_index began n) inv asked note.before.calling.sync_to) (ghost_left mine note Fences 0)

@@ -12,7 +12,7 @@ use Rattle.log_core.specs.Runs.{IsReached}
 use Rattle.log_core.specs.Invariant.{Invariant}
 use Rattle.log_core.specs.worked_rows.Samples.{image_a, step_of, stepping}
 use Rattle.log_core.specs.worked_rows.Rows.{to_first, to_second, first_call, first_write}
-use Rattle.log_core.specs.worked_rows.Offered.{IsAllowed, own_marked, own_fenced}
+use Rattle.log_core.specs.worked_rows.AllowedSteps.{IsAllowed, own_marked, own_fenced}
 
 -- a seat reads the front of its chain, and comes to the tail
 abbrev pub at_tail_from : Core → Core

@@ -1,4 +1,4 @@
--- Steps on the bitmap and on own blocks: what they come to, which are offered, and a run of those that are.
+-- Steps on the bitmap and on own blocks: what they come to; which steps are allowed; and a run of them.
 use Rattle.std.specs.Prelude.{ℕ, ◌≡◌, true, false, List, [], ◌∷◌, map, replicate, Some}
 use Rattle.log_entry.specs.declared.shapes.Area.TheVariants.{Data}
 use Rattle.pmem_words.specs.declared.keeps.Task.TheVariants.{Collect}
@@ -11,7 +11,7 @@ use Rattle.log_core.specs.Origin.{Free, Header, InChain, OwnedBy}
 use Rattle.log_core.specs.Cores.{Core}
 use Rattle.log_core.specs.Works.{Work, Begins, StartsFromLog, SetsWord, CountsFilled, stored_at, state_after_work}
 use Rattle.log_core.specs.May.{MayLoadBitmapWord, MaySetBits}
-use Rattle.log_core.specs.Runs.{MayMakeStep, Allowed, IsReached}
+use Rattle.log_core.specs.Runs.{Allowed, IsReached}
 use Rattle.log_core.specs.Starts.{IsStart}
 use Rattle.log_core.specs.Invariant.{Invariant}
 use Rattle.log_core.specs.worked_rows.Samples.{image_a, step_of, stepping, number_in, storing, marking}
@@ -41,10 +41,7 @@ BitmapMayBeRead =
     × (MayLoadBitmapWord (view_of syncing.views 0).seat 0 → ⊥)
     × (MaySetBits (view_of syncing.views 0).seat 0 4 → ⊥)
 
--- a step of a seat in its running call meets the condition of its kind, and is allowed
-abbrev pub MayBeMade : Core → ℕ → Ask → List Work → Type 0
-MayBeMade c seat ask works = MayMakeStep image_a c (step_of image_a c seat ask (number_in c seat) works [] [])
-
+-- a step of a seat in its running call is allowed
 abbrev pub IsAllowed : Core → ℕ → Ask → List Work → Type 0
 IsAllowed c seat ask works = Allowed image_a c (step_of image_a c seat ask (number_in c seat) works [] [])
 
@@ -60,8 +57,8 @@ tail_read = stepping image_a written 0 (Load (Image 28)) 2 (Begins Collect [] �
 -- word, a setting of bits, a store into an own block, a mark of a word of it, a fence in a write, and a clearing of the bits of own
 -- blocks and of replaced ones; a sync's mark of the head and of a slot, a collection's mark of its head, and a sync's fence; and exchanges of the tail's slot for an entry and
 -- for a seal, and of its link. Not of a link for a block with another content, nor of a slot that is not the tail's
-abbrev pub OfferedKinds : Type 0
-OfferedKinds =
+abbrev pub AllowedKinds : Type 0
+AllowedKinds =
     IsAllowed pinned 0 (Load (Image 25)) []
     × IsAllowed front_read 0 (Load (Image 27)) (StartsFromLog ∷ [])
     × IsAllowed walked 0 (Load (Map 0)) []
