@@ -44,6 +44,7 @@ pub mod LosesHead
 pub mod ExchangesHead
 pub mod HeadHolds
 pub mod StepHolds
+pub mod FenceHolds
 pub mod ExchangesLink
 pub mod LosesExchange
 pub mod LinkHolds

@@ -16,7 +16,8 @@ use Rattle.log_core.specs.May.{IsOfferedKind}
 use Rattle.log_core.specs.Runs.{MayStep, MaySplit, IsRun, end, is_offered_work}
 use Rattle.log_core.specs.Invariant.{Invariant}
 use Rattle.log_core.specs.Laws.{StepKeeps}
-use Rattle.log_core.proofs.kinds.StepHolds.{head_holds, image_word_holds, pin_holds, seen_holds, bitmap_word_holds, set_bits_holds, clear_bits_holds, stored_holds, mark_holds, head_exchange_holds, fence_holds}
+use Rattle.log_core.proofs.kinds.StepHolds.{head_holds, image_word_holds, pin_holds, seen_holds, bitmap_word_holds, set_bits_holds, clear_bits_holds, stored_holds, mark_holds, head_exchange_holds}
+use Rattle.log_core.proofs.kinds.FenceHolds.{fence_holds}
 use Rattle.log_core.proofs.kinds.ExchangeHolds.{link_holds, slot_holds}
 use Rattle.log_core.proofs.kinds.Splits.{split_holds}
 use Rattle.log_core.proofs.kinds.Joins.{join_holds}
