@@ -1,6 +1,5 @@
 -- What a generation names where a step puts blocks into the chain: those before, and these; and who has each block then.
-use Rattle.std.proofs.Common.{◌≡◌, ◌≢◌, ◌<◌, ◌≤◌, ◌-◌, ◌||◌, ◌==◌, not, if◌then◌else◌, ℕ, Bool, true, false, List, [], ◌∷◌, ◌++◌, length, drop, refl, sym, ◌∙◌, ap, subst, arith, append_assoc}
-use Rattle.std.proofs.lemmas.Bool.{and_parts}
+use Rattle.std.proofs.Common.{◌≡◌, ◌≢◌, ◌<◌, ◌≤◌, ◌-◌, ◌||◌, ◌==◌, if◌then◌else◌, ℕ, Bool, true, false, List, ◌++◌, length, drop, refl, sym, ◌∙◌, ap, subst, arith, append_assoc}
 use Rattle.std.proofs.lemmas.List.Folds.{list_any-append}
 use Rattle.log_image.specs.Image.{is_in_data, is_in_log}
 use Rattle.log_image.specs.Chains.{all_different, is_listed}
@@ -15,7 +14,7 @@ use Rattle.log_core.specs.Owners.{bit_for, BitsFit, ChainOwns, IsListOf, NamesOn
 use Rattle.log_core.specs.Contents.{IsStillTaken}
 use Rattle.log_core.specs.Invariant.{Invariant, KeptIn}
 use Rattle.log_core.proofs.Heads.{current_kept, current_is}
-use Rattle.log_core.proofs.ChainWords.{in_one_part, front_different}
+use Rattle.log_core.proofs.ChainWords.{in_one_part, front_different, back_different}
 use Rattle.log_core.proofs.clauses.Apart.{has_left, has_right, either_of}
 use Rattle.log_core.proofs.clauses.Leaves.{taken_apart}
 use Rattle.log_core.proofs.clauses.Growth.{Growth, Grows, joined, owner_grown, recorded_grown}
@@ -33,12 +32,6 @@ listed_more a l b m block = list_any-append (λ (other : ℕ). other == block) (
     ∙ (ap (λ (t : Bool). (is_listed a block || is_listed l block) || t) (list_any-append (λ (other : ℕ). other == block) b m)
     ∙ (four (is_listed a block) (is_listed l block) (is_listed b block) (is_listed m block)
     ∙ sym (ap (λ (t : Bool). t || is_listed (l ++ m) block) (list_any-append (λ (other : ℕ). other == block) a b) ∙ ap (λ (t : Bool). (is_listed a block || is_listed b block) || t) (list_any-append (λ (other : ℕ). other == block) l m)))))
-
--- the last part of different numbers are different
-pub back_different : (first second : List ℕ) → all_different (first ++ second) ≡ true → all_different second ≡ true
-back_different [] second different = different
-back_different (number ∷ first) second different =
-    back_different first second (and_parts (not (is_listed (first ++ second) number)) (all_different (first ++ second)) different).1
 
 -- what is never true is false
 pub never : (b : Bool) → (b ≡ true → ⊥) → b ≡ false

@@ -31,7 +31,7 @@ use Rattle.log_core.specs.Invariant.{Invariant, KeptIn}
 use Rattle.log_core.specs.Knows.{Knows}
 use Rattle.log_core.proofs.Heads.{current_kept}
 use Rattle.log_core.proofs.FileLimits.{entry_within}
-use Rattle.log_core.proofs.MapNames.{block_named, map_block}
+use Rattle.log_core.proofs.MappedBlocks.{given_name, mapped_named}
 use Rattle.log_core.proofs.SameContents.{same_form, same_byte}
 use Rattle.log_core.proofs.TailEnds.{same_shape, walked, IsLastTail, slot_last}
 use Rattle.log_core.proofs.kinds.TakesEntry.{map_next, size_next, same_meaning}
@@ -219,13 +219,13 @@ module _ (o : Origin) (c : Core) (n : ℕ) (s : Seat) (g : Ghost) (pin began wor
   byte_end : (virt at : ℕ) → at < (shape o).block_bytes → (found : Option ℕ) → block_in meaning virt ≡ found →
       byte_in recorded (option_or found (history_map_at o es end virt)) at ≡ next_byte virt at
   byte_end virt at low (Some block) is = same_byte (shape o) (λ b. content_of s b) recorded (Some block) at
-      (λ b same. new_recorded b (block_named meaning virt b (is ∙ same)))
+      (λ b same. new_recorded b (given_name meaning virt b (is ∙ same)))
       ∙ (may.holds virt block at is (subst (λ (bytes : ℕ). at < bytes) (sym bytes_same) low)
       ∙ (ap (λ (bytes : ℕ). slice_index (file_after (file_at o c.history s.walk.position) may.op (accepted_reply may.op s.walk.size)) (virt * bytes + at)) bytes_same
       ∙ ap (λ (file : List ℕ). slice_index file (virt * (shape o).block_bytes + at)) (sym next_file)))
   byte_end virt at low None is = same_byte (shape o) c.recorded recorded (history_map_at o es end virt) at
       (λ block found. old_recorded place block kept (data_is_named o c.logs es (nth_generation c.generations place) block
-      (has_right (nth_generation c.generations place).snapshots (data_names o es (nth_generation c.generations place)) block (map_block o c inv place kept end virt block base_low found))))
+      (has_right (nth_generation c.generations place).snapshots (data_names o es (nth_generation c.generations place)) block (mapped_named o c inv place kept end virt block base_low found))))
       ∙ (((inv.contents place kept).files end base_low (omega arith)).held (omega arith)).each virt at low
       ∙ (ap (λ (position : ℕ). slice_index (file_at o c.history position) (virt * (shape o).block_bytes + at)) (sym last.position)
       ∙ (ap (λ (bytes : ℕ). slice_index (file_at o c.history s.walk.position) (virt * bytes + at)) (sym bytes_same)

@@ -24,7 +24,7 @@ use Rattle.log_core.proofs.LogTails.{sealed_at}
 use Rattle.log_core.proofs.LogGrowth.{more_used}
 use Rattle.log_core.proofs.TailEnds.{stands_at_end, same_shape, same_words, tail_load, walked, IsLastTail, slot_last, last_long, last_used}
 use Rattle.log_core.proofs.kinds.LoadsImageWord.{named_inside}
-use Rattle.log_core.proofs.kinds.ExchangesLink.{same_history}
+use Rattle.log_core.proofs.kinds.LinkGrows.{same_history}
 use Rattle.log_core.proofs.clauses.Exchanged.{WordGrows, exchange_wins}
 use Rattle.log_core.proofs.clauses.SlotAdded.{PutsSlot, logs_grow, order, stands, synced_stay, used_more, more_at}
 use Rattle.log_core.proofs.clauses.Growth.{Growth, Grows, last_log, grown}
