@@ -38,6 +38,7 @@ module _ (o : Origin) (c : Core) (x : Growth) (inv : Invariant o c) (grows : Gro
   pub map_same : (position virt : ℕ) → position ≤ end_of o c.history → history_map_at o (entries o x.history) position virt ≡ history_map_at o (entries o c.history) position virt
   map_same position virt low = ap (λ (es : List LogEntry). map_of (first_snapshot o ++ meanings es) virt) (front_is position low)
 
+  -- and its size
   pub size_same : (position : ℕ) → position ≤ end_of o c.history → history_size_at o (entries o x.history) position ≡ history_size_at o (entries o c.history) position
   size_same position low = ap (λ (es : List LogEntry). size_after (shape o) (start_size o) (meanings es)) (front_is position low)
 
@@ -148,6 +149,7 @@ module _ (o : Origin) (c : Core) (x : Growth) (inv : Invariant o c) (grows : Gro
         file_same : (virt at : ℕ) → slice_index (file_at o c.history position) (virt * (shape o).block_bytes + at) ≡ slice_index (file_at o x.history position) (virt * (shape o).block_bytes + at)
         file_same virt at = ap (λ (file : List ℕ). slice_index file (virt * (shape o).block_bytes + at)) (sym (grows.history.files position high))
 
+    -- a kept generation holds its map and its files
     pub contents_grown : GenerationHolds o (λ word. cell x.memory word) x.history recorded (λ block. owner_grown c x block) x.logs g
     contents_grown = record {
       taken = λ block named. named_or_joined o c x inv grows place block kept.inside named (λ was. taken_same o c x inv grows block (old.taken block was)) (λ new. inl (joined_owner o c x inv grows block new));

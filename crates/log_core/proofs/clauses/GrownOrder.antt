@@ -35,9 +35,11 @@ module _ (o : Origin) (c : Core) (x : Growth) (inv : Invariant o c) (grows : Gro
   abbrev gen : ℕ → Generation
   gen place = nth_generation c.generations place
 
+  -- a chain's first block stays
   pub front_same : (place : ℕ) → place < length c.generations → front_of x.logs (gen place) ≡ front_of c.logs (gen place)
   front_same place inside = ap (λ (block : ℕ). first_or (gen place).snapshots block) (grows.logs.each (gen place).cut (inv.order.generations_rise.cut_inside place inside)).block
 
+  -- the heads are in order
   pub heads_grown : HeadsInOrder o (λ word. cell x.memory word) c.generations x.logs
   heads_grown = (let r = heads_narrow o (λ word. cell c.memory word) (λ word. cell x.memory word) c.generations c.logs
       (λ word low. same_narrows c.memory x.memory word (header_same o c x inv grows word low)) inv.order.heads in
@@ -51,6 +53,7 @@ module _ (o : Origin) (c : Core) (x : Growth) (inv : Invariant o c) (grows : Gro
         each = λ place inside. r.each place inside ∙ ap (λ (block : ℕ). head_word (record { generation = first_generation o + place; block = block })) (sym (front_same place inside));
       })
 
+  -- generations rise
   pub rise_grown : GenerationsRise o (end_of o x.history) c.generations x.logs
   rise_grown = (let r = inv.order.generations_rise in record {
     from_first = r.from_first;
@@ -77,6 +80,7 @@ module _ (o : Origin) (c : Core) (x : Growth) (inv : Invariant o c) (grows : Gro
       (past_last c.logs (length c.logs - 1 + 1) (omega arith))
       (inv.order.chains place kept (length c.logs - 1) (last_late o c inv place kept) (last_inside o c inv))
 
+  -- the log blocks of a kept generation stand
   pub chains_grown : (place : ℕ) → KeptIn o c place → LogsStand (shape o) (λ word. cell x.memory word) x.logs (gen place).cut
   chains_grown place kept number late inside = before_last number (length c.logs)
       (λ before. subst (λ (log : LogBlock). LogStands (shape o) (λ word. cell x.memory word) log (nth_log x.logs (number + 1)).block) (sym (grows.logs.same number before))
@@ -85,6 +89,7 @@ module _ (o : Origin) (c : Core) (x : Growth) (inv : Invariant o c) (grows : Gro
       (log_same place number kept late before) (inv.order.chains place kept number late (omega (arith, before))))))
       (λ last. grows.stands (last_stands place kept) number last inside)
 
+  -- and what was synced is
   pub synced_grown : (place number : ℕ) → KeptIn o c place → head_floor c.memory ≤ place → (gen place).cut ≤ number → number < length x.logs →
       IsSyncedIn (shape o) (λ word. cell x.memory word) c.synced (nth_log x.logs number) (nth_log x.logs (number + 1))
   synced_grown place number kept low late inside = before_last number (length c.logs)

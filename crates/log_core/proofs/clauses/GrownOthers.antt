@@ -40,6 +40,7 @@ module _ (o : Origin) (c : Core) (x : Growth) (inv : Invariant o c) (grows : Gro
     owned = owned_same o c x inv grows;
   }
 
+  -- the owned blocks of a state of a seat
   pub owned_grown : (k : ℕ) (g : Ghost) (s : Seat) → words_of s ≡ q_of_origin o → seat_shape s ≡ shape o → ((block : ℕ) → is_listed (owned_numbers s.blocks.owned) block ≡ true → c.owner block ≡ OwnedBy k) →
       OwnedHold (λ word. cell c.memory word) c.memory.past c.memory.pending k g s → OwnedHold (λ word. cell x.memory word) x.memory.past x.memory.pending k g s
   owned_grown = owned_kept o c x.memory inv keeps
@@ -58,6 +59,7 @@ module _ (o : Origin) (c : Core) (x : Growth) (inv : Invariant o c) (grows : Gro
   no_later generation blocks other r block later listed above low = named_is o c x inv grows (later - first_generation o) block (place_inside later low)
       ∙ (ap (λ (b : Bool). b || is_listed (joined x) block) (r block later listed above low) ∙ not_joined o c x inv grows block (other block listed))
 
+  -- the blocks to give back
   pub giving_grown : (k : ℕ) (giving : Giving) → IsListOf c.owner (giving.replaced ++ giving.limbo) (LeftTo k) →
       GivingHolds (names_by o c.logs (entries o c.history) c.generations) (current o c.generations) (first_generation o + head_floor c.memory) giving →
       GivingHolds (names_by o x.logs (entries o x.history) c.generations) (current o c.generations) (first_generation o + head_floor x.memory) giving
@@ -72,9 +74,11 @@ module _ (o : Origin) (c : Core) (x : Growth) (inv : Invariant o c) (grows : Gro
       no_own : (block : ℕ) → is_listed (giving.replaced ++ giving.limbo) block ≡ true → c.owner block ≢ OwnedBy x.n
       no_own block listed mine = (let both : LeftTo k ≡ OwnedBy x.n = sym (left.listed block listed) ∙ mine in cc)
 
+  -- what is known of the head
   pub pin_grown : (h : Hold) → PinHolds (first_generation o) (current o c.generations) (cell c.memory head_place) h → PinHolds (first_generation o) (current o c.generations) (cell x.memory head_place) h
   pin_grown h r = subst (λ (a : Cell). PinHolds (first_generation o) (current o c.generations) a h) (sym (head_same o c x inv grows)) r
 
+  -- the marks of a seat
   pub marks_grown : (k : ℕ) (v : View) → MarksFit (λ word. cell c.memory word) c.memory.past c.memory.pending k v → MarksFit (λ word. cell x.memory word) x.memory.past x.memory.pending k v
   marks_grown = marks_kept o c x.memory inv keeps
 
@@ -101,6 +105,7 @@ module _ (o : Origin) (c : Core) (x : Growth) (inv : Invariant o c) (grows : Gro
     sync_marks_grown h kept pending (λ some. pinned) early.1 all.1,
   ))
 
+  -- what a view knows of syncs
   pub sync_grown : (k : ℕ) (v : View) → (v.seat.hold.valid ≡ true → KeptIn o c (v.seat.hold.generation - first_generation o)) →
       SyncHolds (q_of_origin o) (names_by o c.logs (entries o c.history) c.generations) (λ word. cell c.memory word) c.memory.past c.memory.pending c.synced k v →
       SyncHolds (q_of_origin o) (names_by o x.logs (entries o x.history) c.generations) (λ word. cell x.memory word) x.memory.past x.memory.pending c.synced k v

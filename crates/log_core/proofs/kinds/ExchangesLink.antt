@@ -37,6 +37,7 @@ leaves_one block other = go (other == block) refl (block == other) refl
 
 module _ (o : Origin) (c : Core) (n : ℕ) (s : Seat) (g : Ghost) (pin began word block : ℕ) (inv : Invariant o c) (f : Knows o c n s g pin began) (unspent : (view_of c.views n).parts ≢ [])
     (may : MayExchangeLink s word block) (empty : slice_index c.memory.now.words word ≡ 0) where
+  -- what the step makes
   abbrev pub x : Growth
   x = link_growth o c n s g pin began word block inv f unspent may empty
 
@@ -98,6 +99,7 @@ module _ (o : Origin) (c : Core) (n : ℕ) (s : Seat) (g : Ghost) (pin began wor
       let is : (nth_log logs (length c.logs)).base ≡ s.walk.position = ap (λ (l : LogBlock). l.base) new_log in
       omega (arith, same, low, was, is))))
 
+  -- the walk, the owned blocks and the stored words then
   abbrev pub walk_linked : Walk
   walk_linked = record (s.walk) { tail_block = block; tail_slot = 3; tail_base = s.walk.position; at_tail = true }
 
@@ -152,6 +154,7 @@ module _ (o : Origin) (c : Core) (n : ℕ) (s : Seat) (g : Ghost) (pin began wor
     job = refl;
   }
 
+  -- what a core knows of the seat then
   pub link_knows : began ≤ end_of o c.history → slice_index c.memory.now.pins n ≡ pin →
       Knows o (grown c x) n (record s { walk = walk_linked; blocks = blocks_linked }) (record g { stored = stored_linked }) (slice_index c.memory.now.pins n) began
   link_knows low same = grown_knows o c x inv link_grows s g pin began f walk_linked s.calling blocks_linked stored_linked (link_fits low) same

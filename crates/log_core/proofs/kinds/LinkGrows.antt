@@ -50,6 +50,7 @@ same_history o c n = record {
   names = λ k inside. sym (Rattle.std.proofs.Common.append-nil _);
 }
 
+-- of one block
 pub one_is : (block other : ℕ) → is_listed (block ∷ []) other ≡ true → other ≡ block
 one_is block other listed = go (block == other) refl listed
   where
@@ -62,15 +63,18 @@ module _ (o : Origin) (c : Core) (n : ℕ) (s : Seat) (g : Ghost) (pin began wor
   abbrev m : Memory
   m = memory_after c.memory n (Exchange (Image word) 0 block)
 
+  -- the new log block, and all with it
   abbrev pub new : LogBlock
   new = record { block = block; base = s.walk.position; slots = [] }
 
   abbrev pub logs : List LogBlock
   logs = c.logs ++ new ∷ []
 
+  -- what the step makes
   abbrev pub x : Growth
   x = record { n = n; seat = s; memory = m; history = c.history; logs = logs; linked = block ∷ []; named = []; index = 0; value = block }
 
+  -- the seat has the shape of the image
   pub image : seat_shape s ≡ shape o
   image = same_shape o c n s g pin began inv f unspent may.valid may.ready
 
@@ -80,6 +84,7 @@ module _ (o : Origin) (c : Core) (n : ℕ) (s : Seat) (g : Ghost) (pin began wor
   empty_here : slice_index c.memory.now.words (place_in (seat_shape s) s.walk.tail_block 0) ≡ 0
   empty_here = ap (λ (k : ℕ). slice_index c.memory.now.words k) (sym may.link) ∙ empty
 
+  -- the tail is in the last log block, which is full
   pub last : IsLastTail o c s.walk
   last = link_last o c n s g pin began inv f unspent may.valid may.ready may.at_end empty_here
 
@@ -102,6 +107,7 @@ module _ (o : Origin) (c : Core) (n : ℕ) (s : Seat) (g : Ghost) (pin began wor
   in_log : is_in_log (shape o) block ≡ true
   in_log = subst (λ (i : Shape). is_in_log i block ≡ true) image may.in_log
 
+  -- it is no header
   pub some_block : block ≢ 0
   some_block none = (let low = ltb-true (shape o).data_blocks block (and_parts (nat_lt (shape o).data_blocks block) (nat_lt block (total (shape o))) in_log).0 in omega (arith, low, none))
 
@@ -114,6 +120,7 @@ module _ (o : Origin) (c : Core) (n : ℕ) (s : Seat) (g : Ghost) (pin began wor
   pub old_log : (number : ℕ) → number < length c.logs → nth_log logs number ≡ nth_log c.logs number
   old_log number inside = get_or_append_left c.logs (new ∷ []) no_log number inside
 
+  -- the new one is the last
   pub new_log : nth_log logs (length c.logs) ≡ new
   new_log = get_or_push c.logs new no_log (length c.logs) refl
 
@@ -128,6 +135,7 @@ module _ (o : Origin) (c : Core) (n : ℕ) (s : Seat) (g : Ghost) (pin began wor
       (λ other. subst P (sym (past_last logs number (let more = long in omega (arith, more, late, other)))) (past (omega (arith, late, other)))))
       (cases_lt number (length c.logs))
 
+  -- which begins at the position
   pub last_base : (last_log c).base + entries_used (last_log c) ≡ s.walk.position
   last_base = inv.order.log.last ∙ sym last.position
 
@@ -175,6 +183,7 @@ module _ (o : Origin) (c : Core) (n : ℕ) (s : Seat) (g : Ghost) (pin began wor
   certain_now : (b k value : ℕ) → cell m (place_in (shape o) b k) ≡ cell c.memory (place_in (shape o) b k) → IsCertain (cell c.memory (place_in (shape o) b k)) value → IsCertain (cell m (place_in (shape o) b k)) value
   certain_now b k value same certain = subst (λ (a : Cell). IsCertain a value) (sym same) certain
 
+  -- a block has enough words
   pub wide : 8 ≤ words_in (shape o)
   wide = inv.sizes.image.wide
 
@@ -215,6 +224,7 @@ module _ (o : Origin) (c : Core) (n : ℕ) (s : Seat) (g : Ghost) (pin began wor
   next_is : nth_log logs (length c.logs - 1 + 1) ≡ new
   next_is = ap (λ (k : ℕ). nth_log logs k) (let some = inv.order.log.some in let e : length c.logs - 1 + 1 ≡ length c.logs = omega (arith, some) in e) ∙ new_log
 
+  -- so the core grows by it
   pub link_grows : Grows o c x
   link_grows = record {
     memory = memory_grows;
