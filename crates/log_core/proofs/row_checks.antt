@@ -26,5 +26,6 @@ pub mod RowsOffered
 pub mod RowsStart
 pub mod RowsReached
 pub mod RowsWritten
+pub mod RowsLinked
 pub mod RowsEnded
 pub mod RowsJoined

@@ -82,7 +82,7 @@ put_allowed = record {
   offered = record { kind = tt; before = refl; later = refl };
 }
 
-put_reached : IsReached image_a own_put
+pub put_reached : IsReached image_a own_put
 put_reached = reach tail_reached put_allowed
 
 pub write_runs : WriteRuns
