@@ -11,7 +11,6 @@ pub mod FileLimits
 pub mod ChainWords
 pub mod Trails
 pub mod ChainPlaces
-pub mod MapNames
 pub mod SameContents
 pub mod TailEnds
 pub mod LogGrowth

@@ -17,6 +17,7 @@ entry_reached (slot ∷ slots) zero inside used other = rw (ne_eqb slot EMPTY (u
 entry_reached (slot ∷ slots) (suc k) inside used other = rw (ne_eqb slot EMPTY (used 0 (omega arith)), ne_eqb slot SEAL (other 0 (omega arith)))
     (let rest = entry_reached slots k (omega (arith, inside)) (λ j low. used (suc j) (omega (arith, low))) (λ j low. other (suc j) (omega (arith, low))) in omega (arith, rest))
 
+-- the place of an entry by its slot
 pub entry_place : (o : Origin) (c : Core) → Invariant o c → (number k : ℕ) → number < length c.logs → k < length (nth_log c.logs number).slots → slice_index (nth_log c.logs number).slots k ≢ SEAL →
     (nth_log c.logs number).base + k - start_base o < length (entries o c.history)
 entry_place o c inv number k inside less other =

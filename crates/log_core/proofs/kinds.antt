@@ -45,6 +45,7 @@ pub mod ExchangesHead
 pub mod HeadHolds
 pub mod StepHolds
 pub mod FenceHolds
+pub mod LinkGrows
 pub mod ExchangesLink
 pub mod LosesExchange
 pub mod LinkHolds

@@ -26,5 +26,6 @@ pub mod RowsAllowed
 pub mod RowsStart
 pub mod RowsReached
 pub mod RowsWritten
+pub mod RowsLinked
 pub mod RowsEnded
 pub mod RowsJoined

@@ -2,7 +2,7 @@
 
 ghost use Rattle.log_core.specs.worked_rows.Rows.{JustMade, PinsInThreeSteps, ScanSeesPins, ComesToTail, BitsTaken, FenceFollows, SlotWon, SlotLost, WriteEnds, LinkWon, LinkLost, HeadWon, HeadLost, KeptUntilUnpinned, BitsCleared, BitsNotCleared, CollectEnds, SyncEnds, FilesByPosition, EarlyFiles, WalkedTrail, LacksBlocks, EntryTakenIn, ReadLays, BaseWords, SnapshotRead, QuietCalls, RepliesFit, LimitsFit};
 ghost use Rattle.log_core.specs.worked_rows.AllowedSteps.{FilledNoMore, BitmapMayBeRead, AllowedKinds, BlockRuns};
-ghost use Rattle.log_core.specs.worked_rows.Written.{WriteRuns, EntriesNotPut};
+ghost use Rattle.log_core.specs.worked_rows.Written.{WriteRuns, LinkRuns, EntriesNotPut};
 ghost use Rattle.log_core.specs.worked_rows.Ended.{CallsEnd, WriteNotPut, SizeBeforeTail, KeptTooEarly};
 ghost use Rattle.log_core.specs.worked_rows.Joined.{SyncRuns, NoMarkOutsideOfSyncs, SeatsAreJoined};
 ghost use Rattle.log_core.specs.worked_rows.Refused.{OtherEntryPossible, HeadSkips, LogHasMore, BitWithoutOwner, BlockOnTwoLists, ChainBlockFree, OtherContentPossible, PinOfAnother, ViewOfAnother, StoredNotPresent, ReplacedStillNamed, RecordOfNoWrite, SyncedMayBeLost, NamedTwice, SnapshotNamesMore, WriteOfNoSeat};
@@ -102,6 +102,7 @@ pub fn law_accepted()
     ensures allowed_kinds { AllowedKinds }
     ensures block_runs { BlockRuns }
     ensures write_runs { WriteRuns }
+    ensures link_runs { LinkRuns }
     ensures entries_not_put { EntriesNotPut }
     ensures calls_end { CallsEnd }
     ensures sync_runs { SyncRuns }

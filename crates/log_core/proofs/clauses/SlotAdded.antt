@@ -57,6 +57,7 @@ module _ (o : Origin) (c : Core) (m : Memory) (index slot : ℕ) (es : List LogE
   long : length logs ≡ length c.logs
   long = added_long (shape o) c.logs inv.order.log.some slot
 
+  -- the last log block then, and its entries
   pub last_is : nth_log logs (length c.logs - 1) ≡ more
   last_is = last_added (shape o) c.logs inv.order.log.some slot
 
@@ -75,6 +76,7 @@ module _ (o : Origin) (c : Core) (m : Memory) (index slot : ℕ) (es : List LogE
     full = λ full. (let both : false ≡ true = sym open_last ∙ full in cc);
   }
 
+  -- the log blocks grow by it
   pub logs_grow : LogsGrow (shape o) c.logs logs []
   logs_grow = one_used (shape o) c.logs inv.order.log.some slot later
 
@@ -100,6 +102,7 @@ module _ (o : Origin) (c : Core) (m : Memory) (index slot : ℕ) (es : List LogE
   last_end : last.base + count ≡ end_of o c.history
   last_end = (let r = inv.order.log.last in let all = p.all_used in omega (arith, r, all))
 
+  -- the order of the log
   pub order : LogInOrder o es end logs
   order = (let r = inv.order.log in record {
     count = p.count;
@@ -175,6 +178,7 @@ module _ (o : Origin) (c : Core) (m : Memory) (index slot : ℕ) (es : List LogE
   none_after : (number : ℕ) → length c.logs ≤ number + 1 → nth_log logs (number + 1) ≡ no_log
   none_after number late = past_last logs (number + 1) (let all = long in omega (arith, all, late))
 
+  -- so each of the last log blocks does, and has its synced words
   pub stands : LogStands (shape o) (λ w. cell c.memory w) last 0 → (number : ℕ) → length c.logs ≤ number + 1 → number < length logs →
       LogStands (shape o) (λ w. cell m w) (nth_log logs number) (nth_log logs (number + 1)).block
   stands old number late inside = subst (λ (l : LogBlock). LogStands (shape o) (λ w. cell m w) (nth_log logs number) l.block) (sym (none_after number late))

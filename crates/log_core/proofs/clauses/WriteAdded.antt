@@ -16,6 +16,7 @@ use Rattle.log_core.specs.May.{refusal_at}
 use Rattle.log_core.proofs.clauses.Growth.{HistoryGrows}
 
 module _ (o : Origin) (history : List Write) (w : Write) where
+  -- the history then, its end and its entries
   abbrev pub more : List Write
   more = history ++ w ∷ []
 
@@ -30,6 +31,7 @@ module _ (o : Origin) (history : List Write) (w : Write) where
   files_same position low = ap (λ (l : List Write). if nat_lt position (first_position o) then early_file o position else file_after_writes o.file l)
       (take-append-le (position - first_position o) history (w ∷ []) (omega (arith, low)))
 
+  -- it grows by the write
   pub history_more : HistoryGrows o w.seat history more (names w.entry.meaning)
   history_more = record {
     longer = (let end = end_more in omega (arith, end));
@@ -49,6 +51,7 @@ module _ (o : Origin) (history : List Write) (w : Write) where
   pub write_is : write_at o more (end_of o more) ≡ w
   write_is = get_or_push history w no_write (end_of o more - (first_position o + 1)) (let end = end_more in omega (arith, end))
 
+  -- the last entry is the write's
   pub entry_is : (k : ℕ) → k ≡ length (entries o history) → slice_index_or (entries o more) k no_entry ≡ w.entry
   entry_is k same = ap (λ (l : List LogEntry). slice_index_or l k no_entry) entries_more ∙ get_or_push (entries o history) w.entry no_entry k (sym same)
 
@@ -61,10 +64,12 @@ module _ (o : Origin) (history : List Write) (w : Write) where
   late_file l position is = ap (λ (b : Bool). if b then early_file o position else file_after_writes o.file (take (position - first_position o) l)) (le-ltb position (first_position o) (omega (arith, is)))
       ∙ ap (λ (k : List Write). file_after_writes o.file k) (take_all (position - first_position o) l (omega (arith, is)))
 
+  -- so it is the file at the new end
   pub file_more : file_at o more (end_of o more) ≡ file_after (file_at o history (end_of o history)) w.op (accepted_reply w.op w.at)
   file_more = late_file more (end_of o more) refl
       ∙ (after_more o.file history ∙ ap (λ (file : List ℕ). file_after file w.op (accepted_reply w.op w.at)) (sym (late_file history (end_of o history) refl)))
 
+-- at the greatest position every write is refused
 refused_last : (bytes position blocks end : ℕ) → write_refusal bytes position blocks end ≡ None → position ≢ last_position
 refused_last bytes position blocks end none is = by (nat_lt (longest_of bytes) blocks) (nat_lt (limit_of bytes) end) (position == last_position) refl none
   where

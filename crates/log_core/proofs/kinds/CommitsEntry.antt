@@ -39,6 +39,7 @@ module _ (o : Origin) (c : Core) (n : ℕ) (s : Seat) (g : Ghost) (pin began wor
   abbrev m : Memory
   m = memory_after c.memory n (Exchange (Image word) 0 entry)
 
+  -- what the entry means, the write, and the history with it
   abbrev pub told : Meaning
   told = meaning o c n s g pin began word entry number inv f unspent may empty
 
@@ -48,15 +49,18 @@ module _ (o : Origin) (c : Core) (n : ℕ) (s : Seat) (g : Ghost) (pin began wor
   abbrev pub writes : List Write
   writes = history o c n s g pin began word entry number inv f unspent may empty
 
+  -- what the step makes
   abbrev pub x : Growth
   x = record { n = n; seat = s; memory = m; history = writes; logs = slot_added c.logs entry; linked = []; named = names told; index = s.walk.tail_slot; value = entry }
 
+  -- the seat has the shape of the image
   pub same_image : seat_shape s ≡ shape o
   same_image = image o c n s g pin began word entry number inv f unspent may empty
 
   pub words : words_of s ≡ words_in (shape o)
   words = same_words o c n s g pin began inv f unspent may.at_tail.valid may.at_tail.ready
 
+  -- the tail is in the last log block, behind its entries
   pub at_last : IsLastTail o c s.walk
   at_last = last o c n s g pin began word entry number inv f unspent may empty
 
@@ -69,6 +73,7 @@ module _ (o : Origin) (c : Core) (n : ℕ) (s : Seat) (g : Ghost) (pin began wor
   used : entries_used (last_log c) ≡ s.walk.tail_slot - 3
   used = last_used o c n s g pin began inv f unspent may.at_tail.valid may.at_tail.ready may.inside empty_here
 
+  -- the view has walked, and its tail is a slot
   pub has_walked : HasWalked o (entries o c.history) c.logs s.walk
   has_walked = walked o c n s g pin began inv f unspent may.at_tail.valid may.at_tail.ready
 
@@ -83,12 +88,14 @@ module _ (o : Origin) (c : Core) (n : ℕ) (s : Seat) (g : Ghost) (pin began wor
       (may.slot ∙ (ap (λ (i : Shape). place_in i s.walk.tail_block s.walk.tail_slot) same_image ∙ ap (λ (b : ℕ). place_in (shape o) b s.walk.tail_slot) (sym at_last.block)))
       (exchange_wins o c.memory (length c.views) inv.sizes.words n word entry word_inside empty)
 
+  -- the slot is an entry's, so the end is one more
   pub one_entry : length (entry_words (entry ∷ [])) ≡ 1
   one_entry = rw (ne_eqb entry EMPTY used_entry, ne_eqb entry SEAL no_seal) refl
 
   pub next_end : end_of o writes ≡ end_of o c.history + 1
   next_end = end_more o c.history put
 
+  -- what is so of the slot
   pub puts : PutsSlot o c m s.walk.tail_slot entry (entries o writes) (end_of o writes)
   puts = (let low = has_walked.from in let many = long in let all = used in let count = inv.order.log.count in let end = next_end in record {
     memory = memory_grows;
@@ -109,6 +116,7 @@ module _ (o : Origin) (c : Core) (n : ℕ) (s : Seat) (g : Ghost) (pin began wor
   fenced_here : (block : ℕ) → is_listed (names told) block ≡ true → is_fenced s.blocks.owned block ≡ true
   fenced_here block listed = may.owned block listed
 
+  -- so the core grows by it
   pub commit_grows : Grows o c x
   commit_grows = record {
     memory = memory_grows;

@@ -31,7 +31,7 @@ use Rattle.log_core.specs.Invariant.{Invariant, KeptIn}
 use Rattle.log_core.specs.Knows.{Knows}
 use Rattle.log_core.proofs.Heads.{current_kept}
 use Rattle.log_core.proofs.FileLimits.{entry_within}
-use Rattle.log_core.proofs.MapNames.{block_named, map_block}
+use Rattle.log_core.proofs.MappedBlocks.{given_name, mapped_named}
 use Rattle.log_core.proofs.SameContents.{same_form, same_byte}
 use Rattle.log_core.proofs.TailEnds.{same_shape, walked, IsLastTail, slot_last}
 use Rattle.log_core.proofs.kinds.TakesEntry.{map_next, size_next, same_meaning}
@@ -45,6 +45,7 @@ use Rattle.log_core.proofs.clauses.WriteAdded.{more, end_more, entries_more, his
 
 module _ (o : Origin) (c : Core) (n : ℕ) (s : Seat) (g : Ghost) (pin began word entry number : ℕ) (inv : Invariant o c) (f : Knows o c n s g pin began) (unspent : (view_of c.views n).parts ≢ [])
     (may : MayCommit o c.history s word entry) (empty : slice_index c.memory.now.words word ≡ 0) where
+  -- what the entry means
   abbrev pub meaning : Meaning
   meaning = new_meaning s entry
 
@@ -52,6 +53,7 @@ module _ (o : Origin) (c : Core) (n : ℕ) (s : Seat) (g : Ghost) (pin began wor
   abbrev pub w : Write
   w = record { seat = n; number = number; op = op_or_size (op_in s); at = s.walk.size; entry = record { word = entry; meaning = meaning } }
 
+  -- the history with it
   abbrev pub history : List Write
   history = more o c.history w
 
@@ -61,18 +63,21 @@ module _ (o : Origin) (c : Core) (n : ℕ) (s : Seat) (g : Ghost) (pin began wor
   abbrev end : ℕ
   end = end_of o c.history
 
+  -- the seat has the shape of the image
   pub image : seat_shape s ≡ shape o
   image = same_shape o c n s g pin began inv f unspent may.at_tail.valid may.at_tail.ready
 
   empty_here : slice_index c.memory.now.words (place_in (seat_shape s) s.walk.tail_block s.walk.tail_slot) ≡ 0
   empty_here = ap (λ (k : ℕ). slice_index c.memory.now.words k) (sym may.slot) ∙ empty
 
+  -- the tail is in the last log block, at the end
   pub last : IsLastTail o c s.walk
   last = slot_last o c n s g pin began inv f unspent may.at_tail.valid may.at_tail.ready may.inside empty_here
 
   pub bytes_same : s.geometry.block_bytes ≡ o.geometry.block_bytes
   bytes_same = ap (λ (geometry : Geometry). geometry.block_bytes) (f.fits unspent).geometry
 
+  -- the write is the call's, and accepted there
   pub op_same : op_or_size (op_in s) ≡ may.op
   op_same = ap op_or_size may.job
 
@@ -84,6 +89,7 @@ module _ (o : Origin) (c : Core) (n : ℕ) (s : Seat) (g : Ghost) (pin began wor
       (subst (λ (position : ℕ). refusal_at o.geometry.block_bytes position s.walk.size may.op ≡ None) last.position
       (subst (λ (bytes : ℕ). refusal_at bytes s.walk.position s.walk.size may.op ≡ None) bytes_same may.allowed))
 
+  -- the entry has a form that a log block may have
   pub form : is_log_entry_by (λ block. content_of s block) (shape o) entry ≡ true
   form = subst (λ (i : Shape). is_log_entry_by (λ block. content_of s block) i entry ≡ true) image may.form
 
@@ -116,6 +122,7 @@ module _ (o : Origin) (c : Core) (n : ℕ) (s : Seat) (g : Ghost) (pin began wor
   pub size_front : (position : ℕ) → position ≤ end → history_size_at o (entries o history) position ≡ history_size_at o es position
   size_front position low = ap (λ (l : List LogEntry). size_after (shape o) (start_size o) (meanings l)) (front_is position low)
 
+  -- the map and the size at the new end
   pub map_end : (virt : ℕ) → history_map_at o (entries o history) (end_of o history) virt ≡ option_or (block_in meaning virt) (history_map_at o es end virt)
   map_end virt = ap (λ (k : ℕ). history_map_at o (entries o history) k virt) (end_more o c.history w)
       ∙ (map_next o (entries o history) end start_low next_inside virt
@@ -128,6 +135,7 @@ module _ (o : Origin) (c : Core) (n : ℕ) (s : Seat) (g : Ghost) (pin began wor
       ∙ (ap (λ (e : LogEntry). max (history_size_at o (entries o history) end) (entry_end (shape o) e.meaning)) next_entry
       ∙ ap (λ (k : ℕ). max k (entry_end (shape o) meaning)) (size_front end (omega arith))))
 
+  -- the view's size is the file's
   pub size_now : s.walk.size ≡ history_size_at o es end
   size_now = (walked o c n s g pin began inv f unspent may.at_tail.valid may.at_tail.ready).size_is ∙ ap (λ (k : ℕ). history_size_at o es k) last.position
 
@@ -155,6 +163,7 @@ module _ (o : Origin) (c : Core) (n : ℕ) (s : Seat) (g : Ghost) (pin began wor
   new_end : (position : ℕ) → end < position → position ≤ end_of o history → position ≡ end_of o history
   new_end position past upto = (let e = end_more o c.history w in omega (arith, past, upto, e))
 
+  -- so each write of the history is accepted where it stands
   pub history_holds : HistoryHolds o history
   history_holds = record {
     writes = λ place inside. same_or_other place (length c.history)
@@ -200,6 +209,7 @@ module _ (o : Origin) (c : Core) (n : ℕ) (s : Seat) (g : Ghost) (pin began wor
       holder_meaning : meaning ≡ indirect_meaning (field INDIRECT_BLOCK entry) (content_of s (field INDIRECT_BLOCK entry))
       holder_meaning = rw (indirect) refl
 
+  -- the new entry is what its word says
   pub entry_says : EntriesSay (shape o) recorded (length es) (entries o history)
   entry_says = record {
     same = λ k late inside. (let is = at_end k late inside in subst (λ (e : LogEntry). e ≡ entry_by recorded e.word) (sym is)
@@ -219,13 +229,13 @@ module _ (o : Origin) (c : Core) (n : ℕ) (s : Seat) (g : Ghost) (pin began wor
   byte_end : (virt at : ℕ) → at < (shape o).block_bytes → (found : Option ℕ) → block_in meaning virt ≡ found →
       byte_in recorded (option_or found (history_map_at o es end virt)) at ≡ next_byte virt at
   byte_end virt at low (Some block) is = same_byte (shape o) (λ b. content_of s b) recorded (Some block) at
-      (λ b same. new_recorded b (block_named meaning virt b (is ∙ same)))
+      (λ b same. new_recorded b (given_name meaning virt b (is ∙ same)))
       ∙ (may.holds virt block at is (subst (λ (bytes : ℕ). at < bytes) (sym bytes_same) low)
       ∙ (ap (λ (bytes : ℕ). slice_index (file_after (file_at o c.history s.walk.position) may.op (accepted_reply may.op s.walk.size)) (virt * bytes + at)) bytes_same
       ∙ ap (λ (file : List ℕ). slice_index file (virt * (shape o).block_bytes + at)) (sym next_file)))
   byte_end virt at low None is = same_byte (shape o) c.recorded recorded (history_map_at o es end virt) at
       (λ block found. old_recorded place block kept (data_is_named o c.logs es (nth_generation c.generations place) block
-      (has_right (nth_generation c.generations place).snapshots (data_names o es (nth_generation c.generations place)) block (map_block o c inv place kept end virt block base_low found))))
+      (has_right (nth_generation c.generations place).snapshots (data_names o es (nth_generation c.generations place)) block (mapped_named o c inv place kept end virt block base_low found))))
       ∙ (((inv.contents place kept).files end base_low (omega arith)).held (omega arith)).each virt at low
       ∙ (ap (λ (position : ℕ). slice_index (file_at o c.history position) (virt * (shape o).block_bytes + at)) (sym last.position)
       ∙ (ap (λ (bytes : ℕ). slice_index (file_at o c.history s.walk.position) (virt * bytes + at)) (sym bytes_same)
@@ -242,6 +252,7 @@ module _ (o : Origin) (c : Core) (n : ℕ) (s : Seat) (g : Ghost) (pin began wor
       base_low : (nth_generation c.generations (length (cell c.memory head_place).past)).base ≤ end_of o c.history
       base_low = inv.order.generations_rise.to_end (length (cell c.memory head_place).past) (current_kept o c inv).inside
 
+  -- so it is at the new end
   pub file_holds : (position : ℕ) → end < position → position ≤ end_of o history → HoldsFileAt o history recorded position
   file_holds position past upto = subst (λ (k : ℕ). HoldsFileAt o history recorded k) (sym (new_end position past upto)) (record {
     early = λ before. absurd (omega (arith, before));

@@ -70,6 +70,7 @@ module _ (o : Origin) (c : Core) (n : ℕ) (s : Seat) (g : Ghost) (pin began wor
   abbrev v : View
   v = view_of c.views n
 
+  -- the walk, the call, the owned blocks and the stored words then
   abbrev pub walk_put : Walk
   walk_put = record (walk_past (seat_shape s) s.walk meaning) { at_tail = true; kept = s.walk.kept }
 
@@ -257,6 +258,7 @@ module _ (o : Origin) (c : Core) (n : ℕ) (s : Seat) (g : Ghost) (pin began wor
     job = refl;
   }
 
+  -- what a core knows of the seat then
   pub commit_knows : began ≤ end_of o c.history → slice_index c.memory.now.pins n ≡ pin →
       Knows o (grown c growth) n after (record g { stored = stored_put }) (slice_index c.memory.now.pins n) began
   commit_knows low same = grown_knows o c growth inv grows s g pin began f walk_put calling_put blocks_put stored_put (put_fits low) same

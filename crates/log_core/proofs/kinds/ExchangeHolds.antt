@@ -29,6 +29,7 @@ pub link_inside : (o : Origin) (c : Core) (n : ℕ) (s : Seat) (g : Ghost) (pin 
 link_inside o c n s g pin began inv f unspent word block may = named_inside o c n s g pin began word inv f unspent (tail_load o c n s g pin began inv f unspent may.valid may.ready 0 word
     (let wide = inv.sizes.image.wide in let same = same_words o c n s g pin began inv f unspent may.valid may.ready in omega (arith, wide, same)) may.link)
 
+-- and so is that of a slot
 pub slot_inside : (o : Origin) (c : Core) (n : ℕ) (s : Seat) (g : Ghost) (pin began : ℕ) (inv : Invariant o c) → Knows o c n s g pin began → (view_of c.views n).parts ≢ [] → (word entry : ℕ) →
     MayExchangeSlot o c.history s word entry → word < length o.words
 slot_inside o c n s g pin began inv f unspent word entry may = by (entry == SEAL) refl

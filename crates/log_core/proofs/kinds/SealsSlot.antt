@@ -24,7 +24,7 @@ use Rattle.log_core.proofs.LogTails.{sealed_at}
 use Rattle.log_core.proofs.LogGrowth.{more_used}
 use Rattle.log_core.proofs.TailEnds.{stands_at_end, same_shape, same_words, tail_load, walked, IsLastTail, slot_last, last_long, last_used}
 use Rattle.log_core.proofs.kinds.LoadsImageWord.{named_inside}
-use Rattle.log_core.proofs.kinds.ExchangesLink.{same_history}
+use Rattle.log_core.proofs.kinds.LinkGrows.{same_history}
 use Rattle.log_core.proofs.clauses.Exchanged.{WordGrows, exchange_wins}
 use Rattle.log_core.proofs.clauses.SlotAdded.{PutsSlot, logs_grow, order, stands, synced_stay, used_more, more_at}
 use Rattle.log_core.proofs.clauses.Growth.{Growth, Grows, last_log, grown}
@@ -36,6 +36,7 @@ module _ (o : Origin) (c : Core) (n : ℕ) (s : Seat) (g : Ghost) (pin began wor
   abbrev m : Memory
   m = memory_after c.memory n (Exchange (Image word) 0 slot)
 
+  -- what the step makes
   abbrev pub x : Growth
   x = record { n = n; seat = s; memory = m; history = c.history; logs = slot_added c.logs slot; linked = []; named = []; index = s.walk.tail_slot; value = slot }
 
@@ -83,6 +84,7 @@ module _ (o : Origin) (c : Core) (n : ℕ) (s : Seat) (g : Ghost) (pin began wor
     new = λ other. absurd (other is_seal);
   })
 
+  -- so the core grows by it
   pub seal_grows : Grows o c x
   seal_grows = record {
     memory = memory_grows;
@@ -114,6 +116,7 @@ module _ (o : Origin) (c : Core) (n : ℕ) (s : Seat) (g : Ghost) (pin began wor
   sealed = or_left (is_sealed ((last_log c).slots ++ slot ∷ [])) (length ((last_log c).slots ++ slot ∷ []) + 3 == words_in (shape o))
       (sealed_at ((last_log c).slots ++ slot ∷ []) (length (last_log c).slots) (get_or_push (last_log c).slots slot 0 (length (last_log c).slots) refl ∙ is_seal))
 
+  -- the walk then
   abbrev pub walk_sealed : Walk
   walk_sealed = record (s.walk) { tail_slot = words_of s; at_tail = true }
 
@@ -177,6 +180,7 @@ module _ (o : Origin) (c : Core) (n : ℕ) (s : Seat) (g : Ghost) (pin began wor
     job = refl;
   }
 
+  -- what a core knows of the seat then
   pub seal_knows : began ≤ end_of o c.history → slice_index c.memory.now.pins n ≡ pin →
       Knows o (grown c x) n (record s { walk = walk_sealed }) g (slice_index c.memory.now.pins n) began
   seal_knows low same = grown_knows o c x inv seal_grows s g pin began f walk_sealed s.calling s.blocks g.stored (seal_fits low) same

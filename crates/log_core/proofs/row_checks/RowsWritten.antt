@@ -79,7 +79,7 @@ put_allowed = record {
   };
 }
 
-put_reached : IsReached image_a own_put
+pub put_reached : IsReached image_a own_put
 put_reached = reach (step_of image_a own_at_tail 0 (Exchange (Image 27) 0 to_first) 1 [] [] (first_call ∷ [])) tail_reached put_allowed
 
 pub write_runs : WriteRuns

@@ -10,6 +10,7 @@ use Rattle.log_core.proofs.row_checks.RowsTurns.{runs_may_be_put, collections_in
 use Rattle.log_core.proofs.row_checks.RowsAllowed.{bitmap_may_be_read, allowed_kinds}
 use Rattle.log_core.proofs.row_checks.RowsReached.{block_runs}
 use Rattle.log_core.proofs.row_checks.RowsWritten.{write_runs, entries_not_put}
+use Rattle.log_core.proofs.row_checks.RowsLinked.{link_runs}
 use Rattle.log_core.proofs.row_checks.RowsEnded.{calls_end}
 use Rattle.log_core.proofs.row_checks.RowsJoined.{sync_runs, no_mark_outside_of_syncs, seats_are_joined}
 use Rattle.log_core.proofs.rows.law_accepted.Goals as goal
@@ -24,6 +25,7 @@ returns c = record {
   allowed_kinds = allowed_kinds;
   block_runs = block_runs;
   write_runs = write_runs;
+  link_runs = link_runs;
   entries_not_put = entries_not_put;
   calls_end = calls_end;
   sync_runs = sync_runs;
