@@ -1,6 +1,7 @@
 //! Laws of the core, each the contract of a function that does nothing.
 
 ghost use Rattle.log_core.specs.Laws.{StartMeets, StepKeeps, RunKeeps};
+ghost use Rattle.log_core.specs.Following.{NoneReused};
 
 /// The core that a run starts with meets the invariant.
 pub fn law_start()
@@ -14,4 +15,10 @@ pub fn law_start()
 pub fn law_step()
     ensures each_step { StepKeeps }
     ensures every_run { RunKeeps }
+{}
+
+/// At each step of each run: a setting of bits finds no block's bit clear that a kept generation names, and a clearing of bits clears no
+/// such bit.
+pub fn law_reuse()
+    ensures { NoneReused }
 {}

@@ -1,0 +1,2 @@
+-- What follows of every run.
+pub mod Reuse
