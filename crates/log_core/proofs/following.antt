@@ -1,2 +1,4 @@
 -- What follows of every run.
 pub mod Reuse
+pub mod Rising
+pub mod Stands
