@@ -2,3 +2,4 @@
 pub mod Reuse
 pub mod Rising
 pub mod Stands
+pub mod InTurn
