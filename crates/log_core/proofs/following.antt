@@ -3,3 +3,6 @@ pub mod Reuse
 pub mod Rising
 pub mod Stands
 pub mod InTurn
+pub mod Moments
+pub mod CollectedCalls
+pub mod RecordedCalls

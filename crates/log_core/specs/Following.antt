@@ -1,19 +1,23 @@
 -- What follows of every run from the invariant. A run without its newest steps is a run, so what is said of the newest step is said of each.
-use Rattle.std.specs.Prelude.{ℕ, ◌%◌, ◌≡◌, true, false, List, ◌∷◌}
+use Rattle.std.specs.Prelude.{ℕ, ◌%◌, ◌≡◌, true, false, List, ◌∷◌, None}
 use Rattle.std.specs.Int.{bit_at}
+use Rattle.log_entry.specs.Legal.{Legal, last_file, last_position_of}
+use Rattle.log_entry.specs.declared.calls.Call.{Call}
 use Rattle.pmem_words.specs.Owned.{is_among}
 use Rattle.asks.specs.declared.ask.Place.TheVariants.{Map}
 use Rattle.asks.specs.declared.ask.Ask.{Ask}
 use Rattle.asks.specs.declared.ask.Ask.TheVariants.{SetBits, ClearBits}
 use Rattle.persistence.specs.Memory.{found}
-use Rattle.log_core.specs.Origin.{Origin}
-use Rattle.log_core.specs.Files.{entries}
+use Rattle.log_core.specs.Views.{view_of, op_in}
+use Rattle.log_core.specs.Origin.{Origin, first_position, first_generation, start_base}
+use Rattle.log_core.specs.Files.{entries, end_of, file_at}
 use Rattle.log_core.specs.Cores.{Core, is_named}
 use Rattle.log_core.specs.Steps.{Note, Step, Does}
 use Rattle.log_core.specs.Order.{nth_generation}
 use Rattle.log_core.specs.Invariant.{KeptIn}
 use Rattle.log_core.specs.Runs.{IsRun, end}
 use Rattle.log_core.specs.Starts.{IsStart}
+use Rattle.log_core.specs.Histories.{Ran, HasCollections}
 
 -- a block that a kept generation names
 pub record IsNeeded (o : Origin) (c : Core) (block : ℕ) : Type 0 where
@@ -30,3 +34,19 @@ SparesNeeded o c _ = Unit {0}
 -- so it is at each step of each run: no block is given again, nor given back, while a kept generation names it
 abbrev pub NoneReused : Type 0
 NoneReused = (o : Origin) (seat : ℕ) (ask : Ask) (note : Note) (steps : List Step) → IsStart o → IsRun o (Does seat ask note ∷ steps) → SparesNeeded o (end o steps) ask
+
+-- no call runs
+abbrev pub NoCallRuns : Core → Type 0
+NoCallRuns c = (seat : ℕ) → op_in (view_of c.views seat).seat ≡ None
+
+-- the calls are one legal history, from the start's file and position to the end of the writes and the file there; and each generation
+-- that the heads came to was put in place by one of them, in turn
+pub record IsOneHistory (o : Origin) (c : Core) (calls : List Call) : Type 0 where
+  pub legal : Legal o.geometry.block_bytes o.file (first_position o) calls
+  pub to_end : last_position_of (first_position o) calls ≡ end_of o c.history
+  pub to_file : last_file o.file calls ≡ file_at o c.history (end_of o c.history)
+  pub collected : HasCollections (first_generation o) (start_base o) calls
+
+-- so are the calls of each run that ends with no call running
+abbrev pub RunsAreLegal : Type 0
+RunsAreLegal = (o : Origin) (calls : List Call) (c : Core) → IsStart o → Ran o calls c → NoCallRuns c → IsOneHistory o c calls

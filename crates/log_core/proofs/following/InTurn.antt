@@ -13,29 +13,29 @@ use Rattle.log_core.specs.Histories.{Put, put_by, collections, PutInTurn}
 use Rattle.log_core.proofs.following.Rising.{place_number, AllFrom, Rises, one_most}
 
 module _ (o : Origin) (generations : List Generation) where
-  abbrev first : ℕ
+  abbrev pub first : ℕ
   first = first_generation o
 
   -- the first number above those of the generations
-  abbrev limit : ℕ
+  abbrev pub limit : ℕ
   limit = first + length generations
 
   -- the position of a generation's snapshot
-  abbrev base : ℕ → ℕ
+  abbrev pub base : ℕ → ℕ
   base number = (nth_generation generations (number - first)).base
 
-  abbrev Says : Call → Type 0
+  abbrev pub Says : Call → Type 0
   Says call = SaysOfGenerations o generations call.position call.reply
 
   -- calls that put no generation of the numbers from one on below another, or each of these once
-  abbrev PutNone : ℕ → ℕ → List Call → Type 0
+  abbrev pub PutNone : ℕ → ℕ → List Call → Type 0
   PutNone from below calls = (number : ℕ) → from < number → number < below → collected_in number calls ≡ 0
 
-  abbrev PutOnce : ℕ → List Call → Type 0
+  abbrev pub PutOnce : ℕ → List Call → Type 0
   PutOnce from calls = (number : ℕ) → from < number → number < limit → collected_in number calls ≡ 1
 
   -- a generation that was put in place is among the collections, at its snapshot's position
-  found_put : (number : ℕ) (calls : List Call) → AllByRecursion Says calls → 0 < collected_in number calls →
+  pub found_put : (number : ℕ) (calls : List Call) → AllByRecursion Says calls → 0 < collected_in number calls →
       (list_any (λ (put : Put). put.generation == number) (collections calls) ≡ true)
       × (list_any (λ (p : ℕ). p == base number) (map (λ (put : Put). put.position) (collections calls)) ≡ true)
   found_put number [] all some = absurd (omega (arith, some))
@@ -101,12 +101,12 @@ module _ (o : Origin) (generations : List Generation) where
     base_less number later low less below = subst (λ (k : ℕ). base number < base k) (omega (arith, less)) (bases_rise (later - number - 1) number low (omega (arith, less, below)))
 
     -- what is to be shown of the calls that are left when a generation is reached
-    record Turns (number position : ℕ) (puts : List Put) : Type 0 where
+    pub record Turns (number position : ℕ) (puts : List Put) : Type 0 where
       pub in_turn : PutInTurn number position puts
       pub count : number + length puts + 1 ≡ limit
 
     -- what is known of them
-    record Reached (number position : ℕ) (calls : List Call) : Type 0 where
+    pub record Reached (number position : ℕ) (calls : List Call) : Type 0 where
       pub low : first ≤ number
       pub below : number < limit
       pub at : position ≡ base number
@@ -115,7 +115,7 @@ module _ (o : Origin) (generations : List Generation) where
       pub none : PutNone first (number + 1) calls
       pub once : PutOnce number calls
 
-    turns : (number position : ℕ) (calls : List Call) → Reached number position calls → Turns number position (collections calls)
+    pub turns : (number position : ℕ) (calls : List Call) → Reached number position calls → Turns number position (collections calls)
     turns number position [] r = record { in_turn = tt; count = ended }
       where
         ended : number + 0 + 1 ≡ limit

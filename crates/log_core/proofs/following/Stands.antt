@@ -79,7 +79,7 @@ lead block_bytes file next_file position next call calls last end answers at fil
         (subst (λ (p : ℕ). LeadsTo block_bytes next_file p calls last end) (sym next_is) rest)
 
 module _ (o : Origin) (history : List Write) (generations : List Generation) where
-  abbrev finish : ℕ
+  abbrev pub finish : ℕ
   finish = end_of o history
 
   -- a call that stands in the history: it holds, and where it is a write it is the history's of its position
@@ -87,11 +87,11 @@ module _ (o : Origin) (history : List Write) (generations : List Generation) whe
     pub holds : RecordHolds o history generations call
     pub written : is_write call.op call.reply ≡ true → call ≡ call_of call.position (write_at o history call.position)
 
-  abbrev Leads : ℕ → List Call → Type 0
+  abbrev pub Leads : ℕ → List Call → Type 0
   Leads position calls = LeadsTo o.geometry.block_bytes (file_at o history position) position calls (file_at o history finish) finish
 
   -- what is left of the calls when a position is reached: they stand behind its write, and have the write of each later position once
-  record Left (position : ℕ) (calls : List Call) : Type 0 where
+  pub record Left (position : ℕ) (calls : List Call) : Type 0 where
     pub from_first : first_position o ≤ position
     pub to_end : position ≤ finish
     pub all : AllByRecursion Stands calls
@@ -170,7 +170,7 @@ module _ (o : Origin) (history : List Write) (generations : List Generation) whe
             (λ upto. (let place = place_is in let behind = left.behind.0 in omega (arith, upto, place, behind)))
             (cases_lt position call.position)
 
-  legal_from : (position : ℕ) (calls : List Call) → Left position calls → Leads position calls
+  pub legal_from : (position : ℕ) (calls : List Call) → Left position calls → Leads position calls
   legal_from position [] left = record { legal = tt; end_is = ended; last_is = ap (λ (p : ℕ). file_at o history p) ended }
     where
       ended : position ≡ finish
