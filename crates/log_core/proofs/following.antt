@@ -6,3 +6,5 @@ pub mod InTurn
 pub mod Moments
 pub mod CollectedCalls
 pub mod RecordedCalls
+pub mod QuietCalls
+pub mod LegalRuns

@@ -1,7 +1,7 @@
 //! Laws of the core, each the contract of a function that does nothing.
 
 ghost use Rattle.log_core.specs.Laws.{StartMeets, StepKeeps, RunKeeps};
-ghost use Rattle.log_core.specs.Following.{NoneReused};
+ghost use Rattle.log_core.specs.Following.{NoneReused, RunsAreLegal};
 
 /// The core that a run starts with meets the invariant.
 pub fn law_start()
@@ -21,4 +21,10 @@ pub fn law_step()
 /// such bit.
 pub fn law_reuse()
     ensures { NoneReused }
+{}
+
+/// The calls of each run that ends with no call running, in the order of a report, are one legal history from the start's file and
+/// position to the end of the writes, and their collections put each generation in place, in turn.
+pub fn law_legal()
+    ensures { RunsAreLegal }
 {}
