@@ -8,3 +8,4 @@ pub mod CollectedCalls
 pub mod RecordedCalls
 pub mod QuietCalls
 pub mod LegalRuns
+pub mod TailMoves

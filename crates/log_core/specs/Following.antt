@@ -1,7 +1,9 @@
 -- What follows of every run from the invariant. A run without its newest steps is a run, so what is said of the newest step is said of each.
-use Rattle.std.specs.Prelude.{ℕ, ◌%◌, ◌≡◌, true, false, List, ◌∷◌, None}
+use Rattle.std.specs.Prelude.{ℕ, ◌%◌, ◌≡◌, true, false, List, ◌∷◌, ◌++◌, Some, None}
 use Rattle.std.specs.Int.{bit_at}
+use Rattle.std.specs.List.{AllByRecursion}
 use Rattle.log_entry.specs.Legal.{Legal, last_file, last_position_of}
+use Rattle.log_entry.specs.declared.calls.Op.{Op}
 use Rattle.log_entry.specs.declared.calls.Call.{Call}
 use Rattle.pmem_words.specs.Owned.{is_among}
 use Rattle.asks.specs.declared.ask.Place.TheVariants.{Map}
@@ -17,7 +19,7 @@ use Rattle.log_core.specs.Order.{nth_generation}
 use Rattle.log_core.specs.Invariant.{KeptIn}
 use Rattle.log_core.specs.Runs.{IsRun, end}
 use Rattle.log_core.specs.Starts.{IsStart}
-use Rattle.log_core.specs.Histories.{Ran, HasCollections}
+use Rattle.log_core.specs.Histories.{recorded_calls, Ran, HasCollections}
 
 -- a block that a kept generation names
 pub record IsNeeded (o : Origin) (c : Core) (block : ℕ) : Type 0 where
@@ -50,3 +52,20 @@ pub record IsOneHistory (o : Origin) (c : Core) (calls : List Call) : Type 0 whe
 -- so are the calls of each run that ends with no call running
 abbrev pub RunsAreLegal : Type 0
 RunsAreLegal = (o : Origin) (calls : List Call) (c : Core) → IsStart o → Ran o calls c → NoCallRuns c → IsOneHistory o c calls
+
+-- a seat made a step of its call of this number, asking this, and behind it the position was the end: so it is where a view finds its
+-- tail empty, and behind the exchange that puts a write in
+pub record IsSeen (o : Origin) (steps : List Step) (seat number position : ℕ) (op : Op) : Type 0 where
+  pub ask : Ask
+  pub note : Note
+  pub later : List Step
+  pub earlier : List Step
+  pub moment : steps ≡ later ++ Does seat ask note ∷ earlier
+  pub number_is : note.number ≡ number
+  pub asks : op_in note.before ≡ Some op
+  pub at_end : position ≡ end_of o (end o (Does seat ask note ∷ earlier)).history
+
+-- so each record of each run is of a position that was the end at a step of its own call
+abbrev pub RecordsAreSeen : Type 0
+RecordsAreSeen = (o : Origin) (steps : List Step) → IsStart o → IsRun o steps →
+    AllByRecursion (λ (call : Call). IsSeen o steps call.seat call.number call.position call.op) (recorded_calls (end o steps).views)
