@@ -9,3 +9,4 @@ pub mod RecordedCalls
 pub mod QuietCalls
 pub mod LegalRuns
 pub mod TailMoves
+pub mod SeenCalls

@@ -1,7 +1,7 @@
 //! Laws of the core, each the contract of a function that does nothing.
 
 ghost use Rattle.log_core.specs.Laws.{StartMeets, StepKeeps, RunKeeps};
-ghost use Rattle.log_core.specs.Following.{NoneReused, RunsAreLegal};
+ghost use Rattle.log_core.specs.Following.{NoneReused, RunsAreLegal, RecordsAreSeen};
 
 /// The core that a run starts with meets the invariant.
 pub fn law_start()
@@ -24,7 +24,9 @@ pub fn law_reuse()
 {}
 
 /// The calls of each run that ends with no call running, in the order of a report, are one legal history from the start's file and
-/// position to the end of the writes, and their collections put each generation in place, in turn.
+/// position to the end of the writes, and their collections put each generation in place, in turn. And each record of each run is of a
+/// position that was the end at a step of its own call.
 pub fn law_legal()
-    ensures { RunsAreLegal }
+    ensures one_history { RunsAreLegal }
+    ensures each_seen { RecordsAreSeen }
 {}

@@ -24,12 +24,12 @@ use Rattle.log_core.proofs.kinds.IdleViews.{running_none}
 use Rattle.log_core.proofs.following.Stands.{Stands}
 
 -- what holds of each view by its place, holds of each of the list
-each_view : (P : View → Type 0) (views : List View) → ((k : ℕ) → P (view_of views k)) → AllByRecursion P views
+pub each_view : (P : View → Type 0) (views : List View) → ((k : ℕ) → P (view_of views k)) → AllByRecursion P views
 each_view P [] at = tt
 each_view P (v ∷ views) at = (at 0, each_view P views (λ k. at (suc k)))
 
 -- what holds of each view's records, holds of all
-each_record : (P : Call → Type 0) (views : List View) → AllByRecursion (λ (v : View). AllByRecursion P v.done) views → AllByRecursion P (recorded_calls views)
+pub each_record : (P : Call → Type 0) (views : List View) → AllByRecursion (λ (v : View). AllByRecursion P v.done) views → AllByRecursion P (recorded_calls views)
 each_record P [] all = tt
 each_record P (v ∷ views) all = each_join P v.done (recorded_calls views) all.0 (each_record P views all.1)
 
