@@ -42,13 +42,19 @@ pub record IsQuietCall (o : Origin) (steps : List Step) (core : Core) (call : Ca
   pub made : IsMadeBy (view_of (end o earlier).views call.seat) (recorded_calls core.views) call
   pub answers : Answers o.geometry.block_bytes call.position (file_at o core.history call.position) call.op call.reply
 
+-- the quiet calls of a run, the newest first: each was made at a moment of it, and the others by then, with smaller numbers where they are of its seat
+abbrev pub AreQuiet : Origin → Core → List Step → List Call → Type 0
+AreQuiet o core steps [] = Unit {0}
+AreQuiet o core steps (call ∷ calls) =
+    (quiet : IsQuietCall o steps core call) × AllByRecursion (λ (other : Call). other.seat ≡ call.seat → other.number < call.number) calls × AreQuiet o core quiet.earlier calls
+
 -- the calls of a run: the records of its views with the quiet calls, in the order of a report
 pub record Ran (o : Origin) (calls : List Call) (core : Core) : Type 0 where
   pub steps : List Step
   pub is_run : IsRun o steps
   pub ends : end o steps ≡ core
   pub quiet : List Call
-  pub are_quiet : AllByRecursion (IsQuietCall o steps core) quiet
+  pub are_quiet : AreQuiet o core steps quiet
   pub same_calls : IsPermutation (recorded_calls core.views ++ quiet) calls
   pub in_order : IsInOrder calls
 

@@ -5,6 +5,7 @@ use Rattle.std.proofs.lemmas.List.Elements.{All-from_recursion, recursion_from_A
 use Rattle.std.proofs.lemmas.List.Sorted.{All-permutation, sum_by-IsPermutation}
 use Rattle.std.proofs.lemmas.List.Sums.{sum_by-cons}
 use Rattle.std.proofs.lemmas.Bool.{le-ltb}
+use Rattle.std.proofs.lemmas.List.{append_assoc}
 use Rattle.log_entry.specs.Legal.{is_write}
 use Rattle.log_entry.specs.declared.calls.Call.{Call}
 use Rattle.log_image.proofs.ListLemmas.{each_join}
@@ -16,7 +17,7 @@ use Rattle.log_core.specs.Records.{one_if, writes_at, collects, collected_in, Sa
 use Rattle.log_core.specs.Runs.{IsRun, end}
 use Rattle.log_core.specs.Starts.{IsStart}
 use Rattle.log_core.specs.Invariant.{Invariant}
-use Rattle.log_core.specs.Histories.{recorded_calls, IsQuietCall}
+use Rattle.log_core.specs.Histories.{recorded_calls, IsQuietCall, AreQuiet}
 use Rattle.log_core.specs.Following.{NoCallRuns, IsOneHistory, RunsAreLegal}
 use Rattle.log_core.proofs.Each.{each_weaker}
 use Rattle.log_core.proofs.clauses.JoinedParts.{writes_join, collected_join}
@@ -56,6 +57,26 @@ no_writes position (call ∷ calls) none = (let rest = no_writes position calls 
 no_collections : (generation : ℕ) (calls : List Call) → AllByRecursion (λ (call : Call). collects generation call.reply ≡ 0) calls → collected_in generation calls ≡ 0
 no_collections generation [] none = refl
 no_collections generation (call ∷ calls) none = (let rest = no_collections generation calls none.1 in let here = none.0 in omega (arith, rest, here))
+
+-- each quiet call is one of the whole run
+quiet_later : (o : Origin) (core : Core) (later earlier : List Step) (call : Call) → IsQuietCall o earlier core call → IsQuietCall o (later ++ earlier) core call
+quiet_later o core later earlier call quiet = record {
+  quiet = quiet.quiet;
+  later = later ++ quiet.later;
+  earlier = quiet.earlier;
+  moment = ap (λ (steps : List Step). later ++ steps) quiet.moment ∙ sym (append_assoc later quiet.later quiet.earlier);
+  made = quiet.made;
+  answers = quiet.answers;
+}
+
+pub each_quiet : (o : Origin) (core : Core) (steps : List Step) (calls : List Call) → AreQuiet o core steps calls → AllByRecursion (IsQuietCall o steps core) calls
+each_quiet o core steps [] are = tt
+each_quiet o core steps (call ∷ calls) are = (
+  are.0,
+  each_weaker (IsQuietCall o are.0.earlier core) (IsQuietCall o steps core) calls
+      (λ other quiet. subst (λ (all : List Step). IsQuietCall o all core other) (sym are.0.moment) (quiet_later o core are.0.later are.0.earlier other quiet))
+      (each_quiet o core are.0.earlier calls are.2),
+)
 
 -- the file at the start's position
 start_file : (o : Origin) (c : Core) → file_at o c.history (first_position o) ≡ o.file
@@ -123,6 +144,6 @@ module _ (o : Origin) (start : IsStart o) (steps : List Step) (run : IsRun o ste
 pub runs_are_legal : RunsAreLegal
 runs_are_legal o calls core start ran idle = subst (λ (c : Core). IsOneHistory o c calls) ran.ends
     (one_history o start ran.steps ran.is_run (subst (λ (c : Core). NoCallRuns c) (sym ran.ends) idle) ran.quiet calls
-    (subst (λ (c : Core). AllByRecursion (IsQuietCall o ran.steps c) ran.quiet) (sym ran.ends) ran.are_quiet)
+    (each_quiet o (end o ran.steps) ran.steps ran.quiet (subst (λ (c : Core). AreQuiet o c ran.steps ran.quiet) (sym ran.ends) ran.are_quiet))
     (subst (λ (c : Core). IsPermutation (recorded_calls c.views ++ ran.quiet) calls) (sym ran.ends) ran.same_calls)
     (rises_in_order calls ran.in_order))
