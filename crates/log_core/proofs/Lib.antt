@@ -29,3 +29,4 @@ pub mod kinds
 pub mod machines
 pub mod starts
 pub mod row_checks
+pub mod following

@@ -1,17 +1,15 @@
 -- The calls of a run as one history: with the calls that make no step, in the order of a report; and its collections.
-use Rattle.std.specs.Prelude.{ℕ, ◌+◌, ◌^◌, ◌<◌, ◌≤◌, ◌≡◌, ◌==◌, ◌-◌, nat_lt, max, true, if◌then◌else◌, List, [], ◌∷◌, ◌++◌, length, map, IsPermutation}
+use Rattle.std.specs.Prelude.{ℕ, ◌+◌, ◌^◌, ◌<◌, ◌≤◌, ◌≡◌, ◌≢◌, ◌⊎◌, ◌==◌, ◌-◌, max, true, List, [], ◌∷◌, ◌++◌, length, map, IsPermutation, None}
 use Rattle.std.specs.List.{AllByRecursion, flat_map, list_any}
 use Rattle.log_entry.specs.Legal.{Answers}
-use Rattle.log_entry.specs.OfTrace.{OfTrace}
 use Rattle.log_entry.specs.Order.{IsInOrder}
 use Rattle.log_entry.specs.declared.calls.CollectRefusal.TheVariants.{Nothing, Overtaken, GenerationLimit}
 use Rattle.log_entry.specs.declared.calls.Reply.{Reply}
 use Rattle.log_entry.specs.declared.calls.Reply.TheVariants.{Collected, NotCollected}
-use Rattle.log_entry.specs.declared.calls.Job.{Job}
 use Rattle.log_entry.specs.declared.calls.Call.{Call}
-use Rattle.log_core.specs.Views.{View}
-use Rattle.log_core.specs.Origin.{Origin, first_position}
-use Rattle.log_core.specs.Files.{end_of, file_at}
+use Rattle.log_core.specs.Views.{View, view_of, op_in}
+use Rattle.log_core.specs.Origin.{Origin}
+use Rattle.log_core.specs.Files.{file_at}
 use Rattle.log_core.specs.Cores.{Core}
 use Rattle.log_core.specs.Works.{is_quiet}
 use Rattle.log_core.specs.Steps.{Step}
@@ -21,29 +19,44 @@ use Rattle.log_core.specs.Runs.{IsRun, end}
 abbrev pub recorded_calls : List View → List Call
 recorded_calls views = flat_map (λ (v : View). v.done) views
 
--- the position of the calls before one, of a seat that begins at a position
-abbrev pub position_before : ℕ → ℕ → ℕ → List Call → ℕ
-position_before seat number position [] = position
-position_before seat number position (call ∷ calls) =
-    position_before seat number (if call.seat == seat then (if nat_lt call.number number then max position call.position else position) else position) calls
+-- the greatest position of some calls, or a first one
+abbrev pub greatest_position : ℕ → List Call → ℕ
+greatest_position position [] = position
+greatest_position position (call ∷ calls) = greatest_position (max position call.position) calls
 
--- a call that made no step: it is a quiet one, stands at the position that its seat had come to, or at a later one that a join gave it, and has the reply that comes there
-pub record IsQuietCall (o : Origin) (core : Core) (calls : List Call) (call : Call) : Type 0 where
+-- a call that made no step, at a moment of its seat's view: that was not spent, ran no call, and had come to the call's position, by its
+-- own records and those that joins gave it. The call stands behind the seat's last one by number, and before the next
+pub record IsMadeBy (v : View) (recorded : List Call) (call : Call) : Type 0 where
+  pub unspent : v.parts ≢ []
+  pub no_call : op_in v.seat ≡ None
+  pub position : call.position ≡ greatest_position v.first v.done
+  pub after : v.ghost.call.number < call.number
+  pub before : AllByRecursion (λ (other : Call). other.seat ≡ call.seat → (other.number ≤ v.ghost.call.number) ⊎ (call.number < other.number)) recorded
+
+-- a quiet call of a run: made at one moment of it, with the reply that comes at its position
+pub record IsQuietCall (o : Origin) (steps : List Step) (core : Core) (call : Call) : Type 0 where
   pub quiet : is_quiet o.geometry.block_bytes call.op ≡ true
-  pub position : position_before call.seat call.number (first_position o) calls ≤ call.position
-  pub to_end : call.position ≤ end_of o core.history
+  pub later : List Step
+  pub earlier : List Step
+  pub moment : steps ≡ later ++ earlier
+  pub made : IsMadeBy (view_of (end o earlier).views call.seat) (recorded_calls core.views) call
   pub answers : Answers o.geometry.block_bytes call.position (file_at o core.history call.position) call.op call.reply
 
--- a run whose calls are the trace's: the records of its views with the quiet calls, in the order of a report
-pub record Ran (o : Origin) (jobs : List Job) (calls : List Call) (core : Core) : Type 0 where
+-- the quiet calls of a run, the newest first: each was made at a moment of it, and the others by then, with smaller numbers where they are of its seat
+abbrev pub AreQuiet : Origin → Core → List Step → List Call → Type 0
+AreQuiet o core steps [] = Unit {0}
+AreQuiet o core steps (call ∷ calls) =
+    (quiet : IsQuietCall o steps core call) × AllByRecursion (λ (other : Call). other.seat ≡ call.seat → other.number < call.number) calls × AreQuiet o core quiet.earlier calls
+
+-- the calls of a run: the records of its views with the quiet calls, in the order of a report
+pub record Ran (o : Origin) (calls : List Call) (core : Core) : Type 0 where
   pub steps : List Step
   pub is_run : IsRun o steps
   pub ends : end o steps ≡ core
   pub quiet : List Call
-  pub are_quiet : AllByRecursion (IsQuietCall o core calls) quiet
+  pub are_quiet : AreQuiet o core steps quiet
   pub same_calls : IsPermutation (recorded_calls core.views ++ quiet) calls
   pub in_order : IsInOrder calls
-  pub of_trace : OfTrace calls jobs
 
 -- what a list of calls collected: the generations that were put in place, each with its position
 pub record Put : Type 0 where

@@ -27,6 +27,7 @@ pub mod Invariant
 pub mod Starts
 pub mod Histories
 pub mod Laws
+pub mod Following
 pub mod Knows
 pub mod Within
 pub mod Promising

@@ -1,17 +1,31 @@
 //! Laws of the core, each the contract of a function that does nothing.
 
 ghost use Rattle.log_core.specs.Laws.{StartMeets, StepKeeps, RunKeeps};
+ghost use Rattle.log_core.specs.Following.{NoneReused, RunsAreLegal, RecordsAreSeen};
 
 /// The core that a run starts with meets the invariant.
 pub fn law_start()
     ensures { StartMeets }
 {}
 
-/// Each step that is allowed keeps the invariant, so it holds after every run, by any seats in any order: of loads of the head, stores of
-/// the own pin word and loads of pin words; of loads of bitmap words, settings of bits and clearings of bits of owned and of replaced
-/// blocks; and of stores into owned blocks, marks of their words and fences outside of syncs; each with what its call computes around it,
-/// and with the record of a call that it ends.
+/// Each step that is allowed keeps the invariant, so it holds after every run, by any seats in any order. A step of a seat is of any kind,
+/// with what its call computes before and after it, and with the record of a call that it ends; and seat 0 may be split, and two seats
+/// joined.
 pub fn law_step()
     ensures each_step { StepKeeps }
     ensures every_run { RunKeeps }
+{}
+
+/// At each step of each run: a setting of bits finds no block's bit clear that a kept generation names, and a clearing of bits clears no
+/// such bit.
+pub fn law_reuse()
+    ensures { NoneReused }
+{}
+
+/// The calls of each run that ends with no call running, in the order of a report, are one legal history from the start's file and
+/// position to the end of the writes, and their collections put each generation in place, in turn. And each record of each run is of a
+/// position that was the end at a step of its own call.
+pub fn law_legal()
+    ensures one_history { RunsAreLegal }
+    ensures each_seen { RecordsAreSeen }
 {}

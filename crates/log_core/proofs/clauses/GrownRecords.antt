@@ -33,7 +33,7 @@ none_at position (call ∷ done) early = (let here = go (is_write call.op call.r
     go false other = refl
 
 -- in one of two lists of parts alone
-count_some : (parts : List ℕ) (seat : ℕ) → is_listed parts seat ≡ true → 1 ≤ count_in parts seat
+pub count_some : (parts : List ℕ) (seat : ℕ) → is_listed parts seat ≡ true → 1 ≤ count_in parts seat
 count_some [] seat listed = cc
 count_some (part ∷ parts) seat listed = go (part == seat) listed (λ later. count_some parts seat later)
   where
@@ -42,7 +42,7 @@ count_some (part ∷ parts) seat listed = go (part == seat) listed (λ later. co
     go false is rest = (let more = rest is in omega (arith, more))
 
 -- the parts of one view, and of two, are among all
-part_of : (views : List View) (k seat : ℕ) → k < length views → count_in (view_of views k).parts seat ≤ parts_with views seat
+pub part_of : (views : List View) (k seat : ℕ) → k < length views → count_in (view_of views k).parts seat ≤ parts_with views seat
 part_of [] k seat inside = absurd (omega (arith, inside))
 part_of (v ∷ views) zero seat inside = omega arith
 part_of (v ∷ views) (suc k) seat inside = (let rest = part_of views k seat (omega (arith, inside)) in omega (arith, rest))

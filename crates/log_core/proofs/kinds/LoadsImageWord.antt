@@ -108,7 +108,7 @@ module _ (o : Origin) (c : Core) (n : ℕ) (s : Seat) (g : Ghost) (pin began wor
       (first.0, eqb-true value 0 first.1, subst (λ (image : Shape). word ≡ place_in image s.walk.tail_block (tail_index s)) same_shape (eqb-true word (place_in (seat_shape s) s.walk.tail_block (tail_index s)) both.1)))
 
   -- so the view is at the end
-  at_end : found ≡ true → s.walk.position ≡ end_of o c.history
+  pub at_end : found ≡ true → s.walk.position ≡ end_of o c.history
   at_end e =
       (let parts = found_parts e in
       let ready = w.ready_walked parts.0 in

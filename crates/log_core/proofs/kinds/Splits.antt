@@ -84,7 +84,7 @@ module _ (o : Origin) (c : Core) (inv : Invariant o c) (may : MaySplit o c 0) wh
   long = length_push (slice_set c.views 0 left) (view_right first_view) ∙ ap (λ (k : ℕ). k + 1) (length-set c.views 0 left)
 
   -- a fact of each view, by the two that are new
-  each_grown : (P : ℕ → View → Type 0) → P 0 left → P count fresh_view → ((k : ℕ) → k ≢ 0 → P k (view_of c.views k)) → (k : ℕ) → P k (view_of views k)
+  pub each_grown : (P : ℕ → View → Type 0) → P 0 left → P count fresh_view → ((k : ℕ) → k ≢ 0 → P k (view_of c.views k)) → (k : ℕ) → P k (view_of views k)
   each_grown P first last others k = ⊎_elim (λ (low : k < count). at_old low) (λ (high : count ≤ k). same_or_other k count (λ same. at_end same) (λ other. past high other)) (cases_lt k count)
     where
       at_old : k < count → P k (view_of views k)

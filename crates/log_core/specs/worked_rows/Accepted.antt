@@ -28,7 +28,7 @@ use Rattle.log_core.specs.Answers.{MayAdd}
 use Rattle.log_core.specs.Walks.{HasRead}
 use Rattle.log_core.specs.Records.{MarksFit}
 use Rattle.log_core.specs.Starts.{origin_of}
-use Rattle.log_core.specs.Histories.{HasCollections, position_before}
+use Rattle.log_core.specs.Histories.{HasCollections, greatest_position}
 use Rattle.log_core.specs.worked_rows.Samples.{small, wide, image_a, step_of, stepping, with_map}
 use Rattle.log_core.specs.worked_rows.Rows.{head_loaded, pin_stored, pinned, taken_by_one, stored_words, racing, syncing, head_marked, slot_marked, synced, collected, scan_held, scan_clear, no_blocks_mapped, to_first, to_second, first_call}
 use Rattle.log_core.specs.worked_rows.Refused.{one_made, seat_zero, OrderOf, OwnersOf, ContentsOf, PinsOf, ViewsOf, OwnedOf, GivingsOf, RecordsOf, SyncsOf}
@@ -341,6 +341,6 @@ CollectionsInTurn =
     × (HasCollections 1 0 (collection 2 1 ∷ refused_collection 2 Nothing ∷ []) → ⊥)
     × (HasCollections 1 0 (collection 2 1 ∷ refused_collection 2 (Overtaken 3) ∷ []) → ⊥)
     × (HasCollections 1 0 (refused_collection 0 GenerationLimit ∷ []) → ⊥)
-    × (position_before 1 3 0 (first_call ∷ refused_collection 1 Nothing ∷ refused_collection 3 Nothing ∷ []) ≡ 1)
-    × (position_before 1 4 0 (first_call ∷ refused_collection 1 Nothing ∷ refused_collection 3 Nothing ∷ []) ≡ 3)
-    × (position_before 2 1 0 (first_call ∷ []) ≡ 0)
+    × (greatest_position 0 (first_call ∷ refused_collection 1 Nothing ∷ refused_collection 3 Nothing ∷ []) ≡ 3)
+    × (greatest_position 0 (refused_collection 3 Nothing ∷ refused_collection 1 Nothing ∷ []) ≡ 3)
+    × (greatest_position 2 [] ≡ 2)

@@ -1,0 +1,12 @@
+-- What follows of every run.
+pub mod Reuse
+pub mod Rising
+pub mod Stands
+pub mod InTurn
+pub mod Moments
+pub mod CollectedCalls
+pub mod RecordedCalls
+pub mod QuietCalls
+pub mod LegalRuns
+pub mod TailMoves
+pub mod SeenCalls
