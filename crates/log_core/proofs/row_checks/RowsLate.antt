@@ -44,6 +44,7 @@ late_commit = record {
   at_tail = record { valid = refl; ready = refl; not_won = refl; at_tail = refl };
   slot = refl;
   inside = omega arith;
+  small = omega arith;
   op = PwriteOp 0 (187 ∷ []);
   job = refl;
   is_write = refl;

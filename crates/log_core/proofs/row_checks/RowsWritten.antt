@@ -48,6 +48,7 @@ may_put = record {
   at_tail = record { valid = refl; ready = refl; not_won = refl; at_tail = refl };
   slot = refl;
   inside = omega arith;
+  small = omega arith;
   op = PwriteOp 0 (170 ∷ []);
   job = refl;
   is_write = refl;
@@ -90,4 +91,5 @@ entries_not_put = (
   λ allowed. false≢true ((allowed.step.may.1 (λ seal. omega (arith, seal))).owned 1 refl),
   λ allowed. false≢true ((allowed.step.may.1 (λ seal. omega (arith, seal))).owned 2 refl),
   λ allowed. (let size = size_of (seat_zero own_at_tail) 272678883950593 (PwriteOp 0 (170 ∷ [])) refl (allowed.step.may.1 (λ seal. omega (arith, seal))) in omega (arith, size)),
+  λ allowed. (let small = (allowed.step.may.1 (λ seal. omega (arith, seal))).small in omega (arith, small)),
 )
