@@ -10,3 +10,4 @@ pub mod QuietCalls
 pub mod LegalRuns
 pub mod TailMoves
 pub mod SeenCalls
+pub mod Numbers

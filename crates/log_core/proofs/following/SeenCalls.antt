@@ -33,14 +33,14 @@ use Rattle.log_core.proofs.Replies.{unwon_no_write}
 use Rattle.log_entry.specs.Legal.{is_write}
 
 -- a view whose call is at its tail was there at a step of that call
-abbrev IsTailSeen : Origin → List Step → ℕ → View → Type 0
+abbrev pub IsTailSeen : Origin → List Step → ℕ → View → Type 0
 IsTailSeen o steps seat v = v.seat.walk.at_tail ≡ true → (op : Op) → op_in v.seat ≡ Some op → IsSeen o steps seat v.ghost.call.number v.seat.walk.position op v.seat.calling.won
 
-abbrev IsCallSeen : Origin → List Step → Call → Type 0
+abbrev pub IsCallSeen : Origin → List Step → Call → Type 0
 IsCallSeen o steps call = IsSeen o steps call.seat call.number call.position call.op (is_write call.op call.reply)
 
 -- so it is of each view, and of each record
-record AllSeen (o : Origin) (steps : List Step) : Type 0 where
+pub record AllSeen (o : Origin) (steps : List Step) : Type 0 where
   pub tails : (seat : ℕ) → IsTailSeen o steps seat (view_of (end o steps).views seat)
   pub stands : (seat : ℕ) → StandsWon (view_of (end o steps).views seat).seat
   pub records : (seat : ℕ) → AllByRecursion (IsCallSeen o steps) (view_of (end o steps).views seat).done
@@ -80,7 +80,7 @@ seen_as o steps seat number other position place op won now same_number same_pla
 }
 
 -- a call has its own number from its first step on
-number_at_ask : (begun : Bool) (call : RunningCall) (number : ℕ) → MayNumber begun call.number number → (call_if begun call number).number ≡ number
+pub number_at_ask : (begun : Bool) (call : RunningCall) (number : ℕ) → MayNumber begun call.number number → (call_if begun call number).number ≡ number
 number_at_ask true call number may = refl
 number_at_ask false call number may = sym may
 
@@ -104,22 +104,22 @@ module _ (o : Origin) (steps : List Step) (inv : Invariant o (end o steps)) (see
     abbrev v : View
     v = view_of c.views n
 
-    abbrev kind : Kind
+    abbrev pub kind : Kind
     kind = kind_of_ask (q_of_origin o) n ask
 
-    abbrev f : ℕ
+    abbrev pub f : ℕ
     f = found_answer c.memory ask
 
     abbrev this : Step
     this = Does n ask note
 
-    abbrev step : MayStep o c v kind note f
+    abbrev pub step : MayStep o c v kind note f
     step = allowed.fits.step
 
-    abbrev left : Seat
+    abbrev pub left : Seat
     left = effect_at v note kind f
 
-    abbrev last : Seat
+    abbrev pub last : Seat
     last = step.enters.last
 
     knows : Knows o c n note.before (ghost_at v note) (slice_index c.memory.now.pins n) (slice_index (began o c n inv allowed.fits.made allowed.fits.unspent note) n)
@@ -128,7 +128,7 @@ module _ (o : Origin) (steps : List Step) (inv : Invariant o (end o steps)) (see
     before_stands : StandsWon note.before
     before_stands won = (let was = computed_won v.ghost v.seat note.before step.begins won in was.1 (seen.stands n was.0))
 
-    moves : TailMoves note.before left (end_of o c.history) (end_of o (history_after c.history n note kind (found c.memory ask)))
+    pub moves : TailMoves note.before left (end_of o c.history) (end_of o (history_after c.history n note kind (found c.memory ask)))
     moves = moves_by_ask o c n note (ghost_at v note) (slice_index c.memory.now.pins n) (slice_index (began o c n inv allowed.fits.made allowed.fits.unspent note) n) inv knows allowed.fits.unspent v.ghost.marks before_stands ask step.may
 
     -- a call that is at its tail behind the step was there before it, or is at the end now
@@ -168,7 +168,7 @@ module _ (o : Origin) (steps : List Step) (inv : Invariant o (end o steps)) (see
           put_in = λ won. (let more = now.1 (left_won won) in let same = later.0.1 in omega (arith, more, same));
         }
 
-    left_number : (ghost_left v note kind f).call.number ≡ note.number
+    pub left_number : (ghost_left v note kind f).call.number ≡ note.number
     left_number = number_at_ask (is_begun (op_in v.seat) (op_in note.before)) v.ghost.call note.number step.number
 
     -- so it is of the view that the step leaves
@@ -180,7 +180,7 @@ module _ (o : Origin) (steps : List Step) (inv : Invariant o (end o steps)) (see
         by (call ∷ calls) at op asks = (let never : None ≡ Some op = asks in cc)
 
     -- and of the record that it adds
-    last_is : last.number ≡ n
+    pub last_is : last.number ≡ n
     last_is = (let later = step_keeps o c this inv allowed in
         let same : view_of (after o c this).views n ≡ view_after v kind note f = get_or-set_same c.views n _ spent_view allowed.fits.made in
         let long = Rattle.std.proofs.lemmas.List.length-set c.views n (view_after v kind note f) in
@@ -280,7 +280,7 @@ seen_start o = record {
     fresh : (seat : ℕ) → IsFresh (view_of (first_core o).views seat)
     fresh seat = view_or_spent IsFresh (first_core o).views seat (refl, refl, refl) (all_fresh o (range_with_len 0 o.made))
 
-seen_run : (o : Origin) (steps : List Step) → Invariant o (first_core o) → IsRun o steps → AllSeen o steps
+pub seen_run : (o : Origin) (steps : List Step) → Invariant o (first_core o) → IsRun o steps → AllSeen o steps
 seen_run o [] start run = seen_start o
 seen_run o (step ∷ steps) start run = seen_step o steps (run_from o steps start run.0) (seen_run o steps start run.0) step run.1
 
