@@ -11,3 +11,5 @@ pub mod LegalRuns
 pub mod TailMoves
 pub mod SeenCalls
 pub mod Numbers
+pub mod SeatOrder
+pub mod NumbersRise
