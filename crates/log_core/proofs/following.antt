@@ -13,3 +13,4 @@ pub mod SeenCalls
 pub mod Numbers
 pub mod SeatOrder
 pub mod NumbersRise
+pub mod CountedCalls
