@@ -7,10 +7,11 @@ pub mod Moments
 pub mod CollectedCalls
 pub mod RecordedCalls
 pub mod QuietCalls
-pub mod LegalRuns
 pub mod TailMoves
 pub mod SeenCalls
 pub mod Numbers
 pub mod SeatOrder
 pub mod NumbersRise
 pub mod CountedCalls
+pub mod CallsInTime
+pub mod LegalRuns

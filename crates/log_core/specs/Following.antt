@@ -16,6 +16,7 @@ use Rattle.log_core.specs.Files.{entries, end_of, file_at}
 use Rattle.log_core.specs.Cores.{Core, is_named}
 use Rattle.log_core.specs.Steps.{Note, Step, Does}
 use Rattle.log_core.specs.Order.{nth_generation}
+use Rattle.log_core.specs.Records.{NeverFall}
 use Rattle.log_core.specs.Invariant.{KeptIn}
 use Rattle.log_core.specs.Runs.{IsRun, end}
 use Rattle.log_core.specs.Starts.{IsStart}
@@ -41,12 +42,13 @@ NoneReused = (o : Origin) (seat : ℕ) (ask : Ask) (note : Note) (steps : List S
 abbrev pub NoCallRuns : Core → Type 0
 NoCallRuns c = (seat : ℕ) → op_in (view_of c.views seat).seat ≡ None
 
--- the calls are one legal history, from the start's file and position to the end of the writes and the file there; and each generation
--- that the heads came to was put in place by one of them, in turn
+-- the calls are one legal history, from the start's file and position to the end of the writes and the file there; each seat's calls stand
+-- in it by their numbers; and each generation that the heads came to was put in place by one of them, in turn
 pub record IsOneHistory (o : Origin) (c : Core) (calls : List Call) : Type 0 where
   pub legal : Legal o.geometry.block_bytes o.file (first_position o) calls
   pub to_end : last_position_of (first_position o) calls ≡ end_of o c.history
   pub to_file : last_file o.file calls ≡ file_at o c.history (end_of o c.history)
+  pub each_seat : (seat : ℕ) → NeverFall seat 0 0 calls
   pub collected : HasCollections (first_generation o) (start_base o) calls
 
 -- so are the calls of each run that ends with no call running
