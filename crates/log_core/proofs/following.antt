@@ -4,10 +4,13 @@ pub mod Rising
 pub mod Stands
 pub mod InTurn
 pub mod Moments
+pub mod Greatest
 pub mod CollectedCalls
 pub mod RecordedCalls
 pub mod QuietCalls
+pub mod TailWorks
 pub mod TailMoves
+pub mod Seen
 pub mod SeenCalls
 pub mod Numbers
 pub mod SeatOrder

@@ -21,7 +21,8 @@ use Rattle.log_core.proofs.Each.{each_weaker, each_both}
 use Rattle.log_core.proofs.starts.StartMeets.{start_meets}
 use Rattle.log_core.proofs.kinds.RunHolds.{run_from}
 use Rattle.log_core.proofs.following.RecordedCalls.{each_view, each_record}
-use Rattle.log_core.proofs.following.SeenCalls.{IsCallSeen, records_are_seen}
+use Rattle.log_core.proofs.following.Seen.{IsCallSeen}
+use Rattle.log_core.proofs.following.SeenCalls.{records_are_seen}
 use Rattle.log_core.proofs.following.SeatOrder.{AreInTime, both_seen, seen_quiet, quiet_seen, both_quiet, past_last}
 use Rattle.log_core.proofs.following.NumbersRise.{InTime, is_call, count_calls, never_fall_in_order}
 use Rattle.log_core.proofs.following.CountedCalls.{positive_numbers, all_counted}

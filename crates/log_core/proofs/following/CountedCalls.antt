@@ -13,7 +13,7 @@ use Rattle.log_core.specs.Invariant.{Invariant}
 use Rattle.log_core.specs.Histories.{recorded_calls, IsQuietCall, AreQuiet}
 use Rattle.log_core.proofs.Each.{each_weaker, each_both}
 use Rattle.log_core.proofs.clauses.GrownRecords.{count_some}
-use Rattle.log_core.proofs.following.Rising.{one_most}
+use Rattle.log_core.proofs.clauses.JoinedParts.{one_most}
 use Rattle.log_core.proofs.following.RecordedCalls.{each_view}
 use Rattle.log_core.proofs.following.NumbersRise.{is_call, count_calls}
 

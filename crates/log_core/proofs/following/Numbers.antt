@@ -1,6 +1,6 @@
 -- The numbers of a seat's calls along a run: they never fall, and what a seat on which no call runs has recorded is all that its calls so far
 -- come to.
-use Rattle.std.proofs.Common.{◌≡◌, ◌≢◌, ◌⊎◌, inl, inr, ⊎_elim, ◌<◌, ◌≤◌, max, ℕ, Bool, true, false, List, [], ◌∷◌, ◌++◌, length, refl, sym, ◌∙◌, ap, subst, arith, slice_set, Option, Some, None, length-set}
+use Rattle.std.proofs.Common.{◌≡◌, ◌≢◌, ◌⊎◌, inl, inr, ⊎_elim, ◌<◌, ◌≤◌, ℕ, Bool, true, false, List, [], ◌∷◌, ◌++◌, length, refl, sym, ◌∙◌, ap, subst, arith, slice_set, Option, Some, None, length-set}
 use Rattle.std.specs.List.{AllByRecursion, list_all}
 use Rattle.std.proofs.lemmas.List.{length_push}
 use Rattle.std.proofs.lemmas.Bool.{cases_lt, and_parts, false≢true}
@@ -27,7 +27,9 @@ use Rattle.log_core.proofs.kinds.GoingOn.{op_stays}
 use Rattle.log_core.proofs.kinds.RunHolds.{run_from}
 use Rattle.log_core.proofs.kinds.Splits.{each_grown}
 use Rattle.log_core.proofs.kinds.JoinedViews.{each_joined}
-use Rattle.log_core.proofs.following.SeenCalls.{AllSeen, seen_run, moves, left_number, last_is, kind, f, step, left}
+use Rattle.log_core.proofs.following.Greatest.{greatest_each, greatest_more}
+use Rattle.log_core.proofs.following.Seen.{AllSeen}
+use Rattle.log_core.proofs.following.SeenCalls.{seen_run, moves, left_number, last_is, kind, f, step, left}
 
 -- a number that a step may have is not below the one before it, and above it where a call begins
 number_low : (begun : Bool) (before number : ℕ) → MayNumber begun before number → before ≤ number
@@ -52,23 +54,6 @@ op_going : (g : Ghost) (s : Seat) (works : List Work) → list_all is_going_on w
 op_going g s [] going may = refl
 op_going g s (work ∷ works) going may = (let parts = and_parts (is_going_on work) (list_all is_going_on works) going in
     op_going g (state_after_work s work) works parts.1 may.1 ∙ op_stays g s work parts.0 may.0)
-
--- the greatest position of more calls is no less
-greatest_first : (position place : ℕ) (calls : List Call) → position ≤ place → greatest_position position calls ≤ greatest_position place calls
-greatest_first position place [] low = low
-greatest_first position place (call ∷ calls) low = greatest_first (max position call.position) (max place call.position) calls (omega (arith, low))
-
-pub greatest_from : (position : ℕ) (calls : List Call) → position ≤ greatest_position position calls
-greatest_from position [] = omega arith
-greatest_from position (call ∷ calls) = (let rest = greatest_from (max position call.position) calls in omega (arith, rest))
-
-greatest_more : (position : ℕ) (calls others : List Call) → greatest_position position calls ≤ greatest_position position (calls ++ others)
-greatest_more position [] others = greatest_from position others
-greatest_more position (call ∷ calls) others = greatest_more (max position call.position) calls others
-
-greatest_each : (position : ℕ) (calls : List Call) → AllByRecursion (λ (call : Call). call.position ≤ greatest_position position calls) calls
-greatest_each position [] = tt
-greatest_each position (call ∷ calls) = ((let rest = greatest_from (max position call.position) calls in omega (arith, rest)), greatest_each (max position call.position) calls)
 
 module _ (o : Origin) (k : ℕ) where
   -- a seat is made, and while its view is not spent its call's number is at least this

@@ -8,7 +8,8 @@ use Rattle.log_entry.specs.Order.{IsInOrder, place_of, place_cmp}
 use Rattle.log_entry.specs.declared.calls.Call.{Call}
 use Rattle.log_core.specs.Records.{one_if, NeverFall}
 use Rattle.log_core.proofs.Each.{each_weaker}
-use Rattle.log_core.proofs.following.Rising.{place_number, compared, behind, order_rest, one_most}
+use Rattle.log_core.proofs.following.Rising.{place_number, compared, behind, order_rest}
+use Rattle.log_core.proofs.clauses.JoinedParts.{one_most}
 use Rattle.log_core.proofs.following.SeatOrder.{AreInTime}
 
 -- a call stands at or behind another: at one place by seat, and then by number

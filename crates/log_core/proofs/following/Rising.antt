@@ -8,6 +8,7 @@ use Rattle.log_entry.specs.Order.{IsInOrder, place_of, place_cmp}
 use Rattle.log_entry.specs.declared.calls.Call.{Call}
 use Rattle.log_core.specs.Records.{one_if}
 use Rattle.log_core.proofs.Each.{each_weaker}
+use Rattle.log_core.proofs.clauses.JoinedParts.{one_most}
 
 -- where a call stands: twice its position, and one more where it is no write
 abbrev pub place_number : Call → ℕ
@@ -21,10 +22,6 @@ AllFrom place calls = AllByRecursion (λ (call : Call). place ≤ place_number c
 abbrev pub Rises : List Call → Type 0
 Rises [] = Unit {0}
 Rises (call ∷ calls) = AllFrom (place_number call) calls × Rises calls
-
-pub one_most : (b : Bool) → one_if b ≤ 1
-one_most true = omega arith
-one_most false = omega arith
 
 -- how two calls compare by what position, kind, seat and number say
 abbrev pub compared : (lower same : Bool) → (kinds seats numbers : Ordering) → Bool

@@ -1,7 +1,6 @@
 -- Of two calls of one seat the one with the smaller number stands at no later position, and before a write: both have steps, or one or both are
 -- quiet.
-use Rattle.std.proofs.Common.{◌≡◌, ◌≢◌, ◌⊎◌, inl, inr, ⊎_elim, ◌<◌, ◌≤◌, ◌+◌, ℕ, zero, suc, Bool, true, false, List, [], ◌∷◌, ◌++◌, length, refl, sym, ◌∙◌, ap, subst, arith, None, length-append}
-use Rattle.std.specs.List.{AllByRecursion}
+use Rattle.std.proofs.Common.{◌≡◌, ◌≢◌, ◌⊎◌, ⊎_elim, ◌<◌, ◌≤◌, ℕ, Bool, true, false, List, [], ◌∷◌, ◌++◌, length, sym, ◌∙◌, ap, subst, arith, length-append}
 use Rattle.std.proofs.lemmas.Bool.{cases_lt, false≢true}
 use Rattle.std.proofs.lemmas.List.{get_or-set_same, length-set}
 use Rattle.log_entry.specs.Legal.{is_write}
@@ -19,10 +18,14 @@ use Rattle.log_core.specs.Histories.{greatest_position, IsQuietCall}
 use Rattle.log_core.proofs.starts.StartMeets.{start_meets}
 use Rattle.log_core.proofs.clauses.Others.{unspent_made}
 use Rattle.log_core.proofs.kinds.RunHolds.{run_from}
+use Rattle.log_core.proofs.Each.{each_weaker}
+use Rattle.log_core.proofs.following.Greatest.{greatest_high}
+use Rattle.log_core.specs.Records.{RecordHolds}
 use Rattle.log_core.proofs.following.Moments.{earlier_run, history_grows}
 use Rattle.log_core.proofs.following.Numbers.{IsNumbered, IsPast, numbered_run, past_run, past_now}
 use Rattle.log_core.proofs.following.QuietCalls.{no_write_quiet}
-use Rattle.log_core.proofs.following.SeenCalls.{IsCallSeen, number_at_ask}
+use Rattle.log_core.proofs.following.Seen.{IsCallSeen}
+use Rattle.log_core.proofs.following.SeenCalls.{number_at_ask}
 
 -- where the first of two calls of one seat has the smaller number, it stands at no later position, and before the second where that is a write
 abbrev pub AreInTime : Call → Call → Type 0
@@ -160,11 +163,10 @@ module _ (o : Origin) (steps : List Step) (start : IsStart o) (run : IsRun o ste
     position_is = quiet.made.position ∙ ap (λ (first : ℕ). greatest_position first v.done) (inv.sizes.each quiet_call.seat inside quiet.made.unspent).first
 
     to_end : quiet_call.position ≤ end_of o then_core.history
-    to_end = (let at = position_is in let high = greatest_below (first_position o) v.done (omega arith) (Rattle.log_core.proofs.Each.each_weaker _ _ v.done (λ other holds. holds.to_end) (inv.records.records quiet_call.seat)) in omega (arith, at, high))
-      where
-        greatest_below : (first : ℕ) (calls : List Call) → first ≤ end_of o then_core.history → AllByRecursion (λ (call : Call). call.position ≤ end_of o then_core.history) calls → greatest_position first calls ≤ end_of o then_core.history
-        greatest_below first [] low all = low
-        greatest_below first (call ∷ calls) low all = greatest_below (Rattle.std.proofs.Common.max first call.position) calls (let here = all.0 in omega (arith, low, here)) all.1
+    to_end = (let at = position_is in
+        let high = greatest_high (first_position o) (end_of o then_core.history) v.done (omega arith)
+        (each_weaker (RecordHolds o then_core.history then_core.generations) (λ (other : Call). other.position ≤ end_of o then_core.history) v.done (λ other holds. holds.to_end) (inv.records.records quiet_call.seat)) in
+        omega (arith, at, high))
 
     numbered : IsNumbered o quiet_call.seat number then_core
     numbered = record { inside = inside; low = λ some. omega arith }
