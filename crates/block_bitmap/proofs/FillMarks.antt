@@ -10,7 +10,8 @@ use Rattle.log_core.specs.Origin.{Origin}
 use Rattle.log_core.specs.Works.{CountsFilled, MayCountFilled}
 use Rattle.log_core.specs.Steps.{MarksWord, ghost_after, is_head_marked}
 use Rattle.log_core.specs.May.{OfOwned}
-use Rattle.log_core.specs.Within.{no_record, adds_at, EntersOffered, Lawful}
+use Rattle.log_core.specs.Answers.{Enters}
+use Rattle.log_core.specs.Within.{no_record, adds_at, Lawful}
 use Rattle.log_core.proofs.machines.Entering.{none_at, enters_same, enters_works}
 use Rattle.block_bitmap.specs.declared.fill.Fill.TheVariants.{Mark}
 use Rattle.block_bitmap.specs.OwnedWords.{owned_block_at, image_word, content_at, with_filled_block}
@@ -113,9 +114,9 @@ module _ (o : Origin) (seat first count : ℕ) (start : Seat) where
       each = λ k low. subst (λ (b : Bool). IsStored s marked place k b) (lt-ltb k (word + 1) (omega (arith, low, last))) (marked_more k low);
     }
 
-    enters_marked : (b : Bool) → nat_lt (word + 1) (q_of s.geometry) ≡ b → EntersOffered marked s (marked_after b place left word s).seat (adds_at no_record (marked_after b place left word s).seat (marked_after b place left word s).turn)
+    enters_marked : (b : Bool) → nat_lt (word + 1) (q_of s.geometry) ≡ b → Enters marked s (marked_after b place left word s).seat (adds_at no_record (marked_after b place left word s).seat (marked_after b place left word s).turn)
     enters_marked true more = enters_same marked s s refl
-    enters_marked false last = enters_works marked s (CountsFilled place ∷ []) (may_count (let most = ltb-false (word + 1) (q_of s.geometry) last in let within = stands.here.inside in omega (arith, most, within)), tt) refl refl
+    enters_marked false last = enters_works marked s (CountsFilled place ∷ []) (may_count (let most = ltb-false (word + 1) (q_of s.geometry) last in let within = stands.here.inside in omega (arith, most, within)), tt) refl
 
     never_done : (b : Bool) (out : Unit {0}) → (marked_after b place left word s).turn ≡ Done out → ⊥
     never_done true out done = cc
@@ -124,7 +125,6 @@ module _ (o : Origin) (seat first count : ℕ) (start : Seat) where
   pub mark_lawful : (place left word : ℕ) (s : Seat) (g : Ghost) → MarkStands first count start place left word s g → Lawful o seat fill_script no_record (FillStands first count start) (IsFilled first count start) (Mark place left word) s g
   mark_lawful place left word s g stands = record {
     may = λ c pin began inv unspent knows. OfOwned (mine first count place left word s g stands.here) stands.here.calm.no_sync;
-    offered = tt;
     admitted = λ c pin began inv unspent knows. has_blocks first count place left word s g stands.here (few_owned o seat c s g pin began inv knows);
     enters = λ f found admits. enters_marked place left word s g stands f (nat_lt (word + 1) (q_of s.geometry)) refl;
     none_added = λ f found admits. none_at (fill_script.after (Mark place left word) s f).seat (fill_script.after (Mark place left word) s f).turn;

@@ -34,7 +34,6 @@ module _ (o : Origin) (seat first count : ℕ) (start : Seat) where
   fence_lawful : (s : Seat) (g : Ghost) → FenceStands first count start s g → Lawful o seat fill_script no_record (FillStands first count start) (IsFilled first count start) Fence s g
   fence_lawful s g stands = record {
     may = λ c pin began inv unspent knows. record { in_sync = λ sync at_tail none. absurd (stands.calm.no_sync sync) };
-    offered = tt;
     admitted = λ c pin began inv unspent knows. tt;
     enters = λ f found admits. enters_same _ _ (all_fenced s) (fences s g f stands.calm);
     none_added = λ f found admits. refl;

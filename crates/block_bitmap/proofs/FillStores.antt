@@ -77,7 +77,6 @@ module _ (o : Origin) (seat first count : ℕ) (start : Seat) where
   pub store_lawful : (place left word : ℕ) (s : Seat) (g : Ghost) → StoreStands first count start place left word s g → Lawful o seat fill_script no_record (FillStands first count start) (IsFilled first count start) (Store place left word) s g
   store_lawful place left word s g stands = record {
     may = λ c pin began inv unspent knows. record { owned = mine first count place left word s g stands.here; small = stands.here.calm.small (place * q_of s.geometry + word) };
-    offered = tt;
     admitted = λ c pin began inv unspent knows. has_blocks first count place left word s g stands.here (few_owned o seat c s g pin began inv knows);
     enters = λ f found admits. enters_same _ _ (unfilled s place) (stores first count place left word s g stands.here f found.knows.owns.owned.once);
     none_added = λ f found admits. refl;

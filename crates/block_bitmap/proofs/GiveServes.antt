@@ -111,7 +111,6 @@ module _ (o : Origin) (seat : ℕ) (start : Seat) where
       small = small_from (next_word s) 0 s.blocks.owned (omega arith);
       given = OfOwned (of_owned s);
     };
-    offered = tt;
     admitted = λ c pin began inv unspent knows. record {
       some = stands.some;
       inside = word_inside (length s.blocks.found) (next_word s) s.blocks.owned (are_inside c s g pin began inv unspent knows) (least_is s.blocks.owned stands.some);

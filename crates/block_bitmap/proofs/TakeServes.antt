@@ -81,7 +81,6 @@ module _ (o : Origin) (seat : ℕ) (area : Area) (total_count : ℕ) (first : Se
   load_lawful : TakeStands area total_count first (at None) s g → Lawful o seat take_script no_record (TakeStands area total_count first) (HasEnded area total_count first) (at None) s g
   load_lawful stands = record {
     may = λ c pin began inv unspent knows. record { inside = inside_by stands.to c pin began unspent knows; area = area; lacks = (let some = stands.may.some in let lacks = stands.may.lacks in omega (arith, some, lacks)) };
-    offered = tt;
     admitted = λ c pin began inv unspent knows. record { to = stands.to; inside = inside_by stands.to c pin began unspent knows; room = stands.may.room };
     enters = λ f found admits. enters_turn (ghost_after g s (with_found word f s) (LoadsBitmapWord word) f) (with_found word f s) (settled (at None) (with_found word f s) f).seat (settled (at None) (with_found word f s) f).turn (sym (settled_seat (at None) (with_found word f s) f));
     none_added = λ f found admits. none_at (settled (at None) (with_found word f s) f).seat (settled (at None) (with_found word f s) f).turn;
@@ -176,7 +175,6 @@ module _ (o : Origin) (seat : ℕ) (area : Area) (total_count : ℕ) (first : Se
     set_lawful : Lawful o seat take_script no_record (TakeStands area total_count first) (HasEnded area total_count first) (at (Some known)) s g
     set_lawful = record {
       may = λ c pin began inv unspent knows. set_may (inside_by stands.to c pin began unspent knows);
-      offered = tt;
       admitted = λ c pin began inv unspent knows. record { to = stands.to; inside = inside_by stands.to c pin began unspent knows; room = stands.may.room };
       enters = λ f found admits. enters_turn (ghost_after g s (effect g.marks s (SetsBits word bits) f) (SetsBits word bits) f) (effect g.marks s (SetsBits word bits) f) (take_script.after (at (Some known)) s f).seat (take_script.after (at (Some known)) s f).turn
           (effect_is (at (Some known)) s known g.marks f ∙ sym (ended_seat (count - length (gained f admits.inside) == 0) (left f admits.inside (Some known)) (set f admits.inside) (known_set (at (Some known)) s known f)));

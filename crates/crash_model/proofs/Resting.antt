@@ -20,22 +20,22 @@ use Rattle.log_core.specs.Works.{Work, Begins, SetsWord, MaySetWord, MayWork, st
 use Rattle.log_core.specs.Steps.{is_begun, ghost_begun}
 use Rattle.log_core.specs.After.{began_if}
 use Rattle.log_core.specs.Records.{mark_of}
-use Rattle.log_core.specs.Runs.{MayNumber, is_offered_work}
+use Rattle.log_core.specs.Runs.{MayNumber}
 use Rattle.log_core.specs.Invariant.{Invariant}
 use Rattle.log_core.specs.Knows.{Knows}
 use Rattle.log_core.specs.Starts.{origin_of}
 use Rattle.log_core.proofs.clauses.OneView.{same_or_other}
-use Rattle.log_core.proofs.machines.Parts.{worked_more, may_more, all_more}
+use Rattle.log_core.proofs.machines.Parts.{worked_more, may_more}
 use Rattle.log_core.proofs.machines.Serving.{knows_here, reached_keeps}
 use Rattle.log_core.proofs.starts.StartKept.{same_position}
 use Rattle.log_core.proofs.starts.StartMeets.{start_meets}
 use Rattle.crash_model.specs.Worlds.{WorldNow, StandsForCore, seat_of, set_seat, new_world}
-use Rattle.crash_model.specs.Led.{IsComputed, IsAtRest, RestsIn, IsResting, HasNoMarks, MayBeginAt}
+use Rattle.crash_model.specs.Led.{IsComputed, Rests, IsIn, EachIn, IsResting, HasNoMarks, MayBeginAt}
 use Rattle.crash_model.proofs.Standing.{stands_with, new_stands_by}
 
 -- a seat has computed nothing where its state is its view's
 pub left_computed : (v : View) (s : Seat) → v.parts ≢ [] → s ≡ v.seat → IsComputed v s
-left_computed v s unspent same = record { unspent = unspent; begins = record { works = []; may = tt; gives = same }; offered = refl }
+left_computed v s unspent same = record { unspent = unspent; begins = record { works = []; may = tt; gives = same } }
 
 -- the number of the call that a seat's next step is of: a greater one, where the seat has begun a call
 abbrev number_by : Bool → ℕ → ℕ
@@ -60,21 +60,24 @@ pub record IsKnown (w : WorldNow) (o : Origin) (c : Core) (seat : ℕ) (g : Ghos
   pub began : ℕ
   pub knows : Knows o c seat (seat_of w seat) g pin began
 
--- it knows each seat at rest, at its next step
-pub known_at_rest : (w : WorldNow) (o : Origin) (c : Core) (seat : ℕ) → seat < length w.seats → RestsIn w o c →
+-- it knows a seat at rest, at its next step
+pub known_in : (w : WorldNow) (o : Origin) (c : Core) (seat : ℕ) → StandsForCore w o c → IsIn Rests w o c seat →
     IsKnown w o c seat (ghost_begun (view_of c.views seat).ghost (view_of c.views seat).seat (seat_of w seat) (number_next (view_of c.views seat) (seat_of w seat)))
-known_at_rest w o c seat inside rests =
-    (let at = rests.seats seat inside in
-    let v = view_of c.views seat in
-    let start = start_meets o rests.stands.start in
-    let inv = reached_keeps o start c rests.stands.reached in
+known_in w o c seat stands at =
+    (let v = view_of c.views seat in
+    let start = start_meets o stands.start in
+    let inv = reached_keeps o start c stands.reached in
     record {
-      stands = rests.stands;
+      stands = stands;
       holds = inv;
       pin = slice_index c.memory.now.pins seat;
       began = slice_index (began_if (is_begun (op_in v.seat) (op_in (seat_of w seat))) c.began seat (end_of o c.history)) seat;
-      knows = knows_here o start seat (number_next v (seat_of w seat)) c (seat_of w seat) inv at.made at.computed.unspent at.computed.begins at.computed.offered (next_may v (seat_of w seat));
+      knows = knows_here o start seat (number_next v (seat_of w seat)) c (seat_of w seat) inv at.made at.holds.unspent at.holds.begins (next_may v (seat_of w seat));
     })
+
+pub known_at_rest : (w : WorldNow) (o : Origin) (c : Core) (seat : ℕ) → seat < length w.seats → EachIn Rests w o c →
+    IsKnown w o c seat (ghost_begun (view_of c.views seat).ghost (view_of c.views seat).seat (seat_of w seat) (number_next (view_of c.views seat) (seat_of w seat)))
+known_at_rest w o c seat inside rests = known_in w o c seat rests.stands (rests.seats seat inside)
 
 none_unless : {A : Type 0} (x : Option A) → (x ≢ None → ⊥) → x ≡ None
 none_unless None never = refl
@@ -100,48 +103,47 @@ module _ (w : WorldNow) (o : Origin) (c : Core) (seat : ℕ) (g : Ghost) (known 
   no_marks_known none = known.knows.marks
       ∙ ap (λ (pending : List PendingMark). map (mark_of (λ word. cell c.memory word) c.memory.past) pending) (ap (λ (m : Memory). pending_of seat m.pending) known.stands.memory ∙ none)
 
--- a world at rest stays so where a seat computes, by a computation that is offered
-module _ (w : WorldNow) (seat : ℕ) (work : Work) (offered : is_offered_work work ≡ true) (inside : seat < length w.seats) where
+-- a world at rest stays so where a seat computes
+module _ (w : WorldNow) (seat : ℕ) (work : Work) (inside : seat < length w.seats) where
   abbrev computed : WorldNow
   computed = set_seat w seat (state_after_work (seat_of w seat) work)
 
-  computed_at : (o : Origin) (c : Core) → IsAtRest w c seat → MayWork (view_of c.views seat).ghost (seat_of w seat) work → IsComputed (view_of c.views seat) (state_after_work (seat_of w seat) work)
+  computed_at : (o : Origin) (c : Core) → IsIn Rests w o c seat → MayWork (view_of c.views seat).ghost (seat_of w seat) work → IsComputed (view_of c.views seat) (state_after_work (seat_of w seat) work)
   computed_at o c at may =
       (let v = view_of c.views seat in
-      let begins = at.computed.begins in
+      let begins = at.holds.begins in
       record {
-        unspent = at.computed.unspent;
+        unspent = at.holds.unspent;
         begins = record {
           works = begins.works ++ work ∷ [];
           may = may_more v.ghost v.seat begins.works (work ∷ []) begins.may (subst (λ (s : Seat). MayWork v.ghost s work) begins.gives may, tt);
           gives = ap (λ (s : Seat). state_after_work s work) begins.gives ∙ sym (worked_more v.seat begins.works (work ∷ []));
         };
-        offered = all_more is_offered_work begins.works (work ∷ []) at.computed.offered (rw offered refl);
       })
 
-  rests_computed : (o : Origin) (c : Core) → MayWork (view_of c.views seat).ghost (seat_of w seat) work → RestsIn w o c → RestsIn computed o c
+  rests_computed : (o : Origin) (c : Core) → MayWork (view_of c.views seat).ghost (seat_of w seat) work → EachIn Rests w o c → EachIn Rests computed o c
   rests_computed o c may rests = record {
     stands = stands_with w (slice_set w.seats seat (state_after_work (seat_of w seat) work)) (length-set w.seats seat (state_after_work (seat_of w seat) work)) o c rests.stands;
     seats = λ other low. same_or_other other seat
-        (λ same. subst (λ (k : ℕ). IsAtRest computed c k) (sym same) (let at = rests.seats seat inside in record {
+        (λ same. subst (λ (k : ℕ). IsIn Rests computed o c k) (sym same) (let at = rests.seats seat inside in record {
           made = at.made;
-          computed = subst (λ (s : Seat). IsComputed (view_of c.views seat) s) (sym (get_or-set_same w.seats seat (state_after_work (seat_of w seat) work) (new_seat no_geometry 0 0 0) inside)) (computed_at o c at may);
+          holds = subst (λ (s : Seat). IsComputed (view_of c.views seat) s) (sym (get_or-set_same w.seats seat (state_after_work (seat_of w seat) work) (new_seat no_geometry 0 0 0) inside)) (computed_at o c at may);
         }))
         (λ apart. (let at = rests.seats other (subst (λ (n : ℕ). other < n) (length-set w.seats seat (state_after_work (seat_of w seat) work)) low) in record {
           made = at.made;
-          computed = subst (λ (s : Seat). IsComputed (view_of c.views other) s) (sym (get_or-set_other w.seats seat other (state_after_work (seat_of w seat) work) (new_seat no_geometry 0 0 0) apart)) at.computed;
+          holds = subst (λ (s : Seat). IsComputed (view_of c.views other) s) (sym (get_or-set_other w.seats seat other (state_after_work (seat_of w seat) work) (new_seat no_geometry 0 0 0) apart)) at.holds;
         }));
   }
 
-  pub computed_rests : ((o : Origin) (c : Core) → RestsIn w o c → MayWork (view_of c.views seat).ghost (seat_of w seat) work) → IsResting w → IsResting computed
+  pub computed_rests : ((o : Origin) (c : Core) → EachIn Rests w o c → MayWork (view_of c.views seat).ghost (seat_of w seat) work) → IsResting w → IsResting computed
   computed_rests may resting = ∥∥₁_map resting (λ r. (r.0, r.1, rests_computed r.0 r.1 (may r.0 r.1 r.2) r.2))
 
 -- it sets a word of an owned block, or begins a task
 pub word_rests : (w : WorldNow) (seat place word value : ℕ) → seat < length w.seats → MaySetWord (seat_of w seat) place word value → IsResting w → IsResting (set_seat w seat (state_after_work (seat_of w seat) (SetsWord place word value)))
-word_rests w seat place word value inside may resting = computed_rests w seat (SetsWord place word value) refl inside (λ o c rests. may) resting
+word_rests w seat place word value inside may resting = computed_rests w seat (SetsWord place word value) inside (λ o c rests. may) resting
 
 pub begun_rests : (w : WorldNow) (seat : ℕ) (task : Task) (bytes : List ℕ) → seat < length w.seats → MayBeginAt w seat task bytes → IsResting w → IsResting (set_seat w seat (state_after_work (seat_of w seat) (Begins task bytes)))
-begun_rests w seat task bytes inside may resting = computed_rests w seat (Begins task bytes) refl inside
+begun_rests w seat task bytes inside may resting = computed_rests w seat (Begins task bytes) inside
     (λ o c rests. (let v = view_of c.views seat in
     let g = ghost_begun v.ghost v.seat (seat_of w seat) (number_next v (seat_of w seat)) in
     let known = known_at_rest w o c seat inside rests in
@@ -161,7 +163,7 @@ rests_room w room resting = ∥∥₁_map resting (λ r. (
   r.1,
   record {
     stands = (let s = r.2.stands in record { start = s.start; geometry = s.geometry; seats = s.seats; reached = s.reached; memory = s.memory; position = s.position; synced = s.synced });
-    seats = λ seat inside. (let at = r.2.seats seat inside in record { made = at.made; computed = at.computed });
+    seats = λ seat inside. (let at = r.2.seats seat inside in record { made = at.made; holds = at.holds });
   },
 ))
 
@@ -173,7 +175,7 @@ new_rests geometry words taken generation position size seats small some few kep
     origin : KeepsStart geometry words taken generation position size → Origin
     origin k = origin_of geometry seats seats words taken k.chain k.file
 
-    rests : (k : KeepsStart geometry words taken generation position size) → RestsIn (new_world geometry words taken position seats) (origin k) (first_core (origin k))
+    rests : (k : KeepsStart geometry words taken generation position size) → EachIn Rests (new_world geometry words taken position seats) (origin k) (first_core (origin k))
     rests k = (let st = new_stands_by geometry words taken generation position size seats small some few k in
         let same = same_position geometry words taken generation position size seats seats k in record {
           stands = st;
@@ -182,7 +184,7 @@ new_rests geometry words taken generation position size seats small some few kep
               get_or-map-range_with_len (λ (n : ℕ). new_view geometry seats (first_position (origin k)) (made_by seats n) n) 0 seats seat seat spent_view inside (omega arith) in
               record {
                 made = (let e = length-map-range_with_len (λ (n : ℕ). new_view geometry seats (first_position (origin k)) (made_by seats n) n) 0 seats in omega (arith, e, inside));
-                computed = left_computed (view_of (first_views (origin k)) seat) (seat_of (new_world geometry words taken position seats) seat) (subst (λ (v : View). v.parts ≢ []) (sym view_is) (λ none. cc))
+                holds = left_computed (view_of (first_views (origin k)) seat) (seat_of (new_world geometry words taken position seats) seat) (subst (λ (v : View). v.parts ≢ []) (sym view_is) (λ none. cc))
                     (get_or-map-range_with_len (λ (n : ℕ). new_seat geometry n seats position) 0 seats seat seat (new_seat no_geometry 0 0 0) inside (omega arith)
                     ∙ (ap (λ (p : ℕ). new_seat geometry seat seats p) (sym same) ∙ ap (λ (v : View). v.seat) (sym view_is)));
               });

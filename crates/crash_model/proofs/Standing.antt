@@ -134,7 +134,7 @@ module _ (w : WorldNow) (seat : ℕ) (ask : Ask) (o : Origin) (c : Core) (note :
   takes_one = subst (λ (m : Memory). MemoryTakes m ask) fits.stands.memory (takes_asked o c seat ask note inv fits.step)
 
   made_one : seat < length w.seats
-  made_one = (let made = fits.step.fits.made in let few = inv.sizes.few in let many = fits.stands.seats in omega (arith, made, few, many))
+  made_one = (let made = fits.step.made in let few = inv.sizes.few in let many = fits.stands.seats in omega (arith, made, few, many))
 
   stands_one : (p : Origin) × (d : Core) × StandsForCore (world_after w seat ask) p d
   stands_one = (o, after o c (Does seat ask note), stands_after)

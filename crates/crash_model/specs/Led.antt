@@ -1,6 +1,5 @@
--- A machine at a seat of a world that leads to its end within a core; and seats at rest.
-use Rattle.std.specs.Prelude.{ℕ, ◌<◌, ◌+◌, ◌≡◌, ◌≢◌, true, false, length, List, [], Some, None}
-use Rattle.std.specs.List.{list_all}
+-- Seats of a world: at rest, or each in the middle of a machine that leads to its end within a core.
+use Rattle.std.specs.Prelude.{ℕ, ◌<◌, ◌+◌, ◌≡◌, ◌≢◌, false, length, List, [], Some, None}
 use Rattle.log_entry.specs.declared.calls.Op.{Op}
 use Rattle.log_entry.specs.declared.calls.Call.{Call}
 use Rattle.pmem_words.specs.declared.keeps.Task.{Task}
@@ -12,50 +11,62 @@ use Rattle.log_core.specs.Views.{View, view_of, op_in, op_of}
 use Rattle.log_core.specs.Origin.{Origin}
 use Rattle.log_core.specs.Cores.{Core}
 use Rattle.log_core.specs.Works.{Computes, laid_bytes, is_quiet}
-use Rattle.log_core.specs.Runs.{is_offered_work}
 use Rattle.log_core.specs.Within.{within}
 use Rattle.crash_model.specs.Worlds.{WorldNow, StandsForCore, seat_of}
 
--- a view that is not spent is computed on to this state, by computations that are offered
+-- a view that is not spent is computed on to this state
 pub record IsComputed (v : View) (s : Seat) : Type 0 where
   pub unspent : v.parts ≢ []
   pub begins : Computes v.ghost v.seat s
-  pub offered : list_all is_offered_work begins.works ≡ true
 
--- a seat is at rest in a core: it is made and not spent, and its state is what it has computed since its last step
-pub record IsAtRest (w : WorldNow) (c : Core) (seat : ℕ) : Type 0 where
-  pub made : seat < length c.views
-  pub computed : IsComputed (view_of c.views seat) (seat_of w seat)
+-- what holds of a seat, of its state and its view, in a run from a start
+abbrev pub Held : Type 1
+Held = Origin → ℕ → Seat → View → Type 0
 
--- in some core state that the world stands for, the machine leads from the seat's state and view to its end, and each other seat is
--- at rest. The number is the seat's present call's
-pub record LeadsIn {M Out : Type 0} (seat : ℕ) (script : Script M Out) (rec : Out → Seat → List Call) (Q : Out → Seat → View → Type 0) (m : M) (w : WorldNow) (o : Origin) (c : Core) : Type 0 where
-  pub stands : StandsForCore w o c
-  pub made : seat < length c.views
+-- a seat is at rest: its state is what it has computed since its last step
+abbrev pub Rests : Held
+Rests o seat s v = IsComputed v s
+
+-- it is in the middle of a machine, which leads from there to its end. The number is its present call's
+pub record Runs {M Out : Type 0} (script : Script M Out) (rec : Out → Seat → List Call) (Q : Out → Seat → View → Type 0) (m : M) (o : Origin) (seat : ℕ) (s : Seat) (v : View) : Type 0 where
   pub number : ℕ
-  pub leads : Leads script (within o seat number script rec) Q m (seat_of w seat) (view_of c.views seat)
-  pub others : (other : ℕ) → other ≢ seat → other < length w.seats → IsAtRest w c other
+  pub leads : Leads script (within o seat number script rec) Q m s v
+
+-- its machine has ended so
+abbrev pub Ended : {Out : Type 0} → (Out → Seat → View → Type 0) → Out → Held
+Ended Q out o seat s v = Q out s v
+
+-- a seat is made in a core, and this holds of its state and its view
+pub record IsIn (G : Held) (w : WorldNow) (o : Origin) (c : Core) (seat : ℕ) : Type 0 where
+  pub made : seat < length c.views
+  pub holds : G o seat (seat_of w seat) (view_of c.views seat)
+
+-- in a core that the world stands for G holds of the seat at hand, and F of each other: each may be in the middle of a machine of its own
+pub record AmongIn (F : Held) (seat : ℕ) (G : Held) (w : WorldNow) (o : Origin) (c : Core) : Type 0 where
+  pub stands : StandsForCore w o c
+  pub here : IsIn G w o c seat
+  pub others : (other : ℕ) → other ≢ seat → other < length w.seats → IsIn F w o c other
+
+abbrev pub IsAmong : Held → ℕ → Held → WorldNow → Type 0
+IsAmong F seat G w = ∥ ((o : Origin) × (c : Core) × AmongIn F seat G w o c) ∥₁
+
+-- in a core that the world stands for F holds of each seat
+pub record EachIn (F : Held) (w : WorldNow) (o : Origin) (c : Core) : Type 0 where
+  pub stands : StandsForCore w o c
+  pub seats : (seat : ℕ) → seat < length w.seats → IsIn F w o c seat
+
+abbrev pub IsEach : Held → WorldNow → Type 0
+IsEach F w = ∥ ((o : Origin) × (c : Core) × EachIn F w o c) ∥₁
+
+-- each seat is at rest; or each but one, which is in the middle of a machine, or has ended one so
+abbrev pub IsResting : WorldNow → Type 0
+IsResting w = IsEach Rests w
 
 abbrev pub IsLed : {M Out : Type 0} → ℕ → Script M Out → (Out → Seat → List Call) → (Out → Seat → View → Type 0) → M → WorldNow → Type 0
-IsLed seat script rec Q m w = ∥ ((o : Origin) × (c : Core) × LeadsIn seat script rec Q m w o c) ∥₁
-
--- it has ended so, in some core state that the world stands for
-pub record EndsInWorld {Out : Type 0} (seat : ℕ) (Q : Out → Seat → View → Type 0) (out : Out) (w : WorldNow) (o : Origin) (c : Core) : Type 0 where
-  pub stands : StandsForCore w o c
-  pub made : seat < length c.views
-  pub ends : Q out (seat_of w seat) (view_of c.views seat)
-  pub others : (other : ℕ) → other ≢ seat → other < length w.seats → IsAtRest w c other
+IsLed seat script rec Q m w = IsAmong Rests seat (Runs script rec Q m) w
 
 abbrev pub HasEndedInWorld : {Out : Type 0} → ℕ → (Out → Seat → View → Type 0) → Out → WorldNow → Type 0
-HasEndedInWorld seat Q out w = ∥ ((o : Origin) × (c : Core) × EndsInWorld seat Q out w o c) ∥₁
-
--- in some core state that the world stands for each seat is at rest
-pub record RestsIn (w : WorldNow) (o : Origin) (c : Core) : Type 0 where
-  pub stands : StandsForCore w o c
-  pub seats : (seat : ℕ) → seat < length w.seats → IsAtRest w c seat
-
-abbrev pub IsResting : WorldNow → Type 0
-IsResting w = ∥ ((o : Origin) × (c : Core) × RestsIn w o c) ∥₁
+HasEndedInWorld seat Q out w = IsAmong Rests seat (Ended Q out) w
 
 -- each mark of a seat was followed by a fence of it
 abbrev pub HasNoMarks : WorldNow → ℕ → Type 0

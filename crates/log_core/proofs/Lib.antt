@@ -11,10 +11,10 @@ pub mod FileLimits
 pub mod ChainWords
 pub mod Trails
 pub mod ChainPlaces
-pub mod MapNames
 pub mod SameContents
 pub mod TailEnds
 pub mod LogGrowth
+pub mod SlotPlaces
 pub mod PinnedChains
 pub mod WalkMaps
 pub mod BaseWords

@@ -9,6 +9,7 @@ use Rattle.log_core.specs.Cores.{nth_log, log_at, log_blocks, entries_used}
 use Rattle.log_core.specs.After.{slot_added}
 use Rattle.log_core.proofs.clauses.Growth.{LogLater, LogsGrow}
 
+-- a log block that stays
 pub later_same : (image : Shape) (before after : LogBlock) → after ≡ before → LogLater image before after
 later_same image before after same = record {
   base = ap (λ (l : LogBlock). l.base) same;
@@ -96,12 +97,14 @@ module _ (image : Shape) (logs : List LogBlock) (some : 0 < length logs) (slot :
   abbrev last : LogBlock
   last = nth_log logs (length logs - 1)
 
+  -- the last log block with the slot
   abbrev pub more_used : LogBlock
   more_used = record last { slots = last.slots ++ slot ∷ [] }
 
   abbrev front : List LogBlock
   front = take (length logs - 1) logs
 
+  -- the log blocks then
   pub added_is : slot_added logs slot ≡ front ++ more_used ∷ []
   added_is = ap (λ (l : List LogBlock). slot_added l slot) (front_and_last logs some) ∙ added_last front last slot
 
@@ -114,6 +117,7 @@ module _ (image : Shape) (logs : List LogBlock) (some : 0 < length logs) (slot :
   pub last_added : nth_log (slot_added logs slot) (length logs - 1) ≡ more_used
   last_added = ap (λ (l : List LogBlock). nth_log l (length logs - 1)) added_is ∙ get_or_push front more_used no_log (length logs - 1) front_long
 
+  -- so they grow
   pub one_used : LogLater image last more_used → LogsGrow image logs (slot_added logs slot) []
   one_used later = subst (λ (after : List LogBlock). LogsGrow image logs after []) (sym added_is)
       (subst (λ (before : List LogBlock). LogsGrow image before (front ++ more_used ∷ []) []) (sym (front_and_last logs some)) (last_changes image last more_used later front))

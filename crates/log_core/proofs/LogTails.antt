@@ -48,7 +48,7 @@ entries_short (slot ∷ slots) = go (slot == EMPTY) (slot == SEAL) (entries_shor
     go false true rest = omega arith
     go false false rest = omega (arith, rest)
 
-unsealed : (slots : List ℕ) → length (entry_words slots) ≡ length slots → is_sealed slots ≡ false
+pub unsealed : (slots : List ℕ) → length (entry_words slots) ≡ length slots → is_sealed slots ≡ false
 unsealed [] all = refl
 unsealed (slot ∷ slots) all = go (slot == EMPTY) (slot == SEAL) all (unsealed slots)
   where

@@ -41,6 +41,7 @@ same_form first second image word good same = and_from (form first (is_direct wo
         (and_parts (is_indirect word) (is_in_data image (field INDIRECT_BLOCK word)) both.0).0).0 in
         ap (λ (words : List ℕ). is_indirect word && is_in_data image (field INDIRECT_BLOCK word) && is_indirect_block image words) (same kind) ∙ p)
 
+-- the first of some blocks is among them
 first_listed : (block : ℕ) (blocks : List ℕ) → is_listed (block ∷ blocks) block ≡ true
 first_listed block blocks = ap (λ (b : Bool). b || is_listed blocks block) (eq-eqb block block refl)
 
@@ -52,11 +53,13 @@ module _ (image : Shape) (content other : ℕ → List ℕ) where
   same_rest : (block : ℕ) (blocks : List ℕ) → SameIn (block ∷ blocks) → SameIn blocks
   same_rest block blocks same later listed = same later (has_right (block ∷ []) blocks later listed)
 
+  -- the entries of snapshot blocks
   pub same_meanings : (blocks : List ℕ) → SameIn blocks → snapshot_meanings other blocks ≡ snapshot_meanings content blocks
   same_meanings [] same = refl
   same_meanings (block ∷ blocks) same = ap (λ (words : List ℕ). map direct_meaning (take (entry_count words) (slots_of words)) ++ snapshot_meanings other blocks) (same block (first_listed block blocks))
       ∙ ap (λ (l : List Meaning). map direct_meaning (take (entry_count (content block)) (slots_of (content block))) ++ l) (same_meanings blocks (same_rest block blocks same))
 
+  -- their words
   pub same_snapshot_blocks : (base size : ℕ) (blocks : List ℕ) (following : ℕ) → SameIn blocks → AreSnapshotBlocks image content base size blocks following → AreSnapshotBlocks image other base size blocks following
   same_snapshot_blocks base size [] following same are = tt
   same_snapshot_blocks base size (block ∷ blocks) following same are = (let is = same block (first_listed block blocks) in (
@@ -67,6 +70,7 @@ module _ (image : Shape) (content other : ℕ → List ℕ) where
     same_snapshot_blocks base size blocks following (same_rest block blocks same) are.4,
   ))
 
+  -- and a snapshot of them
   pub same_snapshot : (base size : ℕ) (blocks : List ℕ) (following next : ℕ) (held later : ℕ → Option ℕ) → SameIn blocks → next ≡ following → ((virt : ℕ) → later virt ≡ held virt) →
       IsSnapshot image content base size blocks following held → IsSnapshot image other base size blocks next later
   same_snapshot base size blocks following next held later same next_is later_is r = record {

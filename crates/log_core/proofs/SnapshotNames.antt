@@ -14,10 +14,10 @@ use Rattle.log_image.proofs.NameLemmas.{different_join, range_different}
 use Rattle.log_core.specs.Works.{word_or_zero}
 use Rattle.log_core.specs.After.{snapshot_meanings}
 use Rattle.log_core.specs.May.{names_virt, AreApart}
-use Rattle.log_core.proofs.ChainWords.{in_one_part, front_different}
+use Rattle.log_core.proofs.ChainWords.{in_one_part, front_different, back_different}
 use Rattle.log_core.proofs.MappedBlocks.{at_in, given_name, mapped_name, one_of}
 use Rattle.log_core.proofs.clauses.Apart.{either_of}
-use Rattle.log_core.proofs.clauses.GrownNames.{never, back_different}
+use Rattle.log_core.proofs.clauses.GrownNames.{never}
 
 -- an entry that names its blocks alone, each once
 pub record IsPlain (meaning : Meaning) : Type 0 where

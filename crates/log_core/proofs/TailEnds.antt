@@ -25,6 +25,7 @@ use Rattle.log_core.proofs.clauses.Growth.{last_log}
 
 -- a walk stands in the last log block, at the end
 pub record IsLastTail (o : Origin) (c : Core) (w : Walk) : Type 0 where
+  -- the place of the pinned generation
   pub at : log_at c.logs w.tail_base ≡ last_log c
   pub block : (last_log c).block ≡ w.tail_block
   pub base : (last_log c).base ≡ w.tail_base
@@ -38,12 +39,14 @@ module _ (o : Origin) (c : Core) (n : ℕ) (s : Seat) (g : Ghost) (pin began : �
   w : WalkHolds (around o c) s.hold s.walk
   w = f.walk unspent
 
+  -- the seat has the shape of the image
   pub same_shape : seat_shape s ≡ shape o
   same_shape = ap shape_by (f.fits unspent).geometry
 
   pub same_words : words_of s ≡ words_in (shape o)
   same_words = ap Rattle.pmem_words.specs.Seats.q_of (f.fits unspent).geometry
 
+  -- the view has walked, and its tail is in the log
   pub walked : HasWalked o (entries o c.history) c.logs s.walk
   walked = w.walked (w.ready_walked ready).0 (w.ready_walked ready).1
 
@@ -101,6 +104,7 @@ module _ (o : Origin) (c : Core) (n : ℕ) (s : Seat) (g : Ghost) (pin began : �
         ∙ (ap (λ (image : Shape). slice_index c.memory.now.words (place_in image s.walk.tail_block s.walk.tail_slot)) (sym same_shape) ∙ empty)) in
         first_empty o c inv at number (kept o c n s g pin began inv f valid) tail.late tail.inside slot (omega (arith, upto, from, other)) (omega (arith, few, used)) none)
 
+    -- an empty slot at the tail: the view is at the end
     pub slot_last : IsLastTail o c s.walk
     slot_last = record {
       at = last_at found.0;
@@ -114,6 +118,7 @@ module _ (o : Origin) (c : Core) (n : ℕ) (s : Seat) (g : Ghost) (pin began : �
           omega (arith, ends, used, position, base));
     }
 
+    -- of the last log block, each used slot is an entry before it
     pub last_long : length (last_log c).slots ≡ slot
     last_long = ap (λ (l : LogBlock). length l.slots) (last_is found.0) ∙ found.1
 
@@ -126,6 +131,7 @@ module _ (o : Origin) (c : Core) (n : ℕ) (s : Seat) (g : Ghost) (pin began : �
         (ap (λ (b : ℕ). slice_index c.memory.now.words (place_in (shape o) b 0)) tail.block_is
         ∙ (ap (λ (image : Shape). slice_index c.memory.now.words (place_in image s.walk.tail_block 0)) (sym same_shape) ∙ empty))
 
+    -- a link 0 at the tail's end: the view is at the end
     pub link_last : IsLastTail o c s.walk
     link_last = record {
       at = last_at found_link;
@@ -139,6 +145,7 @@ module _ (o : Origin) (c : Core) (n : ℕ) (s : Seat) (g : Ghost) (pin began : �
           omega (arith, ends, used, position, base));
     }
 
+    -- of the last log block, which is full
     pub last_full : is_full (shape o) (last_log c).slots ≡ true
     last_full = subst (λ (l : LogBlock). is_full (shape o) l.slots ≡ true) (last_at found_link) (walked.at_end (closed ∙ same_words)).0
 

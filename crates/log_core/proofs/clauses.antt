@@ -45,3 +45,5 @@ pub mod GrowCore
 pub mod HeadOthers
 pub mod GrownKnows
 pub mod GrowingWords
+pub mod SlotAdded
+pub mod WriteAdded

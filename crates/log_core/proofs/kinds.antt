@@ -44,8 +44,15 @@ pub mod LosesHead
 pub mod ExchangesHead
 pub mod HeadHolds
 pub mod StepHolds
+pub mod FenceHolds
+pub mod LinkGrows
 pub mod ExchangesLink
 pub mod LosesExchange
 pub mod LinkHolds
+pub mod SealsSlot
+pub mod CommitsFile
+pub mod CommitsEntry
+pub mod CommitsSeat
+pub mod SlotHolds
 pub mod ExchangeHolds
 pub mod RunHolds

@@ -22,8 +22,10 @@ pub mod RowsOwners
 pub mod RowsRun
 pub mod RowsLate
 pub mod RowsTurns
-pub mod RowsOffered
+pub mod RowsAllowed
 pub mod RowsStart
 pub mod RowsReached
+pub mod RowsWritten
+pub mod RowsLinked
 pub mod RowsEnded
 pub mod RowsJoined

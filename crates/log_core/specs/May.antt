@@ -235,20 +235,3 @@ May o c g s (ExchangesHead before next) = MayExchangeHead o c g s before next
 May o c g s (MarksWord word) = MayMark (walked_trail o c s) g s word
 May o c g s Fences = MayFence (walked_trail o c s) g s
 May o c g s NoKind = ⊥
-
--- the kinds that are proved to keep the invariant, by the state at the ask; no other is a step yet
-abbrev pub IsOfferedKind : Seat → Kind → Type 0
-IsOfferedKind s LoadsHead = Unit {0}
-IsOfferedKind s (LoadsImageWord word) = Unit {0}
-IsOfferedKind s (StoresOwnPin value) = Unit {0}
-IsOfferedKind s (LoadsPinWord other) = Unit {0}
-IsOfferedKind s (LoadsBitmapWord word) = Unit {0}
-IsOfferedKind s (SetsBits word bits) = Unit {0}
-IsOfferedKind s (ClearsBits word bits) = Unit {0}
-IsOfferedKind s (StoresWord word value) = Unit {0}
-IsOfferedKind s (MarksWord word) = Unit {0}
-IsOfferedKind s Fences = Unit {0}
-IsOfferedKind s (ExchangesSlot word entry) = ⊥
-IsOfferedKind s (ExchangesLink word block) = Unit {0}
-IsOfferedKind s (ExchangesHead before next) = Unit {0}
-IsOfferedKind s NoKind = ⊥

@@ -1,16 +1,15 @@
 -- Which steps are allowed, and runs. The newest step of a run stands first.
 use Rattle.std.specs.Prelude.{ℕ, ◌<◌, ◌≡◌, ◌≢◌, Bool, true, false, List, [], ◌∷◌, length, None}
-use Rattle.std.specs.List.{list_all}
 use Rattle.pmem_words.specs.Seats.{Seat}
 use Rattle.asks.specs.declared.ask.Ask.{Ask}
 use Rattle.persistence.specs.Memory.{found_answer}
 use Rattle.log_core.specs.Views.{View, Ghost, view_of, op_in}
 use Rattle.log_core.specs.Origin.{Origin, q_of_origin}
 use Rattle.log_core.specs.Cores.{Core, first_core}
-use Rattle.log_core.specs.Works.{Work, Begins, KeepsTable, StartsFromLog, StartsFromSnapshot, ReadsRun, NextSnapshot, EndsReading, Forgets, SetsWord, CountsFilled, OpensBase, AddsBaseWord, DropsBases, Lays, NotesNamed, NotesHeld, KeepsReplaced, TakesEntry, TakesSeal, Follows, Computes}
+use Rattle.log_core.specs.Works.{Computes}
 use Rattle.log_core.specs.Steps.{Note, Step, Does, Splits, Joins, Kind, kind_of_ask, effect, is_begun, ghost_begun, ghost_after}
 use Rattle.log_core.specs.After.{after}
-use Rattle.log_core.specs.May.{May, IsOfferedKind}
+use Rattle.log_core.specs.May.{May}
 use Rattle.log_core.specs.Answers.{Enters}
 
 -- a call that begins has a greater number than the one before it; else the number stays
@@ -72,51 +71,11 @@ pub record MayJoin (c : Core) (seat other : ℕ) : Type 0 where
   pub idle : IsIdle (view_of c.views seat)
   pub idle_too : IsIdle (view_of c.views other)
 
--- a step whose condition holds, of whatever kind
-abbrev pub MayMakeStep : Origin → Core → Step → Type 0
-MayMakeStep o c (Does seat ask note) = MayDo o c seat ask note
-MayMakeStep o c (Splits seat) = MaySplit o c seat
-MayMakeStep o c (Joins seat other) = MayJoin c seat other
-
--- what a call may compute, before a step and after one: each computation
-abbrev pub is_offered_work : Work → Bool
-is_offered_work (Begins task bytes) = true
-is_offered_work Forgets = true
-is_offered_work KeepsTable = true
-is_offered_work StartsFromLog = true
-is_offered_work StartsFromSnapshot = true
-is_offered_work ReadsRun = true
-is_offered_work NextSnapshot = true
-is_offered_work EndsReading = true
-is_offered_work (SetsWord place word value) = true
-is_offered_work (CountsFilled place) = true
-is_offered_work (OpensBase virt) = true
-is_offered_work AddsBaseWord = true
-is_offered_work DropsBases = true
-is_offered_work (Lays bytes) = true
-is_offered_work (NotesNamed words) = true
-is_offered_work (NotesHeld held) = true
-is_offered_work TakesEntry = true
-is_offered_work KeepsReplaced = true
-is_offered_work TakesSeal = true
-is_offered_work Follows = true
-
--- a step of an offered kind, with offered computations
-pub record DoesOffered (o : Origin) (c : Core) (seat : ℕ) (ask : Ask) (note : Note) (fits : MayDo o c seat ask note) : Type 0 where
-  pub kind : IsOfferedKind note.before (kind_of_ask (q_of_origin o) seat ask)
-  pub before : list_all is_offered_work fits.step.begins.works ≡ true
-  pub later : list_all is_offered_work fits.step.enters.computed.works ≡ true
-
--- the steps that are proved to keep the invariant; no other is allowed yet
-abbrev pub IsOffered : (o : Origin) (c : Core) (step : Step) → MayMakeStep o c step → Type 0
-IsOffered o c (Does seat ask note) fits = DoesOffered o c seat ask note fits
-IsOffered o c (Splits seat) fits = Unit {0}
-IsOffered o c (Joins seat other) fits = Unit {0}
-
--- the steps that seats make
-pub record Allowed (o : Origin) (c : Core) (step : Step) : Type 0 where
-  pub fits : MayMakeStep o c step
-  pub offered : IsOffered o c step fits
+-- the steps that seats make: those whose condition holds
+abbrev pub Allowed : Origin → Core → Step → Type 0
+Allowed o c (Does seat ask note) = MayDo o c seat ask note
+Allowed o c (Splits seat) = MaySplit o c seat
+Allowed o c (Joins seat other) = MayJoin c seat other
 
 -- the core after a list of steps
 abbrev pub end : Origin → List Step → Core

@@ -1,6 +1,5 @@
 -- A machine within a core, at one seat, whatever other seats do between its steps; and what it owes there.
-use Rattle.std.specs.Prelude.{ℕ, ◌<◌, ◌≤◌, ◌≡◌, ◌≢◌, true, List, [], length, slice_index}
-use Rattle.std.specs.List.{list_all}
+use Rattle.std.specs.Prelude.{ℕ, ◌<◌, ◌≤◌, ◌≡◌, ◌≢◌, List, [], length, slice_index}
 use Rattle.log_entry.specs.declared.calls.Call.{Call}
 use Rattle.pmem_words.specs.Seats.{Seat}
 use Rattle.pmem_words.specs.Scripts.{Script}
@@ -16,9 +15,9 @@ use Rattle.log_core.specs.Origin.{Origin, q_of_origin}
 use Rattle.log_core.specs.Cores.{Core}
 use Rattle.log_core.specs.Works.{Computes}
 use Rattle.log_core.specs.Steps.{Note, Does, kind_of_ask, effect, is_begun, ghost_begun, ghost_after, view_after}
-use Rattle.log_core.specs.May.{May, IsOfferedKind}
+use Rattle.log_core.specs.May.{May}
 use Rattle.log_core.specs.Answers.{Enters}
-use Rattle.log_core.specs.Runs.{MayNumber, Allowed, IsReached, is_offered_work}
+use Rattle.log_core.specs.Runs.{MayNumber, Allowed, IsReached}
 use Rattle.log_core.specs.Invariant.{Invariant}
 use Rattle.log_core.specs.Knows.{Knows}
 
@@ -68,11 +67,6 @@ seat_found o seat ask s g f = effect g.marks s (kind_of_ask (q_of_origin o) seat
 abbrev pub ghost_found : Origin → ℕ → Ask → Seat → Ghost → ℕ → Ghost
 ghost_found o seat ask s g f = ghost_after g s (seat_found o seat ask s g f) (kind_of_ask (q_of_origin o) seat ask) f
 
--- what enters after a step, by computations that are offered
-pub record EntersOffered (g : Ghost) (e t : Seat) (adds : List Call) : Type 0 where
-  pub enters : Enters g e t adds
-  pub offered : list_all is_offered_work enters.computed.works ≡ true
-
 -- this may be found: it is the answer to the ask in some core in which the seat is not spent, and that knows it so
 pub record IsFound (o : Origin) (seat : ℕ) (s : Seat) (g : Ghost) (ask : Ask) (f : ℕ) : Type 0 where
   pub core : Core
@@ -89,10 +83,9 @@ pub record IsFound (o : Origin) (seat : ℕ) (s : Seat) (g : Ghost) (ask : Ask) 
 pub record Lawful {M Out : Type 0} (o : Origin) (seat : ℕ) (script : Script M Out) (rec : Out → Seat → List Call)
     (P : M → Seat → Ghost → Type 0) (R : Out → Seat → Ghost → Type 0) (m : M) (s : Seat) (g : Ghost) : Type 0 where
   pub may : (c : Core) (pin began : ℕ) → Invariant o c → (view_of c.views seat).parts ≢ [] → Knows o c seat s g pin began → May o c g s (kind_of_ask (q_of_origin o) seat (script.asks m s))
-  pub offered : IsOfferedKind s (kind_of_ask (q_of_origin o) seat (script.asks m s))
   pub admitted : (c : Core) (pin began : ℕ) → Invariant o c → (view_of c.views seat).parts ≢ [] → Knows o c seat s g pin began → script.admits m s (found_answer c.memory (script.asks m s))
   pub enters : (f : ℕ) → IsFound o seat s g (script.asks m s) f → script.admits m s f →
-      EntersOffered (ghost_found o seat (script.asks m s) s g f) (seat_found o seat (script.asks m s) s g f) (script.after m s f).seat (adds_at rec (script.after m s f).seat (script.after m s f).turn)
+      Enters (ghost_found o seat (script.asks m s) s g f) (seat_found o seat (script.asks m s) s g f) (script.after m s f).seat (adds_at rec (script.after m s f).seat (script.after m s f).turn)
   pub none_added : (f : ℕ) → IsFound o seat s g (script.asks m s) f → script.admits m s f → adds_at rec (script.after m s f).seat (script.after m s f).turn ≡ []
   pub goes : (f : ℕ) → IsFound o seat s g (script.asks m s) f → script.admits m s f → (script.after m s f).turn ≡ Go →
       P (script.after m s f).machine (script.after m s f).seat (ghost_found o seat (script.asks m s) s g f)
@@ -107,7 +100,6 @@ Serves {M} {Out} o seat script rec P R = (m : M) (s : Seat) (g : Ghost) → P m 
 pub record IsLinkedToView (number : ℕ) (rest : List Call) (P : Seat → Ghost → Type 0) (s : Seat) (v : View) : Type 0 where
   pub unspent : v.parts ≢ []
   pub begins : Computes v.ghost v.seat s
-  pub offered : list_all is_offered_work begins.works ≡ true
   pub number_is : MayNumber (is_begun (op_in v.seat) (op_in s)) v.ghost.call.number number
   pub done : v.done ≡ rest
   pub fits : P s (ghost_begun v.ghost v.seat s number)
@@ -121,8 +113,8 @@ pub record IsLeft {Out : Type 0} (rest : List Call) (rec : Out → Seat → List
 
 -- where a part of a machine has ended: the whole computes and goes into its next part, or ends with its record
 abbrev pub FitsNext : {C Out : Type 0} → (Out → Seat → List Call) → (C → Seat → Ghost → Type 0) → (Out → Seat → Ghost → Type 0) → Seat → Ghost → Next C Out → Type 0
-FitsNext rec P R t g (Into m s) = EntersOffered g t s [] × P m s g
-FitsNext rec P R t g (End out s) = EntersOffered g t s (rec out s) × (rec out s ≡ []) × R out s g
+FitsNext rec P R t g (Into m s) = Enters g t s [] × P m s g
+FitsNext rec P R t g (End out s) = Enters g t s (rec out s) × (rec out s ≡ []) × R out s g
 
 -- a memory of one caller has the words of a core's: the pin words of the seats that there are, and perhaps more
 pub record Agrees (p : SharedWords) (memory : Memory) : Type 0 where

@@ -5,7 +5,8 @@ pub mod Refused
 pub mod Gaps
 pub mod CallGaps
 pub mod CoreGaps
-pub mod Offered
+pub mod AllowedSteps
+pub mod Written
 pub mod Ended
 pub mod Accepted
 pub mod Joined

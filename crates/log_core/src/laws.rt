@@ -8,10 +8,9 @@ pub fn law_start()
     ensures { StartMeets }
 {}
 
-/// Each step that is allowed keeps the invariant, so it holds after every run, by any seats in any order: of loads of the head, stores of
-/// the own pin word and loads of pin words; of loads of bitmap words, settings of bits and clearings of bits of owned and of replaced
-/// blocks; and of stores into owned blocks, marks of their words and fences outside of syncs; each with what its call computes around it,
-/// and with the record of a call that it ends.
+/// Each step that is allowed keeps the invariant, so it holds after every run, by any seats in any order. A step of a seat is of any kind,
+/// with what its call computes before and after it, and with the record of a call that it ends; and seat 0 may be split, and two seats
+/// joined.
 pub fn law_step()
     ensures each_step { StepKeeps }
     ensures every_run { RunKeeps }

@@ -14,10 +14,11 @@ use Rattle.log_core.specs.Views.{Ghost}
 use Rattle.log_core.specs.Origin.{Origin, q_of_origin}
 use Rattle.log_core.specs.Cores.{Core}
 use Rattle.log_core.specs.Steps.{Kind, LoadsHead, StoresOwnPin, NoKind, effect, ghost_after, kind_of_ask}
-use Rattle.log_core.specs.May.{May, MayStoreOwnPin, IsOfferedKind}
+use Rattle.log_core.specs.May.{May, MayStoreOwnPin}
 use Rattle.log_core.specs.Invariant.{Invariant}
 use Rattle.log_core.specs.Knows.{Knows}
-use Rattle.log_core.specs.Within.{no_record, EntersOffered, IsFound, Lawful, Serves}
+use Rattle.log_core.specs.Answers.{Enters}
+use Rattle.log_core.specs.Within.{no_record, IsFound, Lawful, Serves}
 use Rattle.log_core.proofs.Heads.{head_generation, was_low}
 use Rattle.log_core.proofs.machines.Entering.{none_at, enters_same, enters_turn}
 use Rattle.log_core.proofs.machines.Framing.{serves_as}
@@ -111,8 +112,8 @@ module _ (o : Origin) (seat : ℕ) where
   store_kind : (s : Seat) (value : ℕ) → s.number ≡ seat → (if s.number == seat then StoresOwnPin value else NoKind) ≡ StoresOwnPin value
   store_kind s value number = ap (λ (b : Bool). if b then StoresOwnPin value else NoKind) (eq-eqb s.number seat number)
 
-  stored_enters : (s : Seat) (g : Ghost) (value : ℕ) (kind : Kind) → kind ≡ StoresOwnPin value → (f : ℕ) → EntersOffered (ghost_after g s (effect g.marks s kind f) kind f) (effect g.marks s kind f) (pin_stored s value) []
-  stored_enters s g value kind e f = subst (λ (k : Kind). EntersOffered (ghost_after g s (effect g.marks s k f) k f) (effect g.marks s k f) (pin_stored s value) []) (sym e)
+  stored_enters : (s : Seat) (g : Ghost) (value : ℕ) (kind : Kind) → kind ≡ StoresOwnPin value → (f : ℕ) → Enters (ghost_after g s (effect g.marks s kind f) kind f) (effect g.marks s kind f) (pin_stored s value) []
+  stored_enters s g value kind e f = subst (λ (k : Kind). Enters (ghost_after g s (effect g.marks s k f) k f) (effect g.marks s k f) (pin_stored s value) []) (sym e)
       (enters_same g (pin_stored s value) (pin_stored s value) refl)
 
   ghost_stored : (s : Seat) (g : Ghost) (value : ℕ) (kind : Kind) → kind ≡ StoresOwnPin value → (f : ℕ) → ghost_after g s (effect g.marks s kind f) kind f ≡ g
@@ -145,7 +146,6 @@ module _ (o : Origin) (seat : ℕ) where
     begin_lawful : (s : Seat) (g : Ghost) → IsUnmoved s0 g0 s g → Lawful o seat pin_script no_record PinStands (HasPinned o seat s0 g0) Begin s g
     begin_lawful s g from = record {
       may = λ c pin began inv unspent knows. tt;
-      offered = tt;
       admitted = λ c pin began inv unspent knows. tt;
       enters = λ f found admits. enters_same g (effect g.marks s LoadsHead f) (head_found s f) (loaded s g f);
       none_added = λ f found admits. refl;
@@ -159,7 +159,6 @@ module _ (o : Origin) (seat : ℕ) where
     publish_lawful : MayPin o seat s0 g0 → (s : Seat) (g : Ghost) → IsPinning s g → Lawful o seat pin_script no_record PinStands (HasPinned o seat s0 g0) Publish s g
     publish_lawful may s g at = record {
       may = λ c pin began inv unspent knows. subst (λ (k : Kind). May o c g s k) (sym is) (store_may s g here);
-      offered = subst (λ (k : Kind). IsOfferedKind s k) (sym is) tt;
       admitted = λ c pin began inv unspent knows. tt;
       enters = λ f found admits. stored_enters s g (generation_in s.hold.head) (kind_of_ask (q_of_origin o) seat (pin_script.asks Publish s)) is f;
       none_added = λ f found admits. refl;
@@ -199,7 +198,6 @@ module _ (o : Origin) (seat : ℕ) where
     confirm_lawful : (s : Seat) (g : Ghost) → IsConfirming s g → Lawful o seat pin_script no_record PinStands (HasPinned o seat s0 g0) Confirm s g
     confirm_lawful s g at = record {
       may = λ c pin began inv unspent knows. tt;
-      offered = tt;
       admitted = λ c pin began inv unspent knows. not_before (s.hold.head == 0) c pin began s g refl at.stored inv knows;
       enters = λ f found admits. enters_turn g (effect g.marks s LoadsHead f) (head_found s f) (confirm_turn (s.hold.pin == generation_in f) f) (loaded s g f);
       none_added = λ f found admits. none_at (head_found s f) (confirm_turn (s.hold.pin == generation_in f) f);
@@ -219,7 +217,7 @@ module _ (o : Origin) (seat : ℕ) where
     unpin_serves may = serves_as o seat unpin_script no_record (λ m s g. IsUnmoved s0 g0 s g) Stepped (HasUnpinned o seat s0 g0) (λ out t h stepped. record { left = stepped.left; ghost = stepped.ghost })
         (serves_once o seat unpin_script no_record Stepped s0 g0
         (λ m. one_step o seat unpin_script (λ m s g. IsUnmoved s0 g0 s g) m s0 g0 (StoresOwnPin 0) (λ f. tt) (store_kind s0 0 may.number) (λ f. refl)
-        (λ c pin began inv unspent knows. record { value_is = inl refl; no_marks = may.no_marks }) tt (λ c pin began inv unspent knows. tt)))
+        (λ c pin began inv unspent knows. record { value_is = inl refl; no_marks = may.no_marks }) (λ c pin began inv unspent knows. tt)))
 
 abbrev pub pin_law : Law pin_script Begin
 pin_law = record {

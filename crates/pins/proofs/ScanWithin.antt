@@ -106,7 +106,6 @@ module _ (o : Origin) (seat generation : ℕ) (s0 : Seat) (g0 : Ghost) where
         in_order = in_order (m.next == 0) refl;
         inside = (let l = stands.left in let e = seats_are m s g stands 0 in omega (arith, l, e));
       };
-      offered = tt;
       admitted = λ c pin began inv unspent knows. record { left = stands.left; few = subst (λ (n : ℕ). n ≤ SEATS) (sym (ap (λ (t : Seat). t.seats) stands.others)) may.few; seen = stands.seen };
       enters = λ f found admits. enters_turn g (pin_found s m.next f) (pin_found s m.next f) (scan_turn (needs m.generation f) m s f) refl;
       none_added = λ f found admits. none_at (pin_found s m.next f) (scan_turn (needs m.generation f) m s f);

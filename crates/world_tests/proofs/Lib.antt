@@ -1,4 +1,5 @@
 pub mod PinLemmas
+pub mod PairLemmas
 pub mod BlockLemmas
 pub mod Takes
 pub mod Fills

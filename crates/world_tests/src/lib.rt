@@ -4,6 +4,7 @@
 #[cfg(test)]
 mod block_tests;
 pub mod block_turns;
+pub mod pair_turns;
 #[cfg(test)]
 mod pin_tests;
 pub mod pin_turns;

@@ -5,6 +5,7 @@ ghost use Rattle.crash_model.specs.Worlds.{seat_of};
 ghost use Rattle.crash_model.specs.Led.{IsResting};
 ghost use Rattle.world_tests.specs.PinSeats.{MayTurn, MayLook};
 
+use crate::pair_turns::pin_and_scan;
 use crate::pin_turns::{pin_in, scan_in, unpin_in};
 use crash_model::{Choice, World};
 use image_tools::mkfs;
@@ -58,5 +59,21 @@ fn a_pin_is_found_by_another_seat(rt: HostRuntime) -> Result<(), Fail> {
         assert_eq!(rt; left[25], 4_611_686_018_427_387_904);
         assert_eq!(rt; left.iter().filter(|word| **word != 0).count(), 5);
     }
+    Ok(())
+}
+
+#[test]
+fn a_pin_is_taken_while_another_seat_scans(rt: HostRuntime) -> Result<(), Fail> {
+    let Ok(geometry) = Geometry::new(2, 1, 64) else {
+        return Ok(());
+    };
+    let mut world = two_seats(rt.alloc(), geometry)?;
+    let (head, found) = pin_and_scan(&mut world)?;
+    let first = Head {
+        generation: 1,
+        block: 3,
+    };
+    assert_eq!(rt; head, first);
+    assert_eq!(rt; found, Scanned::Clear);
     Ok(())
 }

@@ -52,6 +52,7 @@ module _ (o : Origin) (m : Memory) (views : ℕ) (fits : MemoryFits o m views) (
   times_stay true found time k early = index_at-grown m.past (record { word = word; value = found } ∷ []) time k early
   times_stay false found time k early = refl
 
+  -- where the word is 0 it grows
   pub exchange_wins : word < length o.words → slice_index m.now.words word ≡ 0 → WordGrows o views m exchanged word value
   exchange_wins inside zero = (let order = steps_keep_order m n (Exchange (Image word) 0 value) (orderly o m views fits) in record {
     fits = record {
@@ -74,6 +75,7 @@ module _ (o : Origin) (m : Memory) (views : ℕ) (fits : MemoryFits o m views) (
     times = λ time k early. times_stay (slice_index m.now.words word == 0) (slice_index m.now.words word) time k early;
   })
 
+  -- and where it is not the memory stays
   pub exchange_lost : (slice_index m.now.words word == 0) ≡ false → exchanged ≡ m
   exchange_lost other =
       ap (λ (b : Bool). record {

@@ -220,6 +220,7 @@ module _ (o : Origin) (c : Core) (x : Growth) (s : Seat) (g : Ghost) (began : Li
         (λ k other. sync_grown o c x inv grows k (view_of c.views k) (pin_kept k) (inv.syncs.views_hold k));
   }
 
+  -- so the invariant holds
   pub grow_core : Invariant o new
   grow_core = record {
     sizes = sizes;

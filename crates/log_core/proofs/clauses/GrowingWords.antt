@@ -6,6 +6,7 @@ use Rattle.persistence.specs.Steps.{with_value}
 use Rattle.log_core.specs.Certain.{IsCertain, IsGrowing}
 use Rattle.log_core.proofs.clauses.OneView.{same_or_other}
 
+-- with one value more
 pub growing_more : (a : Cell) (value : ℕ) → IsGrowing a 0 → IsGrowing (with_value a value) value
 growing_more a value grows = record {
   present = Rattle.std.proofs.Common.refl;

@@ -21,7 +21,7 @@ use Rattle.log_core.specs.May.{is_log_entry_by}
 use Rattle.log_core.specs.Contents.{AreRecorded, EntriesSay, HoldsFileAt, SnapshotHolds, GenerationHolds}
 use Rattle.log_core.specs.Invariant.{Invariant, KeptIn}
 use Rattle.log_core.proofs.ChainWords.{apart}
-use Rattle.log_core.proofs.MapNames.{map_block}
+use Rattle.log_core.proofs.MappedBlocks.{mapped_named}
 use Rattle.log_core.proofs.SameContents.{same_form, same_snapshot, same_meanings, same_byte}
 use Rattle.log_core.proofs.kinds.TakesEntry.{among_names, same_meaning}
 use Rattle.log_core.proofs.clauses.Apart.{has_left, has_right, has_log, either_of, data_is_named}
@@ -38,6 +38,7 @@ module _ (o : Origin) (c : Core) (x : Growth) (inv : Invariant o c) (grows : Gro
   pub map_same : (position virt : ℕ) → position ≤ end_of o c.history → history_map_at o (entries o x.history) position virt ≡ history_map_at o (entries o c.history) position virt
   map_same position virt low = ap (λ (es : List LogEntry). map_of (first_snapshot o ++ meanings es) virt) (front_is position low)
 
+  -- and its size
   pub size_same : (position : ℕ) → position ≤ end_of o c.history → history_size_at o (entries o x.history) position ≡ history_size_at o (entries o c.history) position
   size_same position low = ap (λ (es : List LogEntry). size_after (shape o) (start_size o) (meanings es)) (front_is position low)
 
@@ -143,11 +144,12 @@ module _ (o : Origin) (c : Core) (x : Growth) (inv : Invariant o c) (grows : Gro
         byte_same : (virt at : ℕ) → byte_in recorded (history_map_at o (entries o x.history) position virt) at ≡ byte_in c.recorded (history_map_at o es position virt) at
         byte_same virt at = ap (λ (found : Option ℕ). byte_in recorded found at) (map_same position virt high)
             ∙ same_byte (shape o) c.recorded recorded (history_map_at o es position virt) at
-            (λ block found. data_recorded block (has_right g.snapshots (data_names o es g) block (map_block o c inv place kept position virt block low found)))
+            (λ block found. data_recorded block (has_right g.snapshots (data_names o es g) block (mapped_named o c inv place kept position virt block low found)))
 
         file_same : (virt at : ℕ) → slice_index (file_at o c.history position) (virt * (shape o).block_bytes + at) ≡ slice_index (file_at o x.history position) (virt * (shape o).block_bytes + at)
         file_same virt at = ap (λ (file : List ℕ). slice_index file (virt * (shape o).block_bytes + at)) (sym (grows.history.files position high))
 
+    -- a kept generation holds its map and its files
     pub contents_grown : GenerationHolds o (λ word. cell x.memory word) x.history recorded (λ block. owner_grown c x block) x.logs g
     contents_grown = record {
       taken = λ block named. named_or_joined o c x inv grows place block kept.inside named (λ was. taken_same o c x inv grows block (old.taken block was)) (λ new. inl (joined_owner o c x inv grows block new));

@@ -84,6 +84,7 @@ module _ (o : Origin) (c : Core) (x : Growth) (inv : Invariant o c) (grows : Gro
       pub to : (position : ℕ) → calling.sync_to ≡ Some position → (position ≡ walk.position) × (position ≤ c.synced)
       pub job : calling.job ≡ s.calling.job
 
+    -- what a core knows of the seat then
     pub grown_knows : (walk : Walk) (calling : Calling) (blocks : Blocks) (stored : List Stored) → FitsGrown walk calling blocks stored → slice_index x.memory.now.pins x.n ≡ pin →
         Knows o (grown c x) x.n (seat_grown walk calling blocks) (ghost_grown stored) (slice_index x.memory.now.pins x.n) began
     grown_knows walk calling blocks stored fits same_pin = record {

@@ -1,6 +1,5 @@
 -- What a generation names where a step puts blocks into the chain: those before, and these; and who has each block then.
-use Rattle.std.proofs.Common.{◌≡◌, ◌≢◌, ◌<◌, ◌≤◌, ◌-◌, ◌||◌, ◌==◌, not, if◌then◌else◌, ℕ, Bool, true, false, List, [], ◌∷◌, ◌++◌, length, drop, refl, sym, ◌∙◌, ap, subst, arith, append_assoc}
-use Rattle.std.proofs.lemmas.Bool.{and_parts}
+use Rattle.std.proofs.Common.{◌≡◌, ◌≢◌, ◌<◌, ◌≤◌, ◌-◌, ◌||◌, ◌==◌, if◌then◌else◌, ℕ, Bool, true, false, List, ◌++◌, length, drop, refl, sym, ◌∙◌, ap, subst, arith, append_assoc}
 use Rattle.std.proofs.lemmas.List.Folds.{list_any-append}
 use Rattle.log_image.specs.Image.{is_in_data, is_in_log}
 use Rattle.log_image.specs.Chains.{all_different, is_listed}
@@ -15,11 +14,12 @@ use Rattle.log_core.specs.Owners.{bit_for, BitsFit, ChainOwns, IsListOf, NamesOn
 use Rattle.log_core.specs.Contents.{IsStillTaken}
 use Rattle.log_core.specs.Invariant.{Invariant, KeptIn}
 use Rattle.log_core.proofs.Heads.{current_kept, current_is}
-use Rattle.log_core.proofs.ChainWords.{in_one_part, front_different}
+use Rattle.log_core.proofs.ChainWords.{in_one_part, front_different, back_different}
 use Rattle.log_core.proofs.clauses.Apart.{has_left, has_right, either_of}
 use Rattle.log_core.proofs.clauses.Leaves.{taken_apart}
 use Rattle.log_core.proofs.clauses.Growth.{Growth, Grows, joined, owner_grown, recorded_grown}
 
+-- four tests in another order
 four : (a l b m : Bool) → ((a || l) || (b || m)) ≡ ((a || b) || (l || m))
 four true l b m = refl
 four false true true m = refl
@@ -33,12 +33,6 @@ listed_more a l b m block = list_any-append (λ (other : ℕ). other == block) (
     ∙ (ap (λ (t : Bool). (is_listed a block || is_listed l block) || t) (list_any-append (λ (other : ℕ). other == block) b m)
     ∙ (four (is_listed a block) (is_listed l block) (is_listed b block) (is_listed m block)
     ∙ sym (ap (λ (t : Bool). t || is_listed (l ++ m) block) (list_any-append (λ (other : ℕ). other == block) a b) ∙ ap (λ (t : Bool). (is_listed a block || is_listed b block) || t) (list_any-append (λ (other : ℕ). other == block) l m)))))
-
--- the last part of different numbers are different
-pub back_different : (first second : List ℕ) → all_different (first ++ second) ≡ true → all_different second ≡ true
-back_different [] second different = different
-back_different (number ∷ first) second different =
-    back_different first second (and_parts (not (is_listed (first ++ second) number)) (all_different (first ++ second)) different).1
 
 -- what is never true is false
 pub never : (b : Bool) → (b ≡ true → ⊥) → b ≡ false
@@ -64,6 +58,7 @@ module _ (o : Origin) (c : Core) (x : Growth) (inv : Invariant o c) (grows : Gro
   abbrev gen : ℕ → Generation
   gen place = nth_generation c.generations place
 
+  -- the blocks of its chain, and those of the data area
   pub chain_more : (place : ℕ) → place < length c.generations → chain_names x.logs (gen place) ≡ chain_names c.logs (gen place) ++ x.linked
   chain_more place inside = ap (λ (l : List ℕ). (gen place).snapshots ++ l) (grows.logs.blocks (gen place).cut (inv.order.generations_rise.cut_inside place inside))
       ∙ sym (append_assoc (gen place).snapshots (log_blocks (drop (gen place).cut c.logs)) x.linked)
@@ -81,11 +76,13 @@ module _ (o : Origin) (c : Core) (x : Growth) (inv : Invariant o c) (grows : Gro
   abbrev now_named : ℕ → ℕ → Bool
   now_named place block = is_named o x.logs (entries o x.history) (gen place) block
 
+  -- what it names then
   pub named_is : (place block : ℕ) → place < length c.generations → now_named place block ≡ (was_named place block || is_listed (joined x) block)
   named_is place block inside = ap (λ (l : List ℕ). is_listed (l ++ data_names o (entries o x.history) (gen place)) block) (chain_more place inside)
       ∙ (ap (λ (l : List ℕ). is_listed ((chain_names c.logs (gen place) ++ x.linked) ++ l) block) (data_more place inside)
       ∙ listed_more (chain_names c.logs (gen place)) x.linked (data_names o (entries o c.history) (gen place)) x.named block)
 
+  -- a block that it named, and one that is put into the chain
   pub named_more : (place block : ℕ) → place < length c.generations → was_named place block ≡ true → now_named place block ≡ true
   named_more place block inside named = named_is place block inside ∙ ap (λ (t : Bool). t || is_listed (joined x) block) named
 
@@ -104,6 +101,7 @@ module _ (o : Origin) (c : Core) (x : Growth) (inv : Invariant o c) (grows : Gro
   pub not_joined : (block : ℕ) → c.owner block ≢ OwnedBy x.n → is_listed (joined x) block ≡ false
   not_joined block other = never (is_listed (joined x) block) (λ listed. other (grows.mine block listed))
 
+  -- nor one that a kept generation names
   pub named_not_joined : (place block : ℕ) → KeptIn o c place → was_named place block ≡ true → is_listed (joined x) block ≡ false
   named_not_joined place block kept named = not_joined block (taken_apart x.n (c.owner block) ((inv.contents place kept).taken block named))
 
@@ -117,6 +115,7 @@ module _ (o : Origin) (c : Core) (x : Growth) (inv : Invariant o c) (grows : Gro
   pub named_recorded : (place block : ℕ) → KeptIn o c place → was_named place block ≡ true → recorded_grown c x block ≡ c.recorded block
   named_recorded place block kept named = recorded_same block (taken_apart x.n (c.owner block) ((inv.contents place kept).taken block named))
 
+  -- one that is put into the chain has the chain's, and the words of the seat
   pub joined_owner : (block : ℕ) → is_listed (joined x) block ≡ true → owner_grown c x block ≡ InChain
   joined_owner block listed = ap (λ (b : Bool). if b then InChain else c.owner block) listed
 
@@ -131,6 +130,7 @@ module _ (o : Origin) (c : Core) (x : Growth) (inv : Invariant o c) (grows : Gro
       go true is = absurd (other (sym is))
       go false is = is
 
+  -- the lists of other owners stay
   pub list_same : (blocks : List ℕ) (whose : Owner) → whose ≢ InChain → whose ≢ OwnedBy x.n → IsListOf c.owner blocks whose → IsListOf (λ block. owner_grown c x block) blocks whose
   list_same blocks whose some other list = record {
     listed = λ block listed. (let was = list.listed block listed in owner_same block (λ mine. other (sym was ∙ mine)) ∙ was);
@@ -138,9 +138,11 @@ module _ (o : Origin) (c : Core) (x : Growth) (inv : Invariant o c) (grows : Gro
     once = list.once;
   }
 
+  -- a block that is taken stays so
   pub taken_same : (block : ℕ) → IsStillTaken (c.owner block) → IsStillTaken (owner_grown c x block)
   taken_same block taken = subst (λ (whose : Owner). IsStillTaken whose) (sym (owner_same block (taken_apart x.n (c.owner block) taken))) taken
 
+  -- bits and owners fit
   pub bits_grown : BitsFit (shape o) c.memory.now.taken c.owner → BitsFit (shape o) c.memory.now.taken (λ block. owner_grown c x block)
   bits_grown fits = record {
     bits = λ block low. fits.bits block low ∙ bit_same block (is_listed (joined x) block) refl;
@@ -164,6 +166,7 @@ module _ (o : Origin) (c : Core) (x : Growth) (inv : Invariant o c) (grows : Gro
   present_inside : present < length c.generations
   present_inside = (let is = current_is o c inv in let inside = (current_kept o c inv).inside in omega (arith, is, inside))
 
+  -- the present chain has exactly its blocks
   pub chain_grown : ChainOwns (λ block. now_named present block) (λ block. owner_grown c x block)
   chain_grown = record {
     named = λ block is. named_by block (is_listed (joined x) block) refl is;
@@ -176,6 +179,7 @@ module _ (o : Origin) (c : Core) (x : Growth) (inv : Invariant o c) (grows : Gro
       named_by block true listed is = joined_named present block present_inside listed
       named_by block false listed is = named_more present block present_inside (inv.owners.chain.named block is)
 
+  -- and a kept generation names none twice
   pub once_grown : (place : ℕ) → KeptIn o c place → NamesOnce (shape o) (chain_names x.logs (gen place)) (data_names o (entries o x.history) (gen place))
   once_grown place kept = (let old = inv.owners.once place kept in
       subst (λ (l : List ℕ). NamesOnce (shape o) l (data_names o (entries o x.history) (gen place))) (sym (chain_more place kept.inside))

@@ -1,41 +1,23 @@
 -- The order of the heads and of the log, and what is synced, where a step puts a word more into the last log block.
-use Rattle.std.proofs.Common.{◌≡◌, ◌≢◌, ◌<◌, ◌≤◌, ◌+◌, ◌-◌, ◌^◌, nat_lt, not, ℕ, zero, suc, Bool, true, false, List, [], ◌∷◌, length, drop, refl, sym, ◌∙◌, ap, subst, arith}
-use Rattle.std.proofs.lemmas.Bool.{ltb-true, ltb-false, and_parts}
+use Rattle.std.proofs.Common.{◌≡◌, ◌≢◌, ◌<◌, ◌≤◌, ◌+◌, ◌-◌, ◌^◌, nat_lt, ℕ, Bool, true, false, List, length, refl, sym, ◌∙◌, ap, subst, arith}
+use Rattle.std.proofs.lemmas.Bool.{ltb-true, ltb-false}
 use Rattle.std.proofs.lemmas.List.{get_or_past}
 use Rattle.log_entry.specs.Words.{head_word}
 use Rattle.log_image.specs.Image.{words_in}
-use Rattle.log_image.specs.Chains.{all_different, is_listed}
 use Rattle.persistence.specs.Memory.{cell}
 use Rattle.log_core.specs.Entries.{place_in}
 use Rattle.log_core.specs.Origin.{Origin, shape, first_generation, LogBlock, no_log, Generation}
-use Rattle.log_core.specs.Files.{entries, end_of}
-use Rattle.log_core.specs.Cores.{Core, head_floor, nth_log, log_blocks, chain_names, data_names}
+use Rattle.log_core.specs.Files.{end_of}
+use Rattle.log_core.specs.Cores.{Core, head_floor, nth_log}
 use Rattle.log_core.specs.Snapshots.{first_or}
 use Rattle.log_core.specs.Order.{nth_generation, front_of, HeadsInOrder, GenerationsRise, LogStands, LogsStand}
 use Rattle.log_core.specs.Certain.{IsCertain}
 use Rattle.log_core.specs.Synced.{IsSyncedIn}
 use Rattle.log_core.specs.Invariant.{Invariant, KeptIn}
-use Rattle.log_core.proofs.Fronts.{not_again}
-use Rattle.log_core.proofs.ChainWords.{front_different}
-use Rattle.log_core.proofs.clauses.Apart.{has_log}
+use Rattle.log_core.proofs.ChainPlaces.{logs_apart}
 use Rattle.log_core.proofs.clauses.Narrows.{Narrows, same_narrows, heads_narrow, log_narrows, synced_narrows}
 use Rattle.log_core.proofs.clauses.Growth.{Growth, Grows, LogLater, last_log}
 use Rattle.log_core.proofs.clauses.GrownWords.{last_inside, last_late, other_block, header_same}
-use Rattle.log_core.proofs.clauses.GrownNames.{back_different}
-
--- two log blocks of a chain are different blocks
-pub blocks_apart : (logs : List LogBlock) (cut first second : ℕ) → all_different (log_blocks (drop cut logs)) ≡ true → cut ≤ first → first < second → second < length logs →
-    (nth_log logs first).block ≢ (nth_log logs second).block
-blocks_apart [] cut first second different late before inside same = absurd (omega (arith, inside))
-blocks_apart (log ∷ logs) zero zero zero different late before inside same = absurd (omega (arith, before))
-blocks_apart (log ∷ logs) zero zero (suc second) different late before inside same =
-    not_again log.block (log_blocks logs) different (subst (λ (b : ℕ). is_listed (log_blocks logs) b ≡ true) (sym same) (has_log logs zero second (omega arith) (omega (arith, inside))))
-blocks_apart (log ∷ logs) zero (suc first) zero different late before inside same = absurd (omega (arith, before))
-blocks_apart (log ∷ logs) zero (suc first) (suc second) different late before inside same =
-    blocks_apart logs zero first second (and_parts (not (is_listed (log_blocks logs) log.block)) (all_different (log_blocks logs)) different).1 (omega arith) (omega (arith, before)) (omega (arith, inside)) same
-blocks_apart (log ∷ logs) (suc cut) zero second different late before inside same = absurd (omega (arith, late))
-blocks_apart (log ∷ logs) (suc cut) (suc first) zero different late before inside same = absurd (omega (arith, before))
-blocks_apart (log ∷ logs) (suc cut) (suc first) (suc second) different late before inside same = blocks_apart logs cut first second different (omega (arith, late)) (omega (arith, before)) (omega (arith, inside)) same
 
 -- behind the last log block there is none
 pub past_last : (logs : List LogBlock) (number : ℕ) → length logs ≤ number → nth_log logs number ≡ no_log
@@ -53,9 +35,11 @@ module _ (o : Origin) (c : Core) (x : Growth) (inv : Invariant o c) (grows : Gro
   abbrev gen : ℕ → Generation
   gen place = nth_generation c.generations place
 
+  -- a chain's first block stays
   pub front_same : (place : ℕ) → place < length c.generations → front_of x.logs (gen place) ≡ front_of c.logs (gen place)
   front_same place inside = ap (λ (block : ℕ). first_or (gen place).snapshots block) (grows.logs.each (gen place).cut (inv.order.generations_rise.cut_inside place inside)).block
 
+  -- the heads are in order
   pub heads_grown : HeadsInOrder o (λ word. cell x.memory word) c.generations x.logs
   heads_grown = (let r = heads_narrow o (λ word. cell c.memory word) (λ word. cell x.memory word) c.generations c.logs
       (λ word low. same_narrows c.memory x.memory word (header_same o c x inv grows word low)) inv.order.heads in
@@ -69,6 +53,7 @@ module _ (o : Origin) (c : Core) (x : Growth) (inv : Invariant o c) (grows : Gro
         each = λ place inside. r.each place inside ∙ ap (λ (block : ℕ). head_word (record { generation = first_generation o + place; block = block })) (sym (front_same place inside));
       })
 
+  -- generations rise
   pub rise_grown : GenerationsRise o (end_of o x.history) c.generations x.logs
   rise_grown = (let r = inv.order.generations_rise in record {
     from_first = r.from_first;
@@ -81,11 +66,7 @@ module _ (o : Origin) (c : Core) (x : Growth) (inv : Invariant o c) (grows : Gro
 
   -- each other log block of a kept chain is another block than the last one
   other_log : (place number : ℕ) → KeptIn o c place → (gen place).cut ≤ number → number + 1 < length c.logs → (nth_log c.logs number).block ≢ (last_log c).block
-  other_log place number kept late before =
-      blocks_apart c.logs (gen place).cut number (length c.logs - 1)
-      (back_different (gen place).snapshots (log_blocks (drop (gen place).cut c.logs))
-      (front_different (chain_names c.logs (gen place)) (data_names o (entries o c.history) (gen place)) (inv.owners.once place kept).once))
-      late (omega (arith, before)) (last_inside o c inv)
+  other_log place number kept late before = logs_apart o c inv place kept number (length c.logs - 1) late (omega (arith, before)) (last_inside o c inv)
 
   -- so its words stay
   log_same : (place number : ℕ) → KeptIn o c place → (gen place).cut ≤ number → number + 1 < length c.logs → (k : ℕ) → k < words_in (shape o) →
@@ -99,6 +80,7 @@ module _ (o : Origin) (c : Core) (x : Growth) (inv : Invariant o c) (grows : Gro
       (past_last c.logs (length c.logs - 1 + 1) (omega arith))
       (inv.order.chains place kept (length c.logs - 1) (last_late o c inv place kept) (last_inside o c inv))
 
+  -- the log blocks of a kept generation stand
   pub chains_grown : (place : ℕ) → KeptIn o c place → LogsStand (shape o) (λ word. cell x.memory word) x.logs (gen place).cut
   chains_grown place kept number late inside = before_last number (length c.logs)
       (λ before. subst (λ (log : LogBlock). LogStands (shape o) (λ word. cell x.memory word) log (nth_log x.logs (number + 1)).block) (sym (grows.logs.same number before))
@@ -107,6 +89,7 @@ module _ (o : Origin) (c : Core) (x : Growth) (inv : Invariant o c) (grows : Gro
       (log_same place number kept late before) (inv.order.chains place kept number late (omega (arith, before))))))
       (λ last. grows.stands (last_stands place kept) number last inside)
 
+  -- and what was synced is
   pub synced_grown : (place number : ℕ) → KeptIn o c place → head_floor c.memory ≤ place → (gen place).cut ≤ number → number < length x.logs →
       IsSyncedIn (shape o) (λ word. cell x.memory word) c.synced (nth_log x.logs number) (nth_log x.logs (number + 1))
   synced_grown place number kept low late inside = before_last number (length c.logs)

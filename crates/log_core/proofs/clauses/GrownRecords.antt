@@ -41,6 +41,7 @@ count_some (part ∷ parts) seat listed = go (part == seat) listed (λ later. co
     go true is rest = omega arith
     go false is rest = (let more = rest is in omega (arith, more))
 
+-- the parts of one view, and of two, are among all
 pub part_of : (views : List View) (k seat : ℕ) → k < length views → count_in (view_of views k).parts seat ≤ parts_with views seat
 part_of [] k seat inside = absurd (omega (arith, inside))
 part_of (v ∷ views) zero seat inside = omega arith
@@ -69,6 +70,7 @@ own_part history views r n unspent k other some = go (is_listed (view_of views k
         absurd (omega (arith, both, mine, theirs, all)))
 
 module _ (o : Origin) (n : ℕ) (before after : List Write) (named : List ℕ) (grows : HistoryGrows o n before after named) where
+  -- the writes that a view has recorded
   pub writes_grown : (v : View) → v.seat.walk.position ≤ end_of o before → WritesFit o before v → WritesFit o after v
   writes_grown v low r = record {
     recorded = each_weaker _ _ v.done (λ (call : Call) (fits : is_write call.op call.reply ≡ true → (first_position o < call.position) × (call.position ≤ end_of o before) × (call ≡ call_of call.position (write_at o before call.position))) is.
@@ -85,6 +87,7 @@ module _ (o : Origin) (n : ℕ) (before after : List Write) (named : List ℕ) (
     ));
   }
 
+  -- each once
   pub once_of_others : (v : View) → v.seat.walk.position ≤ end_of o before → (v.parts ≢ [] → is_listed v.parts n ≡ false) → AllByRecursion (λ (call : Call). call.position ≤ end_of o before) v.done →
       WritesOnce o before v → WritesOnce o after v
   once_of_others v low other early r some position above upto = old_or_new position (end_of o before)
@@ -99,6 +102,7 @@ module _ (o : Origin) (n : ℕ) (before after : List Write) (named : List ℕ) (
           go true is = ap (λ (b : Bool). 0 + one_if b) is
           go false is = refl
 
+  -- a record has the reply that comes at its position
   pub record_grown : (generations : List Generation) (call : Call) → RecordHolds o before generations call → RecordHolds o after generations call
   record_grown generations call r = record {
     to_end = (let low = r.to_end in let more = grows.longer in omega (arith, low, more));
@@ -112,6 +116,7 @@ module _ (o : Origin) (n : ℕ) (before after : List Write) (named : List ℕ) (
       before_low true low = omega (arith, low)
       before_low false low = low
 
+  -- and what a running call has of the history
   pub calls_grown : (v : View) → v.seat.walk.position ≤ end_of o before → CallHolds o before v → CallHolds o after v
   calls_grown v low r = (let same = grows.files v.seat.walk.position low in record {
     laid = λ offset count is. r.laid offset count is ∙ ap (λ (file : List ℕ). read file offset (length v.seat.calling.bytes)) (sym same);

@@ -95,6 +95,7 @@ module _ (o : Origin) (c : Core) (x : Growth) (inv : Invariant o c) (grows : Gro
 
   module _ (views : List View) (began : List ℕ) (kept_before : (place : ℕ) → KeptIn o (with_views views began) place → KeptIn o c place) (h : Hold)
       (pinned : h.valid ≡ true → KeptIn o c (h.generation - first_generation o)) where
+    -- the kept words of a valid pin
     pub kept_grown : (w : Walk) → WalkHolds (around o c) h w → h.valid ≡ true →
         AllByRecursion (IsKeptWord (shape o) x.memory.now.words (λ block. is_named o x.logs (entries o x.history) (gen (h.generation - first_generation o)) block)
         (drop (gen (h.generation - first_generation o)).cut x.logs)) w.kept

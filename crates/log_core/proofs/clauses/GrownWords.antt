@@ -18,6 +18,7 @@ use Rattle.log_core.proofs.clauses.OneView.{same_or_other}
 use Rattle.log_core.proofs.clauses.Growth.{Growth, Grows, last_log}
 
 module _ (o : Origin) (c : Core) (inv : Invariant o c) where
+  -- there is a last log block
   pub last_inside : length c.logs - 1 < length c.logs
   last_inside = (let some = inv.order.log.some in omega (arith, some))
 
@@ -25,9 +26,11 @@ module _ (o : Origin) (c : Core) (inv : Invariant o c) where
   pub last_late : (place : ℕ) → KeptIn o c place → (nth_generation c.generations place).cut ≤ length c.logs - 1
   last_late place kept = (let cut = inv.order.generations_rise.cut_inside place kept.inside in omega (arith, cut))
 
+  -- so it names that block
   pub last_named : (place : ℕ) → KeptIn o c place → is_named o c.logs (entries o c.history) (nth_generation c.generations place) (last_log c).block ≡ Rattle.std.proofs.Common.true
   last_named place kept = log_is_named o c.logs (nth_generation c.generations place) (length c.logs - 1) (entries o c.history) (last_late place kept) last_inside
 
+  -- which is still taken, and not the header
   pub last_taken : IsStillTaken (c.owner (last_log c).block)
   last_taken = (inv.contents (length (cell c.memory head_place).past) (current_kept o c inv)).taken (last_log c).block (last_named (length (cell c.memory head_place).past) (current_kept o c inv))
 
@@ -45,6 +48,7 @@ module _ (o : Origin) (c : Core) (x : Growth) (inv : Invariant o c) (grows : Gro
   word_block : word / q_of_origin o ≡ (last_log c).block
   word_block = div-mul-add (last_log c).block (q_of_origin o) x.index grows.index
 
+  -- each other word stays
   pub other_cell : (k : ℕ) → k ≢ word → cell x.memory k ≡ cell c.memory k
   other_cell = grows.memory.others
 
@@ -55,6 +59,7 @@ module _ (o : Origin) (c : Core) (x : Growth) (inv : Invariant o c) (grows : Gro
       first : k / q_of_origin o ≡ 0
       first = (let wide = inv.sizes.image.wide in ap (λ (w : ℕ). w / q_of_origin o) (omega arith) ∙ div-mul-add 0 (q_of_origin o) k (omega (arith, wide, low)))
 
+  -- so the head stays, and its floor
   pub head_same : cell x.memory head_place ≡ cell c.memory head_place
   head_same = header_same head_place (omega arith)
 
@@ -69,6 +74,7 @@ module _ (o : Origin) (c : Core) (x : Growth) (inv : Invariant o c) (grows : Gro
   pub other_block : (block k : ℕ) → block ≢ (last_log c).block → k < words_in (shape o) → cell x.memory (place_in (shape o) block k) ≡ cell c.memory (place_in (shape o) block k)
   other_block block k other inside = other_cell (place_in (shape o) block k) (other_place (words_in (shape o)) block (last_log c).block k x.index other inside grows.index)
 
+  -- or with another number in it
   pub other_index : (block k : ℕ) → k ≢ x.index → k < words_in (shape o) → cell x.memory (place_in (shape o) block k) ≡ cell c.memory (place_in (shape o) block k)
   other_index block k other inside = same_or_other block (last_log c).block
       (λ same. other_cell (place_in (shape o) block k) (λ at. other (let e : place_in (shape o) (last_log c).block k ≡ word = ap (λ (b : ℕ). place_in (shape o) b k) (sym same) ∙ at in omega (arith, e))))

@@ -34,6 +34,7 @@ pub record Growth : Type 0 where
 abbrev pub joined : Growth → List ℕ
 joined x = x.linked ++ x.named
 
+-- who has each block then, and the words that it has in the chain
 abbrev pub owner_grown : Core → Growth → ℕ → Owner
 owner_grown c x block = if is_listed (joined x) block then InChain else c.owner block
 
@@ -50,6 +51,7 @@ grown c x = record c {
   recorded = λ block. recorded_grown c x block;
 }
 
+-- the last log block before the step
 abbrev pub last_log : Core → LogBlock
 last_log c = nth_log c.logs (length c.logs - 1)
 

@@ -28,13 +28,13 @@ use Rattle.log_core.specs.Knows.{Knows}
 use Rattle.log_core.proofs.Heads.{head_generation, present_place}
 use Rattle.log_core.proofs.PinnedChains.{place, kept, from_first}
 use Rattle.log_core.proofs.LogTails.{log_found, not_before}
-use Rattle.log_core.proofs.ChainWords.{in_one_part, front_different}
+use Rattle.log_core.proofs.ChainWords.{in_one_part, front_different, back_different}
 use Rattle.log_core.proofs.ChainEntries.{chain_entries, chain_map, chain_data}
 use Rattle.log_core.proofs.MappedBlocks.{mapped_name}
 use Rattle.log_core.proofs.SnapshotNames.{snapshot_plain, named_mapped, map_once, names_different}
 use Rattle.log_core.proofs.clauses.Apart.{has_left, has_right, either_of}
 use Rattle.log_core.proofs.clauses.FencedContents.{fenced_owned}
-use Rattle.log_core.proofs.clauses.GrownNames.{never, back_different}
+use Rattle.log_core.proofs.clauses.GrownNames.{never}
 
 -- the later of some numbers
 pub listed_drop : (count : ℕ) (blocks : List ℕ) (block : ℕ) → is_listed (drop count blocks) block ≡ true → is_listed blocks block ≡ true

@@ -86,7 +86,7 @@ module _ (o : Origin) (k : ℕ) where
       v = view_of c.views n
 
       abbrev may_step : MayStep o c v (kind o steps inv seen n ask note allowed) note (f o steps inv seen n ask note allowed)
-      may_step = allowed.fits.step
+      may_step = allowed.step
 
       abbrev w : View
       w = view_after v (kind o steps inv seen n ask note allowed) note (f o steps inv seen n ask note allowed)
@@ -100,8 +100,8 @@ module _ (o : Origin) (k : ℕ) where
       numbered_does : IsNumbered number (after o c (Does n ask note))
       numbered_does = record {
         inside = (let long = length-set c.views n w in let low = numbered.inside in omega (arith, long, low));
-        low = each_set Low c.views n w allowed.fits.made
-            (λ same some. (let low = low_at n same allowed.fits.unspent in let more = number_more in let is = number_is in omega (arith, low, more, is)))
+        low = each_set Low c.views n w allowed.made
+            (λ same some. (let low = low_at n same allowed.unspent in let more = number_more in let is = number_is in omega (arith, low, more, is)))
             (λ j other. low_at j) k refl;
       }
 
@@ -115,7 +115,7 @@ module _ (o : Origin) (k : ℕ) where
         later_call : n ≡ k → op_in note.before ≢ None → number < note.number
         later_call same some = ⊎_elim
             (λ (none : op_in v.seat ≡ None). (let above = number_above (is_begun (op_in v.seat) (op_in note.before)) v.ghost.call.number note.number (begins (op_in v.seat) (op_in note.before) none some) may_step.number in
-            let low = low_at n same allowed.fits.unspent in omega (arith, above, low)))
+            let low = low_at n same allowed.unspent in omega (arith, above, low)))
             (λ (runs : op_in v.seat ≢ None). (let above = subst (λ (i : ℕ). op_in (view_of c.views i).seat ≢ None → number < (view_of c.views i).ghost.call.number) (sym same) past.runs runs in
             let more = number_more in omega (arith, above, more)))
             (some_or_none (op_in v.seat))
@@ -139,11 +139,11 @@ module _ (o : Origin) (k : ℕ) where
 
         past_does : IsPast number position (after o c (Does n ask note))
         past_does = record {
-          runs = each_set (λ (j : ℕ) (u : View). j ≡ k → op_in u.seat ≢ None → number < u.ghost.call.number) c.views n w allowed.fits.made runs_after
+          runs = each_set (λ (j : ℕ) (u : View). j ≡ k → op_in u.seat ≢ None → number < u.ghost.call.number) c.views n w allowed.made runs_after
               (λ j other same. subst (λ (i : ℕ). op_in (view_of c.views i).seat ≢ None → number < (view_of c.views i).ghost.call.number) (sym same) past.runs) k refl;
-          records = each_set (λ (j : ℕ) (u : View). AllByRecursion (Early number position) u.done) c.views n w allowed.fits.made
+          records = each_set (λ (j : ℕ) (u : View). AllByRecursion (Early number position) u.done) c.views n w allowed.made
               (each_join (Early number position) v.done note.adds (past.records n) (adds_early note.adds may_step.enters.adds_are)) (λ j other. past.records j);
-          grown = each_set (λ (j : ℕ) (u : View). j ≡ k → u.parts ≢ [] → position ≤ greatest_position (first_position o) u.done) c.views n w allowed.fits.made
+          grown = each_set (λ (j : ℕ) (u : View). j ≡ k → u.parts ≢ [] → position ≤ greatest_position (first_position o) u.done) c.views n w allowed.made
               (λ same some. (let before = subst (λ (i : ℕ). (view_of c.views i).parts ≢ [] → position ≤ greatest_position (first_position o) (view_of c.views i).done) (sym same) past.grown some in
               let more = greatest_more (first_position o) v.done note.adds in omega (arith, before, more)))
               (λ j other same. subst (λ (i : ℕ). (view_of c.views i).parts ≢ [] → position ≤ greatest_position (first_position o) (view_of c.views i).done) (sym same) past.grown) k refl;
@@ -193,13 +193,13 @@ module _ (o : Origin) (k : ℕ) where
 
       past_step : (step : Step) → Allowed o c step → IsPast number position (after o c step)
       past_step (Does n ask note) allowed = past_does n ask note allowed position past
-      past_step (Splits seat) allowed = subst (λ (j : ℕ). MaySplit o c j → IsPast number position (after o c (Splits j))) (sym allowed.fits.first) past_splits allowed.fits
-      past_step (Joins seat other) allowed = past_joins seat other allowed.fits
+      past_step (Splits seat) allowed = subst (λ (j : ℕ). MaySplit o c j → IsPast number position (after o c (Splits j))) (sym allowed.first) past_splits allowed
+      past_step (Joins seat other) allowed = past_joins seat other allowed
 
     numbered_step : (step : Step) → Allowed o c step → IsNumbered number (after o c step)
     numbered_step (Does n ask note) allowed = numbered_does n ask note allowed
-    numbered_step (Splits seat) allowed = subst (λ (j : ℕ). MaySplit o c j → IsNumbered number (after o c (Splits j))) (sym allowed.fits.first) numbered_splits allowed.fits
-    numbered_step (Joins seat other) allowed = numbered_joins seat other allowed.fits
+    numbered_step (Splits seat) allowed = subst (λ (j : ℕ). MaySplit o c j → IsNumbered number (after o c (Splits j))) (sym allowed.first) numbered_splits allowed
+    numbered_step (Joins seat other) allowed = numbered_joins seat other allowed
 
   -- and at each later moment of the run
   pub numbered_run : (start : Invariant o (first_core o)) (number : ℕ) (later earlier : List Step) → IsRun o (later ++ earlier) → IsNumbered number (end o earlier) → IsNumbered number (end o (later ++ earlier))

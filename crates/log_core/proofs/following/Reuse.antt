@@ -97,7 +97,7 @@ module _ (o : Origin) (c : Core) (inv : Invariant o c) where
     value = slice_index c.memory.now.taken word
 
     abbrev step : MayStep o c (view_of c.views n) (ClearsBits word bits) note value
-    step = allowed.fits.step
+    step = allowed.step
 
     same_hold : note.seat.hold ≡ (view_of c.views n).seat.hold
     same_hold = ap (λ (s : Seat). s.hold) step.enters.seat_is ∙ ended_hold note.adds step.enters.last
@@ -108,7 +108,7 @@ module _ (o : Origin) (c : Core) (inv : Invariant o c) where
     hold_after : (k : ℕ) → (view_of later.views k).seat.hold ≡ (view_of c.views k).seat.hold
     hold_after k = same_or_other k n
         (λ same. subst (λ (j : ℕ). (view_of later.views j).seat.hold ≡ (view_of c.views j).seat.hold) (sym same)
-        (ap (λ (v : View). v.seat.hold) (get_or-set_same c.views n _ spent_view allowed.fits.made) ∙ same_hold))
+        (ap (λ (v : View). v.seat.hold) (get_or-set_same c.views n _ spent_view allowed.made) ∙ same_hold))
         (λ other. ap (λ (v : View). v.seat.hold) (get_or-set_other c.views n k _ spent_view other))
 
     -- so a kept generation is kept

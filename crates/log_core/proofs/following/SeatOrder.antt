@@ -77,9 +77,9 @@ module _ (o : Origin) (steps : List Step) (start : IsStart o) (run : IsRun o ste
   -- behind a step its seat's call has the step's number
   numbered_at : (seat : ℕ) (ask : Ask) (note : Note) (earlier : List Step) → IsRun o (Does seat ask note ∷ earlier) → IsNumbered o seat note.number (end o (Does seat ask note ∷ earlier))
   numbered_at seat ask note earlier there = record {
-    inside = (let long = length-set views seat w in let made = there.1.fits.made in omega (arith, long, made));
-    low = λ some. subst (λ (u : View). note.number ≤ u.ghost.call.number) (sym (get_or-set_same views seat w spent_view there.1.fits.made))
-        (let is = number_at_ask (is_begun (op_in v.seat) (op_in note.before)) v.ghost.call note.number there.1.fits.step.number in omega (arith, is));
+    inside = (let long = length-set views seat w in let made = there.1.made in omega (arith, long, made));
+    low = λ some. subst (λ (u : View). note.number ≤ u.ghost.call.number) (sym (get_or-set_same views seat w spent_view there.1.made))
+        (let is = number_at_ask (is_begun (op_in v.seat) (op_in note.before)) v.ghost.call note.number there.1.step.number in omega (arith, is));
   }
     where
       views : List View
@@ -94,8 +94,8 @@ module _ (o : Origin) (steps : List Step) (start : IsStart o) (run : IsRun o ste
   -- at a step of a seat its call's number is not below one that it had
   number_at_step : (number seat : ℕ) (ask : Ask) (note : Note) (earlier : List Step) → IsRun o (Does seat ask note ∷ earlier) → IsNumbered o seat number (end o earlier) → number ≤ note.number
   number_at_step number seat ask note earlier there numbered =
-      (let low = numbered.low there.1.fits.unspent in
-      let more = go (is_begun (op_in (view_of (end o earlier).views seat).seat) (op_in note.before)) there.1.fits.step.number in omega (arith, low, more))
+      (let low = numbered.low there.1.unspent in
+      let more = go (is_begun (op_in (view_of (end o earlier).views seat).seat) (op_in note.before)) there.1.step.number in omega (arith, low, more))
     where
       go : (begun : Bool) → Rattle.log_core.specs.Runs.MayNumber begun (view_of (end o earlier).views seat).ghost.call.number note.number → (view_of (end o earlier).views seat).ghost.call.number ≤ note.number
       go true may = omega (arith, may)

@@ -68,7 +68,7 @@ module _ (o : Origin) (steps : List Step) (inv : Invariant o (end o steps)) (see
     this = Does n ask note
 
     abbrev pub step : MayStep o c v kind note f
-    step = allowed.fits.step
+    step = allowed.step
 
     abbrev pub left : Seat
     left = effect_at v note kind f
@@ -76,14 +76,14 @@ module _ (o : Origin) (steps : List Step) (inv : Invariant o (end o steps)) (see
     abbrev pub last : Seat
     last = step.enters.last
 
-    knows : Knows o c n note.before (ghost_at v note) (slice_index c.memory.now.pins n) (slice_index (began o c n inv allowed.fits.made allowed.fits.unspent note) n)
-    knows = at_ask o c n inv allowed.fits.made allowed.fits.unspent note kind f step allowed.offered.before allowed.offered.later
+    knows : Knows o c n note.before (ghost_at v note) (slice_index c.memory.now.pins n) (slice_index (began o c n inv allowed.made allowed.unspent note) n)
+    knows = at_ask o c n inv allowed.made allowed.unspent note kind f step
 
     before_stands : StandsWon note.before
     before_stands won = (let was = computed_won v.ghost v.seat note.before step.begins won in was.1 (seen.stands n was.0))
 
     pub moves : TailMoves note.before left (end_of o c.history) (end_of o (history_after c.history n note kind (found c.memory ask)))
-    moves = moves_by_ask o c n note (ghost_at v note) (slice_index c.memory.now.pins n) (slice_index (began o c n inv allowed.fits.made allowed.fits.unspent note) n) inv knows allowed.fits.unspent v.ghost.marks before_stands ask step.may
+    moves = moves_by_ask o c n note (ghost_at v note) (slice_index c.memory.now.pins n) (slice_index (began o c n inv allowed.made allowed.unspent note) n) inv knows allowed.unspent v.ghost.marks before_stands ask step.may
 
     -- a call that is at its tail behind the step was there before it, or is at the end now
     seen_last : last.walk.at_tail ≡ true → (op : Op) → op_in last ≡ Some op → IsSeen o (this ∷ steps) n note.number last.walk.position op last.calling.won
@@ -136,10 +136,10 @@ module _ (o : Origin) (steps : List Step) (inv : Invariant o (end o steps)) (see
     -- and of the record that it adds
     pub last_is : last.number ≡ n
     last_is = (let later = step_keeps o c this inv allowed in
-        let same : view_of (after o c this).views n ≡ view_after v kind note f = get_or-set_same c.views n _ spent_view allowed.fits.made in
+        let same : view_of (after o c this).views n ≡ view_after v kind note f = get_or-set_same c.views n _ spent_view allowed.made in
         let long = Rattle.std.proofs.lemmas.List.length-set c.views n (view_after v kind note f) in
-        let made : n < length (after o c this).views = (let low = allowed.fits.made in omega (arith, long, low)) in
-        let fits = later.sizes.each n made (λ none. allowed.fits.unspent (sym (ap (λ (w : View). w.parts) same) ∙ none)) in
+        let made : n < length (after o c this).views = (let low = allowed.made in omega (arith, long, low)) in
+        let fits = later.sizes.each n made (λ none. allowed.unspent (sym (ap (λ (w : View). w.parts) same) ∙ none)) in
         sym (ap (λ (s : Seat). s.number) step.enters.seat_is ∙ ended_number note.adds last) ∙ (sym (ap (λ (w : View). w.seat.number) same) ∙ fits.number))
 
     added_seen : (adds : List Call) → MayAddAll (ghost_left v note kind f) last adds → AllByRecursion (IsCallSeen o (this ∷ steps)) adds
@@ -166,12 +166,12 @@ module _ (o : Origin) (steps : List Step) (inv : Invariant o (end o steps)) (see
 
     seen_does : AllSeen o (this ∷ steps)
     seen_does = record {
-      tails = each_set (λ (k : ℕ) (w : View). IsTailSeen o (this ∷ steps) k w) c.views n (view_after v kind note f) allowed.fits.made
+      tails = each_set (λ (k : ℕ) (w : View). IsTailSeen o (this ∷ steps) k w) c.views n (view_after v kind note f) allowed.made
           (λ at op asks. seen_as o (this ∷ steps) n note.number (view_after v kind note f).ghost.call.number note.seat.walk.position note.seat.walk.position op note.seat.calling.won note.seat.calling.won (sym left_number) refl (λ won. won)
           (tail_entered note.adds note.seat step.enters.seat_is at op asks))
           (λ k other. tail_later o steps this k (view_of c.views k) (seen.tails k));
-      stands = each_set (λ (k : ℕ) (w : View). StandsWon w.seat) c.views n (view_after v kind note f) allowed.fits.made (stands_entered note.adds note.seat step.enters.seat_is) (λ k other. seen.stands k);
-      records = each_set (λ (k : ℕ) (w : View). AllByRecursion (IsCallSeen o (this ∷ steps)) w.done) c.views n (view_after v kind note f) allowed.fits.made
+      stands = each_set (λ (k : ℕ) (w : View). StandsWon w.seat) c.views n (view_after v kind note f) allowed.made (stands_entered note.adds note.seat step.enters.seat_is) (λ k other. seen.stands k);
+      records = each_set (λ (k : ℕ) (w : View). AllByRecursion (IsCallSeen o (this ∷ steps)) w.done) c.views n (view_after v kind note f) allowed.made
           (each_join (IsCallSeen o (this ∷ steps)) v.done note.adds (records_later o steps this v.done (seen.records n)) (added_seen note.adds step.enters.adds_are))
           (λ k other. records_later o steps this (view_of c.views k).done (seen.records k));
     }
@@ -207,8 +207,8 @@ module _ (o : Origin) (steps : List Step) (inv : Invariant o (end o steps)) (see
 
   seen_step : (step : Step) → Allowed o c step → AllSeen o (step ∷ steps)
   seen_step (Does n ask note) allowed = seen_does n ask note allowed
-  seen_step (Splits seat) allowed = subst (λ (k : ℕ). MaySplit o c k → AllSeen o (Splits k ∷ steps)) (sym allowed.fits.first) seen_splits allowed.fits
-  seen_step (Joins seat other) allowed = seen_joins seat other allowed.fits
+  seen_step (Splits seat) allowed = subst (λ (k : ℕ). MaySplit o c k → AllSeen o (Splits k ∷ steps)) (sym allowed.first) seen_splits allowed
+  seen_step (Joins seat other) allowed = seen_joins seat other allowed
 
 -- a fact of a view of a list, or of a spent one
 view_or_spent : (P : View → Type 0) (views : List View) (k : ℕ) → P spent_view → AllByRecursion P views → P (view_of views k)

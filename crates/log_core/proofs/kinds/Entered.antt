@@ -9,7 +9,7 @@ use Rattle.log_core.specs.Origin.{Origin}
 use Rattle.log_core.specs.Cores.{Core}
 use Rattle.log_core.specs.Works.{Computes, is_going_on}
 use Rattle.log_core.specs.Steps.{Note, Kind, ghost_ended, view_after}
-use Rattle.log_core.specs.Runs.{MayStep, effect_at, ghost_left, is_offered_work}
+use Rattle.log_core.specs.Runs.{MayStep, effect_at, ghost_left}
 use Rattle.log_core.specs.Invariant.{Invariant}
 use Rattle.log_core.specs.Knows.{with_seat}
 use Rattle.log_core.proofs.clauses.Leaves.{no_changes, changes_leave, pins_leave}
@@ -23,18 +23,18 @@ module _ (o : Origin) (d : Core) (n : ℕ) (inv : Invariant o d) (here : n < len
   abbrev v : View
   v = view_of d.views n
 
-  pub computed : (t : Seat) → (computes : Computes v.ghost v.seat t) → list_all is_offered_work computes.works ≡ true → list_all is_going_on computes.works ≡ true →
+  pub computed : (t : Seat) → (computes : Computes v.ghost v.seat t) → list_all is_going_on computes.works ≡ true →
       Invariant o (record d { views = slice_set d.views n (with_seat v t v.ghost) })
-  computed t computes offered going = subst (λ (s : Seat). Invariant o (record d { views = slice_set d.views n (with_seat v s v.ghost) })) (sym computes.gives)
+  computed t computes going = subst (λ (s : Seat). Invariant o (record d { views = slice_set d.views n (with_seat v s v.ghost) })) (sym computes.gives)
       (set_core o d n _ v.ghost d.memory d.owner d.began inv here unspent (pins_leave o d n inv d.memory.now.pins refl (λ k other. refl)) (changes_leave o d n d.memory _ d.owner (no_changes d n)) inv.owners.bits
-      (later_hold o d n (slice_index d.memory.now.pins n) (slice_index d.began n) v.ghost inv unspent v.seat computes.works offered going computes.may (facts_of o d n inv here))
+      (later_hold o d n (slice_index d.memory.now.pins n) (slice_index d.began n) v.ghost inv unspent v.seat computes.works going computes.may (facts_of o d n inv here))
       refl (λ k other. refl) inv.records.begun)
 
   -- so it is with a view that the core has
-  pub computed_from : (u : View) → v ≡ u → (t : Seat) → (computes : Computes u.ghost u.seat t) → list_all is_offered_work computes.works ≡ true → list_all is_going_on computes.works ≡ true →
+  pub computed_from : (u : View) → v ≡ u → (t : Seat) → (computes : Computes u.ghost u.seat t) → list_all is_going_on computes.works ≡ true →
       Invariant o (record d { views = slice_set d.views n (with_seat u t u.ghost) })
-  computed_from u is t = subst (λ (w : View). (computes : Computes w.ghost w.seat t) → list_all is_offered_work computes.works ≡ true → list_all is_going_on computes.works ≡ true →
-      Invariant o (record d { views = slice_set d.views n (with_seat w t w.ghost) })) is (λ computes offered going. computed t computes offered going)
+  computed_from u is t = subst (λ (w : View). (computes : Computes w.ghost w.seat t) → list_all is_going_on computes.works ≡ true →
+      Invariant o (record d { views = slice_set d.views n (with_seat w t w.ghost) })) is (λ computes going. computed t computes going)
 
 -- after a step of a kind
 module _ (o : Origin) (c : Core) (n : ℕ) (note : Note) (kind : Kind) (f : ℕ) (here : n < length c.views) (unspent : (view_of c.views n).parts ≢ [])
@@ -56,20 +56,20 @@ module _ (o : Origin) (c : Core) (n : ℕ) (note : Note) (kind : Kind) (f : ℕ)
   abbrev views_worked : List View
   views_worked = slice_set c.views n worked
 
-  works_entered : (d : Core) → Invariant o (record d { views = views_left }) → list_all is_offered_work step.enters.computed.works ≡ true → Invariant o (record d { views = views_worked })
-  works_entered d inv later = subst (λ (views : List View). Invariant o (record d { views = views })) (set-set c.views n left worked)
+  works_entered : (d : Core) → Invariant o (record d { views = views_left }) → Invariant o (record d { views = views_worked })
+  works_entered d inv = subst (λ (views : List View). Invariant o (record d { views = views })) (set-set c.views n left worked)
       (computed_from o (record d { views = views_left }) n inv (subst (λ (k : ℕ). n < k) (sym (length-set c.views n left)) here)
-      (λ none. unspent (ap (λ (v : View). v.parts) (sym is_left) ∙ none)) left is_left step.enters.last step.enters.computed later step.enters.going_on)
+      (λ none. unspent (ap (λ (v : View). v.parts) (sym is_left) ∙ none)) left is_left step.enters.last step.enters.computed step.enters.going_on)
     where
       is_left : view_of views_left n ≡ left
       is_left = get_or-set_same c.views n left spent_view here
 
   -- and with its record, where it ends
-  pub entered : (d : Core) → Invariant o (record d { views = views_left }) → list_all is_offered_work step.enters.computed.works ≡ true →
+  pub entered : (d : Core) → Invariant o (record d { views = views_left }) →
       Invariant o (record d { views = slice_set c.views n (view_after mine kind note f) })
-  entered d inv later = subst (λ (t : Seat). Invariant o (record d { views = slice_set c.views n (record worked { seat = t; ghost = ghost_ended note.adds worked.ghost; done = worked.done ++ note.adds }) })) (sym step.enters.seat_is)
+  entered d inv = subst (λ (t : Seat). Invariant o (record d { views = slice_set c.views n (record worked { seat = t; ghost = ghost_ended note.adds worked.ghost; done = worked.done ++ note.adds }) })) (sym step.enters.seat_is)
       (subst (λ (views : List View). Invariant o (record d { views = views })) (set-set c.views n worked _)
-      (recorded_from o (record d { views = views_worked }) n (works_entered d inv later) (subst (λ (k : ℕ). n < k) (sym (length-set c.views n worked)) here)
+      (recorded_from o (record d { views = views_worked }) n (works_entered d inv) (subst (λ (k : ℕ). n < k) (sym (length-set c.views n worked)) here)
       (λ none. unspent (ap (λ (v : View). v.parts) (sym is_worked) ∙ none)) worked is_worked note.adds step.enters.adds_are))
     where
       is_worked : view_of views_worked n ≡ worked

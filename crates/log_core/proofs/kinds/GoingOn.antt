@@ -7,7 +7,6 @@ use Rattle.log_core.specs.Origin.{Origin}
 use Rattle.log_core.specs.Cores.{Core}
 use Rattle.log_core.specs.Works.{Work, Begins, KeepsTable, StartsFromLog, StartsFromSnapshot, ReadsRun, NextSnapshot, EndsReading, TakesEntry, TakesSeal, Follows, Forgets, OpensBase, AddsBaseWord, DropsBases, Lays, SetsWord, CountsFilled, NotesNamed, KeepsReplaced, NotesHeld, IsFree, state_after_work, MayWork, is_going_on}
 use Rattle.log_core.specs.Steps.{call_if}
-use Rattle.log_core.specs.Runs.{is_offered_work}
 use Rattle.log_core.specs.Invariant.{Invariant}
 use Rattle.log_core.specs.Knows.{Knows}
 use Rattle.log_core.proofs.Facts.{forget_facts}
@@ -113,24 +112,24 @@ module _ (g : Ghost) (begun : Bool) (number : ℕ) where
   may_begun s (NotesHeld held) going may = may
 
 module _ (o : Origin) (c : Core) (n pin began : ℕ) (g : Ghost) (inv : Invariant o c) (unspent : (view_of c.views n).parts ≢ []) where
-  pub going_facts : (s : Seat) (work : Work) → is_offered_work work ≡ true → is_going_on work ≡ true → MayWork g s work → Knows o c n s g pin began → Knows o c n (state_after_work s work) g pin began
-  going_facts s (Begins task bytes) offered going may f = cc
-  going_facts s KeepsTable offered going may f = table_facts o c n s g pin began inv f may.0 may.1 may.2 may.3
-  going_facts s StartsFromLog offered going may f = log_facts o c n s g pin began inv f may
-  going_facts s StartsFromSnapshot offered going may f = snapshot_facts o c n s g pin began inv f may.0 may.1
-  going_facts s ReadsRun offered going may f = run_facts o c n s g pin began inv f may.0 may.1
-  going_facts s NextSnapshot offered going may f = next_facts o c n s g pin began inv f may.reading may
-  going_facts s EndsReading offered going may f = end_facts o c n s g pin began inv f may.reading may
-  going_facts s TakesEntry offered going may f = entry_facts o c n s g pin began inv unspent f may.0 may.1 may.2
-  going_facts s TakesSeal offered going may f = seal_facts o c n s g pin began inv f may.0.valid may.0.ready may.0.inside may.1
-  going_facts s Follows offered going may f = follow_facts o c n s g pin began inv f may.valid may.ready may.at_end may.linked
-  going_facts s Forgets offered going may f = forget_facts o c n s g pin began f
-  going_facts s (OpensBase virt) offered going may f = open_facts o c n s g pin began inv f unspent virt may
-  going_facts s AddsBaseWord offered going may f = add_facts o c n s g pin began inv f unspent may
-  going_facts s DropsBases offered going may f = drop_facts o c n s g pin began f
-  going_facts s (Lays bytes) offered going may f = lay_facts o c n s g pin began inv unspent bytes f may
-  going_facts s (SetsWord place word value) offered going may f = set_word_facts o c n s g pin began place word value f may
-  going_facts s (CountsFilled place) offered going may f = count_filled_facts o c n s g pin began place f may
-  going_facts s (NotesNamed words) offered going may f = named_facts o c n s g pin began words f may
-  going_facts s KeepsReplaced offered going may f = replaced_facts o c n s g pin began f may
-  going_facts s (NotesHeld held) offered going may f = held_facts o c n s g pin began held f
+  pub going_facts : (s : Seat) (work : Work) → is_going_on work ≡ true → MayWork g s work → Knows o c n s g pin began → Knows o c n (state_after_work s work) g pin began
+  going_facts s (Begins task bytes) going may f = cc
+  going_facts s KeepsTable going may f = table_facts o c n s g pin began inv f may.0 may.1 may.2 may.3
+  going_facts s StartsFromLog going may f = log_facts o c n s g pin began inv f may
+  going_facts s StartsFromSnapshot going may f = snapshot_facts o c n s g pin began inv f may.0 may.1
+  going_facts s ReadsRun going may f = run_facts o c n s g pin began inv f may.0 may.1
+  going_facts s NextSnapshot going may f = next_facts o c n s g pin began inv f may.reading may
+  going_facts s EndsReading going may f = end_facts o c n s g pin began inv f may.reading may
+  going_facts s TakesEntry going may f = entry_facts o c n s g pin began inv unspent f may.0 may.1 may.2
+  going_facts s TakesSeal going may f = seal_facts o c n s g pin began inv f may.0.valid may.0.ready may.0.inside may.1
+  going_facts s Follows going may f = follow_facts o c n s g pin began inv f may.valid may.ready may.at_end may.linked
+  going_facts s Forgets going may f = forget_facts o c n s g pin began f
+  going_facts s (OpensBase virt) going may f = open_facts o c n s g pin began inv f unspent virt may
+  going_facts s AddsBaseWord going may f = add_facts o c n s g pin began inv f unspent may
+  going_facts s DropsBases going may f = drop_facts o c n s g pin began f
+  going_facts s (Lays bytes) going may f = lay_facts o c n s g pin began inv unspent bytes f may
+  going_facts s (SetsWord place word value) going may f = set_word_facts o c n s g pin began place word value f may
+  going_facts s (CountsFilled place) going may f = count_filled_facts o c n s g pin began place f may
+  going_facts s (NotesNamed words) going may f = named_facts o c n s g pin began words f may
+  going_facts s KeepsReplaced going may f = replaced_facts o c n s g pin began f may
+  going_facts s (NotesHeld held) going may f = held_facts o c n s g pin began held f

@@ -15,6 +15,7 @@ use Rattle.log_core.specs.Knows.{Knows}
 use Rattle.log_core.proofs.Facts.{moved_facts}
 use Rattle.log_core.proofs.kinds.LoadsImageWord.{image_facts}
 
+-- a test or none
 or_none : (a b : Bool) → b ≡ false → (a || b) ≡ a
 or_none true b none = refl
 or_none false b none = none

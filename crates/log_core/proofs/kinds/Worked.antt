@@ -11,7 +11,7 @@ use Rattle.log_core.specs.Cores.{Core}
 use Rattle.log_core.specs.Works.{Work, Begins, state_after_work, state_after_all_work, MayBegin, MayWork, MayWorkAll, is_going_on}
 use Rattle.log_core.specs.Steps.{is_begun, ghost_begun}
 use Rattle.log_core.specs.After.{began_if}
-use Rattle.log_core.specs.Runs.{MayNumber, is_offered_work}
+use Rattle.log_core.specs.Runs.{MayNumber}
 use Rattle.log_core.specs.Invariant.{Invariant}
 use Rattle.log_core.specs.Knows.{Knows}
 use Rattle.log_core.proofs.kinds.Begun.{begun_facts}
@@ -74,33 +74,33 @@ module _ (o : Origin) (c : Core) (n pin number : ℕ) where
 
   module _ (inv : Invariant o c) (unspent : (view_of c.views n).parts ≢ []) where
     -- a computation that goes on
-    go_on : (s : Seat) (work : Work) → is_offered_work work ≡ true → is_going_on work ≡ true → MayWork v.ghost s work → FactsAt s → FactsAt (state_after_work s work)
-    go_on s work offered going may facts = subst (λ (op : Option Op). Knows o c n (state_after_work s work) (ghost_if v.ghost (is_begun (op_in v.seat) op) number) pin
+    go_on : (s : Seat) (work : Work) → is_going_on work ≡ true → MayWork v.ghost s work → FactsAt s → FactsAt (state_after_work s work)
+    go_on s work going may facts = subst (λ (op : Option Op). Knows o c n (state_after_work s work) (ghost_if v.ghost (is_begun (op_in v.seat) op) number) pin
         (slice_index (began_if (is_begun (op_in v.seat) op) c.began n (end_of o c.history)) n)) (sym (op_stays v.ghost s work going may))
-        (going_facts o c n pin (slice_index (began_at s) n) (ghost_begun v.ghost v.seat s number) inv unspent s work offered going
+        (going_facts o c n pin (slice_index (began_at s) n) (ghost_begun v.ghost v.seat s number) inv unspent s work going
         (may_begun v.ghost (is_begun (op_in v.seat) (op_in s)) number s work going may) facts)
 
     -- what a seat computes before a step
-    pub works_hold : (s : Seat) (works : List Work) → list_all is_offered_work works ≡ true → MayWorkAll v.ghost s works → FactsAt s → (op_in s ≡ None → op_in v.seat ≡ None) →
+    pub works_hold : (s : Seat) (works : List Work) → MayWorkAll v.ghost s works → FactsAt s → (op_in s ≡ None → op_in v.seat ≡ None) →
         MayNumber (is_begun (op_in v.seat) (op_in (state_after_all_work s works))) v.ghost.call.number number → FactsAt (state_after_all_work s works)
-    works_hold s [] offered may facts start higher = facts
-    works_hold s (work ∷ works) offered may facts start higher = begins_or_goes_on
-        (λ (w : Work). is_offered_work w ≡ true → MayWork v.ghost s w → MayWorkAll v.ghost (state_after_work s w) works →
+    works_hold s [] may facts start higher = facts
+    works_hold s (work ∷ works) may facts start higher = begins_or_goes_on
+        (λ (w : Work). MayWork v.ghost s w → MayWorkAll v.ghost (state_after_work s w) works →
         MayNumber (is_begun (op_in v.seat) (op_in (state_after_all_work (state_after_work s w) works))) v.ghost.call.number number → FactsAt (state_after_all_work (state_after_work s w) works))
-        (λ task bytes one may_one all high. works_hold (state_after_work s (Begins task bytes)) works (both_right (is_offered_work work) (list_all is_offered_work works) offered) all
+        (λ task bytes may_one all high. works_hold (state_after_work s (Begins task bytes)) works all
         (begin_one s task bytes facts start may_one
         (λ begun. number_higher (is_begun (op_in v.seat) (op_in (state_after_all_work (state_after_work s (Begins task bytes)) works))) v.ghost.call.number number
         (ap (λ (op : Option Op). is_begun (op_in v.seat) op) (runs_on v.ghost (state_after_work s (Begins task bytes)) works all (begun_some (op_in v.seat) (op_of task bytes) begun)) ∙ begun)
         high))
         (λ none. start may_one.none_runs) high)
-        (λ w going one may_one all high. works_hold (state_after_work s w) works (both_right (is_offered_work work) (list_all is_offered_work works) offered) all
-        (go_on s w one going may_one facts) (λ none. start (sym (op_stays v.ghost s w going may_one) ∙ none)) high)
-        work (both_left (is_offered_work work) (list_all is_offered_work works) offered) may.0 may.1 higher
+        (λ w going may_one all high. works_hold (state_after_work s w) works all
+        (go_on s w going may_one facts) (λ none. start (sym (op_stays v.ghost s w going may_one) ∙ none)) high)
+        work may.0 may.1 higher
 
 -- and what it computes after one
-pub later_hold : (o : Origin) (c : Core) (n pin began : ℕ) (g : Ghost) → Invariant o c → (view_of c.views n).parts ≢ [] → (s : Seat) (works : List Work) → list_all is_offered_work works ≡ true → list_all is_going_on works ≡ true → MayWorkAll g s works →
+pub later_hold : (o : Origin) (c : Core) (n pin began : ℕ) (g : Ghost) → Invariant o c → (view_of c.views n).parts ≢ [] → (s : Seat) (works : List Work) → list_all is_going_on works ≡ true → MayWorkAll g s works →
     Knows o c n s g pin began → Knows o c n (state_after_all_work s works) g pin began
-later_hold o c n pin began g inv unspent s [] offered going may facts = facts
-later_hold o c n pin began g inv unspent s (work ∷ works) offered going may facts =
-    later_hold o c n pin began g inv unspent (state_after_work s work) works (both_right (is_offered_work work) (list_all is_offered_work works) offered) (both_right (is_going_on work) (list_all is_going_on works) going) may.1
-    (going_facts o c n pin began g inv unspent s work (both_left (is_offered_work work) (list_all is_offered_work works) offered) (both_left (is_going_on work) (list_all is_going_on works) going) may.0 facts)
+later_hold o c n pin began g inv unspent s [] going may facts = facts
+later_hold o c n pin began g inv unspent s (work ∷ works) going may facts =
+    later_hold o c n pin began g inv unspent (state_after_work s work) works (both_right (is_going_on work) (list_all is_going_on works) going) may.1
+    (going_facts o c n pin began g inv unspent s work (both_left (is_going_on work) (list_all is_going_on works) going) may.0 facts)

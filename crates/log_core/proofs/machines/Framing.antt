@@ -19,7 +19,6 @@ module _ {M Out : Type 0} (o : Origin) (seat : ℕ) (script : Script M Out) (rec
       → Serves o seat script rec P R → Serves o seat script rec (λ m s g. P m s g × K m s g) (λ out s g. R out s g × E out s g)
   serves_with keeps serves m s g stands = record {
     may = laws.may;
-    offered = laws.offered;
     admitted = laws.admitted;
     enters = laws.enters;
     none_added = laws.none_added;
@@ -35,7 +34,6 @@ module _ {M Out : Type 0} (o : Origin) (seat : ℕ) (script : Script M Out) (rec
   pub serves_as : ((out : Out) (s : Seat) (g : Ghost) → R out s g → E out s g) → Serves o seat script rec P R → Serves o seat script rec P E
   serves_as less serves m s g stands = record {
     may = laws.may;
-    offered = laws.offered;
     admitted = laws.admitted;
     enters = laws.enters;
     none_added = laws.none_added;

@@ -32,7 +32,6 @@ promised script first law o start seat number rest s v linked =
     (record {
       unspent = linked.unspent;
       begins = linked.begins;
-      offered = linked.offered;
       number_is = linked.number_is;
       done = linked.done;
       fits = law.begins o seat s g linked.fits;

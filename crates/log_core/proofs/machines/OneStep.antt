@@ -9,10 +9,11 @@ use Rattle.log_core.specs.Views.{Ghost, view_of}
 use Rattle.log_core.specs.Origin.{Origin, q_of_origin}
 use Rattle.log_core.specs.Cores.{Core}
 use Rattle.log_core.specs.Steps.{Kind, kind_of_ask, effect, ghost_after}
-use Rattle.log_core.specs.May.{May, IsOfferedKind}
+use Rattle.log_core.specs.May.{May}
 use Rattle.log_core.specs.Invariant.{Invariant}
 use Rattle.log_core.specs.Knows.{Knows}
-use Rattle.log_core.specs.Within.{no_record, adds_at, seat_found, ghost_found, EntersOffered, Lawful, Serves}
+use Rattle.log_core.specs.Within.{no_record, adds_at, seat_found, ghost_found, Lawful, Serves}
+use Rattle.log_core.specs.Answers.{Enters}
 use Rattle.log_core.proofs.machines.Entering.{enters_same}
 use Rattle.log_core.proofs.machines.MachineLaws.{IsUnmoved}
 
@@ -29,15 +30,14 @@ pub record HasStepped {Out : Type 0} (s0 : Seat) (g0 : Ghost) (kind : Kind) (out
 
 module _ {M Out : Type 0} (o : Origin) (seat : ℕ) (script : Script M Out) (P : M → Seat → Ghost → Type 0) (m : M) (s : Seat) (g : Ghost) (kind : Kind) (outcome : ℕ → Out)
     (is : kind_of_ask (q_of_origin o) seat (script.asks m s) ≡ kind) (after : (f : ℕ) → script.after m s f ≡ record { machine = m; seat = effect g.marks s kind f; turn = Done (outcome f) })
-    (may : MayAlways o seat s g kind) (offered : IsOfferedKind s kind)
+    (may : MayAlways o seat s g kind)
     (admitted : (c : Core) (pin began : ℕ) → Invariant o c → (view_of c.views seat).parts ≢ [] → Knows o c seat s g pin began → script.admits m s (found_answer c.memory (script.asks m s))) where
   pub one_step : Lawful o seat script no_record P (HasStepped s g kind outcome) m s g
   one_step = record {
     may = λ c pin began inv unspent knows. subst (λ (k : Kind). May o c g s k) (sym is) (may c pin began inv unspent knows);
-    offered = subst (λ (k : Kind). IsOfferedKind s k) (sym is) offered;
     admitted = admitted;
-    enters = λ f found admits. subst (λ (r : After M Out). EntersOffered (ghost_found o seat (script.asks m s) s g f) (seat_found o seat (script.asks m s) s g f) r.seat (adds_at no_record r.seat r.turn)) (sym (after f))
-        (subst (λ (k : Kind). EntersOffered (ghost_after g s (effect g.marks s k f) k f) (effect g.marks s k f) (effect g.marks s kind f) []) (sym is)
+    enters = λ f found admits. subst (λ (r : After M Out). Enters (ghost_found o seat (script.asks m s) s g f) (seat_found o seat (script.asks m s) s g f) r.seat (adds_at no_record r.seat r.turn)) (sym (after f))
+        (subst (λ (k : Kind). Enters (ghost_after g s (effect g.marks s k f) k f) (effect g.marks s k f) (effect g.marks s kind f) []) (sym is)
         (enters_same (ghost_after g s (effect g.marks s kind f) kind f) (effect g.marks s kind f) (effect g.marks s kind f) refl));
     none_added = λ f found admits. subst (λ (r : After M Out). adds_at no_record r.seat r.turn ≡ []) (sym (after f)) refl;
     goes = λ f found admits go. absurd (never (outcome f) (sym (ap (λ (r : After M Out). r.turn) (after f)) ∙ go));

@@ -13,9 +13,9 @@ use Rattle.log_core.specs.Views.{Ghost}
 use Rattle.log_core.specs.Origin.{Origin, q_of_origin}
 use Rattle.log_core.specs.Works.{Work, MayWorkAll, state_after_work, state_after_all_work, is_going_on}
 use Rattle.log_core.specs.Steps.{kind_of_ask}
-use Rattle.log_core.specs.May.{May, IsOfferedKind}
-use Rattle.log_core.specs.Runs.{is_offered_work}
-use Rattle.log_core.specs.Within.{no_record, adds_at, seat_found, ghost_found, IsFound, EntersOffered, Lawful, Serves, FitsNext}
+use Rattle.log_core.specs.May.{May}
+use Rattle.log_core.specs.Answers.{Enters}
+use Rattle.log_core.specs.Within.{no_record, adds_at, seat_found, ghost_found, IsFound, Lawful, Serves, FitsNext}
 use Rattle.log_core.proofs.machines.Entering.{none_at}
 
 -- computations after others
@@ -36,24 +36,21 @@ all_more f (work ∷ first) second all more = by (f work) (λ rest. all_more f f
     by false rest e = cc
 
 -- what enters after a part, and what enters after that
-pub enters_more : (g : Ghost) (e t u : Seat) (adds : List Call) → EntersOffered g e t [] → EntersOffered g t u adds → EntersOffered g e u adds
+pub enters_more : (g : Ghost) (e t u : Seat) (adds : List Call) → Enters g e t [] → Enters g t u adds → Enters g e u adds
 enters_more g e t u adds part more =
-    (let first = part.enters.computed.works in
-    let second = more.enters.computed.works in
-    let at : t ≡ state_after_all_work e first = part.enters.seat_is ∙ part.enters.computed.gives in
+    (let first = part.computed.works in
+    let second = more.computed.works in
+    let at : t ≡ state_after_all_work e first = part.seat_is ∙ part.computed.gives in
     record {
-      enters = record {
-        last = more.enters.last;
-        computed = record {
-          works = first ++ second;
-          may = may_more g e first second part.enters.computed.may (subst (λ (s : Seat). MayWorkAll g s second) at more.enters.computed.may);
-          gives = more.enters.computed.gives ∙ (ap (λ (s : Seat). state_after_all_work s second) at ∙ sym (worked_more e first second));
-        };
-        going_on = all_more is_going_on first second part.enters.going_on more.enters.going_on;
-        adds_are = more.enters.adds_are;
-        seat_is = more.enters.seat_is;
+      last = more.last;
+      computed = record {
+        works = first ++ second;
+        may = may_more g e first second part.computed.may (subst (λ (s : Seat). MayWorkAll g s second) at more.computed.may);
+        gives = more.computed.gives ∙ (ap (λ (s : Seat). state_after_all_work s second) at ∙ sym (worked_more e first second));
       };
-      offered = all_more is_offered_work first second part.offered more.offered;
+      going_on = all_more is_going_on first second part.going_on more.going_on;
+      adds_are = more.adds_are;
+      seat_is = more.seat_is;
     })
 
 module _ {A C OutA Out : Type 0} (o : Origin) (seat : ℕ) (part : Script A OutA) (whole : Script C Out) (rec : Out → Seat → List Call) (inject : A → C) (next : OutA → Seat → Next C Out)
@@ -62,7 +59,7 @@ module _ {A C OutA Out : Type 0} (o : Origin) (seat : ℕ) (part : Script A OutA
     (joins : (m : A) (s : Seat) (g : Ghost) (a : ℕ) → P m s g → IsFound o seat s g (part.asks m s) a → part.admits m s a → whole.admits (inject m) s a)
     (on_part : (m : A) (s : Seat) (g : Ghost) → P m s g → PC (inject m) s g) (on_next : (out : OutA) (t : Seat) (g : Ghost) → R out t g → FitsNext rec PC RC t g (next out t)) where
   -- the whole after its part, by the part's turn
-  moved_enters : (g : Ghost) (e t : Seat) (m : C) (n : Next C Out) → EntersOffered g e t [] → FitsNext rec PC RC t g n → EntersOffered g e (moved m n).seat (adds_at rec (moved m n).seat (moved m n).turn)
+  moved_enters : (g : Ghost) (e t : Seat) (m : C) (n : Next C Out) → Enters g e t [] → FitsNext rec PC RC t g n → Enters g e (moved m n).seat (adds_at rec (moved m n).seat (moved m n).turn)
   moved_enters g e t m (Into c u) first fits = enters_more g e t u [] first fits.0
   moved_enters g e t m (End out u) first fits = enters_more g e t u (rec out u) first fits.0
 
@@ -78,8 +75,8 @@ module _ {A C OutA Out : Type 0} (o : Origin) (seat : ℕ) (part : Script A OutA
   moved_ends g t m (Into c u) out fits done = cc
   moved_ends g t m (End end u) out fits done = (let same : end ≡ out = cc in subst (λ (x : Out). RC x u g) same fits.2)
 
-  at_enters : (g : Ghost) (e t : Seat) (m : A) (turn : Turn OutA) → EntersOffered g e t [] → ((out : OutA) → turn ≡ Done out → R out t g) →
-      EntersOffered g e (onward_at inject next m t turn).seat (adds_at rec (onward_at inject next m t turn).seat (onward_at inject next m t turn).turn)
+  at_enters : (g : Ghost) (e t : Seat) (m : A) (turn : Turn OutA) → Enters g e t [] → ((out : OutA) → turn ≡ Done out → R out t g) →
+      Enters g e (onward_at inject next m t turn).seat (adds_at rec (onward_at inject next m t turn).seat (onward_at inject next m t turn).turn)
   at_enters g e t m Go first ends = first
   at_enters g e t m (Done out) first ends = moved_enters g e t (inject m) (next out t) first (on_next out t g (ends out refl))
 
@@ -111,8 +108,8 @@ module _ {A C OutA Out : Type 0} (o : Origin) (seat : ℕ) (part : Script A OutA
       found : (f : ℕ) → IsFound o seat s g (whole.asks (inject m) s) f → IsFound o seat s g (part.asks m s) f
       found f is = subst (λ (ask : Ask). IsFound o seat s g ask f) (sym asks) is
 
-      first : (f : ℕ) → IsFound o seat s g (part.asks m s) f → part.admits m s f → EntersOffered (ghost_found o seat (part.asks m s) s g f) (seat_found o seat (part.asks m s) s g f) (part.after m s f).seat []
-      first f is admits = subst (λ (adds : List Call). EntersOffered (ghost_found o seat (part.asks m s) s g f) (seat_found o seat (part.asks m s) s g f) (part.after m s f).seat adds)
+      first : (f : ℕ) → IsFound o seat s g (part.asks m s) f → part.admits m s f → Enters (ghost_found o seat (part.asks m s) s g f) (seat_found o seat (part.asks m s) s g f) (part.after m s f).seat []
+      first f is admits = subst (λ (adds : List Call). Enters (ghost_found o seat (part.asks m s) s g f) (seat_found o seat (part.asks m s) s g f) (part.after m s f).seat adds)
           (none_at (part.after m s f).seat (part.after m s f).turn) (laws.enters f is admits)
 
       ends_so : (f : ℕ) → IsFound o seat s g (whole.asks (inject m) s) f → whole.admits (inject m) s f → (out : OutA) → (part.after m s f).turn ≡ Done out → R out (part.after m s f).seat (ghost_found o seat (part.asks m s) s g f)
@@ -121,11 +118,10 @@ module _ {A C OutA Out : Type 0} (o : Origin) (seat : ℕ) (part : Script A OutA
       lawful : Lawful o seat whole rec PC RC (inject m) s g
       lawful = record {
         may = λ c pin began inv unspent knows. subst (λ (ask : Ask). May o c g s (kind_of_ask (q_of_origin o) seat ask)) asks (laws.may c pin began inv unspent knows);
-        offered = subst (λ (ask : Ask). IsOfferedKind s (kind_of_ask (q_of_origin o) seat ask)) asks laws.offered;
         admitted = λ c pin began inv unspent knows. subst (λ (ask : Ask). whole.admits (inject m) s (found_answer c.memory ask)) asks
             (joins m s g (found_answer c.memory (part.asks m s)) stands (record { core = c; pin = pin; began = began; holds = inv; unspent = unspent; knows = knows; is = refl }) (laws.admitted c pin began inv unspent knows));
-        enters = λ f is may. subst (λ (ask : Ask). EntersOffered (ghost_found o seat ask s g f) (seat_found o seat ask s g f) (whole.after (inject m) s f).seat (adds_at rec (whole.after (inject m) s f).seat (whole.after (inject m) s f).turn)) asks
-            (subst (λ (r : After C Out). EntersOffered (ghost_found o seat (part.asks m s) s g f) (seat_found o seat (part.asks m s) s g f) r.seat (adds_at rec r.seat r.turn)) (same f)
+        enters = λ f is may. subst (λ (ask : Ask). Enters (ghost_found o seat ask s g f) (seat_found o seat ask s g f) (whole.after (inject m) s f).seat (adds_at rec (whole.after (inject m) s f).seat (whole.after (inject m) s f).turn)) asks
+            (subst (λ (r : After C Out). Enters (ghost_found o seat (part.asks m s) s g f) (seat_found o seat (part.asks m s) s g f) r.seat (adds_at rec r.seat r.turn)) (same f)
             (at_enters (ghost_found o seat (part.asks m s) s g f) (seat_found o seat (part.asks m s) s g f) (part.after m s f).seat (part.after m s f).machine (part.after m s f).turn (first f (found f is) (leaves m s f may)) (ends_so f is may)));
         none_added = λ f is may. subst (λ (r : After C Out). adds_at rec r.seat r.turn ≡ []) (same f)
             (at_none (ghost_found o seat (part.asks m s) s g f) (part.after m s f).seat (part.after m s f).machine (part.after m s f).turn (ends_so f is may));

@@ -1,7 +1,6 @@
 -- A machine that is lawful leads to its end within a core, whatever others do. `OverPlain` says the same over a plain memory whose
 -- words are a core's.
 use Rattle.std.proofs.Common.{◌≡◌, ◌≢◌, ◌<◌, ℕ, Bool, true, false, List, [], ◌++◌, length, refl, sym, ◌∙◌, ap, subst, slice_index, Option, Some, None, append-nil}
-use Rattle.std.specs.List.{list_all}
 use Rattle.log_entry.specs.declared.calls.Op.{Op}
 use Rattle.log_entry.specs.declared.calls.Call.{Call}
 use Rattle.pmem_words.specs.Seats.{Seat}
@@ -17,7 +16,7 @@ use Rattle.log_core.specs.Works.{Computes}
 use Rattle.log_core.specs.Steps.{Does, Kind, kind_of_ask, effect, is_begun, ghost_begun, ghost_after, ghost_ended, call_if, view_after}
 use Rattle.log_core.specs.After.{began_if}
 use Rattle.log_core.specs.Files.{end_of}
-use Rattle.log_core.specs.Runs.{MayNumber, Allowed, IsReached, is_offered_work}
+use Rattle.log_core.specs.Runs.{MayNumber, Allowed, IsReached}
 use Rattle.log_core.specs.Invariant.{Invariant}
 use Rattle.log_core.specs.Knows.{Knows}
 use Rattle.log_core.specs.Within.{note_of, Did, within, IsFound, Lawful, Serves, IsLinkedToView, IsLeft}
@@ -46,15 +45,15 @@ reached_keeps o start c reached = subst (λ (x : Core). Invariant o x) reached.e
 
 module _ (o : Origin) (start : Invariant o (first_core o)) (seat number : ℕ) where
   -- what a core knows of the state that a seat has computed from its view
-  pub knows_here : (c : Core) (s : Seat) → Invariant o c → seat < length c.views → (view_of c.views seat).parts ≢ [] → (begins : Computes (view_of c.views seat).ghost (view_of c.views seat).seat s) → list_all is_offered_work begins.works ≡ true →
+  pub knows_here : (c : Core) (s : Seat) → Invariant o c → seat < length c.views → (view_of c.views seat).parts ≢ [] → (begins : Computes (view_of c.views seat).ghost (view_of c.views seat).seat s) →
       MayNumber (is_begun (op_in (view_of c.views seat).seat) (op_in s)) (view_of c.views seat).ghost.call.number number →
       Knows o c seat s (ghost_begun (view_of c.views seat).ghost (view_of c.views seat).seat s number) (slice_index c.memory.now.pins seat)
       (slice_index (began_if (is_begun (op_in (view_of c.views seat).seat) (op_in s)) c.began seat (end_of o c.history)) seat)
-  knows_here c s inv here unspent begins offered number_is = subst
+  knows_here c s inv here unspent begins number_is = subst
       (λ (t : Seat). MayNumber (is_begun (op_in (view_of c.views seat).seat) (op_in t)) (view_of c.views seat).ghost.call.number number →
       Knows o c seat t (ghost_begun (view_of c.views seat).ghost (view_of c.views seat).seat t number) (slice_index c.memory.now.pins seat) (slice_index (began_if (is_begun (op_in (view_of c.views seat).seat) (op_in t)) c.began seat (end_of o c.history)) seat))
       (sym begins.gives)
-      (λ higher. works_hold o c seat (slice_index c.memory.now.pins seat) number inv unspent (view_of c.views seat).seat begins.works offered begins.may
+      (λ higher. works_hold o c seat (slice_index c.memory.now.pins seat) number inv unspent (view_of c.views seat).seat begins.works begins.may
       (rw (stays (op_in (view_of c.views seat).seat)) (facts_of o c seat inv here)) (λ e. e) higher)
       number_is
 
@@ -71,7 +70,7 @@ module _ (o : Origin) (start : Invariant o (first_core o)) (seat number : ℕ) w
     admitted_at m s c inv here linked =
         (serves m s (ghost_begun (view_of c.views seat).ghost (view_of c.views seat).seat s number) linked.fits).admitted c (slice_index c.memory.now.pins seat)
         (slice_index (began_if (is_begun (op_in (view_of c.views seat).seat) (op_in s)) c.began seat (end_of o c.history)) seat) inv linked.unspent
-        (knows_here c s inv here linked.unspent linked.begins linked.offered linked.number_is)
+        (knows_here c s inv here linked.unspent linked.begins linked.number_is)
 
     -- it is what may be found
     found_at : (m : M) (s : Seat) (c : Core) → Invariant o c → seat < length c.views → IsLinkedToView number rest (P m) s (view_of c.views seat) →
@@ -82,7 +81,7 @@ module _ (o : Origin) (start : Invariant o (first_core o)) (seat number : ℕ) w
       began = slice_index (began_if (is_begun (op_in (view_of c.views seat).seat) (op_in s)) c.began seat (end_of o c.history)) seat;
       holds = inv;
       unspent = linked.unspent;
-      knows = knows_here c s inv here linked.unspent linked.begins linked.offered linked.number_is;
+      knows = knows_here c s inv here linked.unspent linked.begins linked.number_is;
       is = refl;
     }
 
@@ -95,18 +94,15 @@ module _ (o : Origin) (start : Invariant o (first_core o)) (seat number : ℕ) w
         let admits = admitted_at m s c inv here linked in
         let is = found_at m s c inv here linked in
         record {
-          fits = record {
-            made = here;
-            unspent = linked.unspent;
-            step = record {
-              begins = linked.begins;
-              number = linked.number_is;
-              may = laws.may c (slice_index c.memory.now.pins seat) (slice_index (began_if (is_begun (op_in (view_of c.views seat).seat) (op_in s)) c.began seat (end_of o c.history)) seat) inv linked.unspent
-                  (knows_here c s inv here linked.unspent linked.begins linked.offered linked.number_is);
-              enters = (laws.enters f is admits).enters;
-            };
+          made = here;
+          unspent = linked.unspent;
+          step = record {
+            begins = linked.begins;
+            number = linked.number_is;
+            may = laws.may c (slice_index c.memory.now.pins seat) (slice_index (began_if (is_begun (op_in (view_of c.views seat).seat) (op_in s)) c.began seat (end_of o c.history)) seat) inv linked.unspent
+                (knows_here c s inv here linked.unspent linked.begins linked.number_is);
+            enters = laws.enters f is admits;
           };
-          offered = record { kind = laws.offered; before = linked.offered; later = (laws.enters f is admits).offered };
         })
 
     linked_to : (m : M) (s : Seat) (v : View) (c : Core) → view_of c.views seat ≡ v → IsLinkedToView number rest (P m) s v → IsLinkedToView number rest (P m) s (view_of c.views seat)
@@ -151,7 +147,6 @@ module _ (o : Origin) (start : Invariant o (first_core o)) (seat number : ℕ) w
             (record {
               unspent = linked.unspent;
               begins = record { works = []; may = tt; gives = refl };
-              offered = refl;
               number_is = number_stays (op_in (script.after m s f).seat) u.ghost.call.number number
                   (number_after (is_begun (op_in v.seat) (op_in s)) v.ghost.call number linked.number_is);
               done = done_of m s v f is admits linked;

@@ -74,7 +74,7 @@ bytes_held zero block at found inside =
     (below_same 64 (λ k. slice_index (word_bytes (content_of (seat_zero racing) 1)) k) (λ k. slice_index (170 ∷ []) (0 * 64 + k)) at refl inside)
 bytes_held (suc virt) block at found inside = absurd (none_not_some block (sym (names_none (direct_meaning to_first) (suc virt) (omega arith)) ∙ found))
 
-rest_held : (virt at : ℕ) → block_in (direct_meaning to_first) virt ≡ None → at < 64 → slice_index [] (virt * 64 + at) ≡ slice_index (170 ∷ []) (virt * 64 + at)
+pub rest_held : (virt at : ℕ) → block_in (direct_meaning to_first) virt ≡ None → at < 64 → slice_index [] (virt * 64 + at) ≡ slice_index (170 ∷ []) (virt * 64 + at)
 rest_held zero at none inside = absurd (some_not_none 1 none)
 rest_held (suc virt) at none inside = sym (get_or_past (170 ∷ []) (suc virt * 64 + at) 0 (omega arith))
 
@@ -85,7 +85,7 @@ byte_of s entry op job may virt block at found inside =
     subst (λ (o : Op). byte_in (λ other. content_of s other) (Some block) at ≡ slice_index (file_after (file_at image_a [] s.walk.position) o (accepted_reply o s.walk.size)) (virt * s.geometry.block_bytes + at))
     (ap op_or_size (sym may.job ∙ job)) (may.holds virt block at found inside)
 
-size_of : (s : Seat) (entry : ℕ) (op : Op) → op_in s ≡ Some op → MayCommit image_a [] s 27 entry
+pub size_of : (s : Seat) (entry : ℕ) (op : Op) → op_in s ≡ Some op → MayCommit image_a [] s 27 entry
     → max s.walk.size (entry_end (seat_shape s) (new_meaning s entry)) ≡ length (file_after (file_at image_a [] s.walk.position) op (accepted_reply op s.walk.size))
 size_of s entry op job may =
     subst (λ (o : Op). max s.walk.size (entry_end (seat_shape s) (new_meaning s entry)) ≡ length (file_after (file_at image_a [] s.walk.position) o (accepted_reply o s.walk.size)))

@@ -1,11 +1,10 @@
 -- A run from the just-made image takes a block, fills and fences it, and gives it back.
-use Rattle.std.proofs.Common.{◌/◌, ◌≡◌, ◌≢◌, ◌<◌, ◌+◌, ℕ, zero, suc, true, [], ◌∷◌, refl, ap, subst, sym, arith, length, Option, None, Some}
+use Rattle.std.proofs.Common.{◌/◌, ◌≡◌, ◌≢◌, ◌<◌, ◌+◌, ℕ, zero, suc, true, [], ◌∷◌, refl, ap, subst, arith, length, Option, None, Some}
 use Rattle.std.proofs.lemmas.Bool.{false≢true}
 use Rattle.log_core.specs.Origin.{Origin}
 use Rattle.log_core.specs.Cores.{Core}
-use Rattle.log_core.specs.Steps.{Step, is_begun}
-use Rattle.log_core.specs.After.{after}
-use Rattle.log_core.specs.Runs.{Allowed, MayNumber, IsReached}
+use Rattle.log_core.specs.Steps.{is_begun}
+use Rattle.log_core.specs.Runs.{MayNumber, IsReached}
 use Rattle.log_core.specs.Starts.{IsStart}
 use Rattle.log_core.specs.Invariant.{Invariant}
 use Rattle.log_core.specs.worked_rows.Samples.{image_a, stepping, number_in}
@@ -22,24 +21,17 @@ use Rattle.log_core.specs.May.{MayStoreWord, OfOwned}
 use Rattle.log_core.specs.worked_rows.Rows.{pinned}
 use Rattle.log_core.specs.worked_rows.Refused.{seat_zero}
 use Rattle.log_core.specs.worked_rows.Accepted.{pin_steps}
-use Rattle.log_core.specs.worked_rows.Offered.{own_taken, own_stored, own_marked, own_fenced, own_given, BlockRuns}
+use Rattle.log_core.specs.worked_rows.AllowedSteps.{own_taken, own_stored, own_marked, own_fenced, own_given, BlockRuns}
 use Rattle.log_core.proofs.row_checks.RowsRun.{pin_runs}
 use Rattle.log_core.proofs.row_checks.RowsTaken.{all_among}
 use Rattle.log_core.proofs.row_checks.RowsWrong.{one_part}
-use Rattle.log_core.proofs.row_checks.RowsOffered.{step_allowed}
+use Rattle.log_core.proofs.row_checks.RowsAllowed.{step_reached}
 use Rattle.log_core.proofs.row_checks.RowTells.{is_sync}
 use Rattle.log_core.proofs.row_checks.RowsStart.{image_starts}
 use Rattle.log_core.proofs.kinds.RunHolds.{run_from}
 use Rattle.log_core.proofs.starts.StartMeets.{start_meets}
 
--- a run goes on with a step that is allowed, and the invariant holds where it comes to
-pub reach : {o : Origin} {c : Core} {step : Step} → IsReached o c → Allowed o c step → IsReached o (after o c step)
-reach {o} {c} {step} run allowed = record {
-  steps = step ∷ run.steps;
-  is_run = (run.is_run, subst (λ (from : Core). Allowed o from step) (sym run.ends) allowed);
-  ends = ap (λ (from : Core). after o from step) run.ends;
-}
-
+-- the invariant holds where a run comes to
 pub reached_holds : (o : Origin) (c : Core) → IsStart o → IsReached o c → Invariant o c
 reached_holds o c start run = subst (λ (from : Core). Invariant o from) run.ends (run_from o run.steps (start_meets o start) run.is_run)
 
@@ -48,14 +40,14 @@ same_call : (call : Option Op) (number : ℕ) → MayNumber (is_begun call call)
 same_call None number = refl
 same_call (Some op) number = refl
 
--- seat 0 sets and stores a word of block 1, which it owns first
-store_next : {c : Core} (word value : ℕ) → IsReached image_a c → 0 < length c.views → (view_of c.views 0).parts ≢ [] → MaySetWord (seat_zero c) 0 word value → MayStoreWord (state_after_work (seat_zero c) (SetsWord 0 word value)) (8 + word) value
-    → IsReached image_a (stepping image_a c 0 (Store (Image (8 + word)) value) (number_in c 0) (SetsWord 0 word value ∷ []) [])
-store_next {c} word value run made unspent sets stores = reach run (step_allowed image_a c 0 (number_in c 0) (Store (Image (8 + word)) value) (SetsWord 0 word value ∷ []) made unspent (sets, tt) (same_call (op_in (seat_zero c)) (number_in c 0)) stores tt refl)
+-- seat 0 sets and stores a word of the block that it owns first, whose words begin there
+pub store_next : {c : Core} (first word value : ℕ) → IsReached image_a c → 0 < length c.views → (view_of c.views 0).parts ≢ [] → MaySetWord (seat_zero c) 0 word value → MayStoreWord (state_after_work (seat_zero c) (SetsWord 0 word value)) (first + word) value
+    → IsReached image_a (stepping image_a c 0 (Store (Image (first + word)) value) (number_in c 0) (SetsWord 0 word value ∷ []) [])
+store_next {c} first word value run made unspent sets stores = step_reached image_a c 0 (number_in c 0) (Store (Image (first + word)) value) (SetsWord 0 word value ∷ []) run made unspent (sets, tt) (same_call (op_in (seat_zero c)) (number_in c 0)) stores
 
 -- and marks it
-mark_next : {c : Core} (word : ℕ) → IsReached image_a c → 0 < length c.views → (view_of c.views 0).parts ≢ [] → is_listed (owned_numbers (seat_zero c).blocks.owned) ((8 + word) / words_of (seat_zero c)) ≡ true → (seat_zero c).calling.job ≢ Sync → IsReached image_a (stepping image_a c 0 (Mark (8 + word)) (number_in c 0) [] [])
-mark_next {c} word run made unspent own no_sync = reach run (step_allowed image_a c 0 (number_in c 0) (Mark (8 + word)) [] made unspent tt (same_call (op_in (seat_zero c)) (number_in c 0)) (OfOwned own no_sync) tt refl)
+pub mark_next : {c : Core} (first word : ℕ) → IsReached image_a c → 0 < length c.views → (view_of c.views 0).parts ≢ [] → is_listed (owned_numbers (seat_zero c).blocks.owned) ((first + word) / words_of (seat_zero c)) ≡ true → (seat_zero c).calling.job ≢ Sync → IsReached image_a (stepping image_a c 0 (Mark (first + word)) (number_in c 0) [] [])
+mark_next {c} first word run made unspent own no_sync = step_reached image_a c 0 (number_in c 0) (Mark (first + word)) [] run made unspent tt (same_call (op_in (seat_zero c)) (number_in c 0)) (OfOwned own no_sync)
 
 no_sync_runs : Pwrite 0 ≢ Sync
 no_sync_runs same = false≢true (ap is_sync same)
@@ -63,31 +55,31 @@ no_sync_runs same = false≢true (ap is_sync same)
 taken_reached : IsReached image_a own_taken
 taken_reached =
     let run : IsReached image_a pinned = record { steps = pin_steps; is_run = pin_runs.0; ends = pin_runs.1 } in
-    let loaded = reach run (step_allowed image_a pinned 0 1 (Load (Map 0)) [] (omega arith) (one_part 0) tt refl (record { inside = omega arith; area = Data; lacks = omega arith }) tt refl) in
-    reach loaded (step_allowed image_a _ 0 1 (SetBits (Map 0) 2) [] (omega arith) (one_part 0) tt refl
-    (record { inside = omega arith; area = Data; in_area = all_among 2 (λ block. is_in_area (seat_shape (seat_zero pinned)) Data block) refl; few = omega arith }) tt refl)
+    let loaded = step_reached image_a pinned 0 1 (Load (Map 0)) [] run (omega arith) (one_part 0) tt refl (record { inside = omega arith; area = Data; lacks = omega arith }) in
+    step_reached image_a _ 0 1 (SetBits (Map 0) 2) [] loaded (omega arith) (one_part 0) tt refl
+    (record { inside = omega arith; area = Data; in_area = all_among 2 (λ block. is_in_area (seat_shape (seat_zero pinned)) Data block) refl; few = omega arith })
 
 stored_reached : IsReached image_a own_stored
 stored_reached =
-    let stored_0 = store_next 0 170 taken_reached (omega arith) (one_part 0) (record { owned = omega arith; inside = omega arith; small = omega arith }) (record { owned = refl; small = omega arith }) in
-    let stored_1 = store_next 1 0 stored_0 (omega arith) (one_part 0) (record { owned = omega arith; inside = omega arith; small = omega arith }) (record { owned = refl; small = omega arith }) in
-    let stored_2 = store_next 2 0 stored_1 (omega arith) (one_part 0) (record { owned = omega arith; inside = omega arith; small = omega arith }) (record { owned = refl; small = omega arith }) in
-    let stored_3 = store_next 3 0 stored_2 (omega arith) (one_part 0) (record { owned = omega arith; inside = omega arith; small = omega arith }) (record { owned = refl; small = omega arith }) in
-    let stored_4 = store_next 4 0 stored_3 (omega arith) (one_part 0) (record { owned = omega arith; inside = omega arith; small = omega arith }) (record { owned = refl; small = omega arith }) in
-    let stored_5 = store_next 5 0 stored_4 (omega arith) (one_part 0) (record { owned = omega arith; inside = omega arith; small = omega arith }) (record { owned = refl; small = omega arith }) in
-    let stored_6 = store_next 6 0 stored_5 (omega arith) (one_part 0) (record { owned = omega arith; inside = omega arith; small = omega arith }) (record { owned = refl; small = omega arith }) in
-    store_next 7 0 stored_6 (omega arith) (one_part 0) (record { owned = omega arith; inside = omega arith; small = omega arith }) (record { owned = refl; small = omega arith })
+    let stored_0 = store_next 8 0 170 taken_reached (omega arith) (one_part 0) (record { owned = omega arith; inside = omega arith; small = omega arith }) (record { owned = refl; small = omega arith }) in
+    let stored_1 = store_next 8 1 0 stored_0 (omega arith) (one_part 0) (record { owned = omega arith; inside = omega arith; small = omega arith }) (record { owned = refl; small = omega arith }) in
+    let stored_2 = store_next 8 2 0 stored_1 (omega arith) (one_part 0) (record { owned = omega arith; inside = omega arith; small = omega arith }) (record { owned = refl; small = omega arith }) in
+    let stored_3 = store_next 8 3 0 stored_2 (omega arith) (one_part 0) (record { owned = omega arith; inside = omega arith; small = omega arith }) (record { owned = refl; small = omega arith }) in
+    let stored_4 = store_next 8 4 0 stored_3 (omega arith) (one_part 0) (record { owned = omega arith; inside = omega arith; small = omega arith }) (record { owned = refl; small = omega arith }) in
+    let stored_5 = store_next 8 5 0 stored_4 (omega arith) (one_part 0) (record { owned = omega arith; inside = omega arith; small = omega arith }) (record { owned = refl; small = omega arith }) in
+    let stored_6 = store_next 8 6 0 stored_5 (omega arith) (one_part 0) (record { owned = omega arith; inside = omega arith; small = omega arith }) (record { owned = refl; small = omega arith }) in
+    store_next 8 7 0 stored_6 (omega arith) (one_part 0) (record { owned = omega arith; inside = omega arith; small = omega arith }) (record { owned = refl; small = omega arith })
 
 marked_reached : IsReached image_a own_marked
 marked_reached =
-    let marked_7 = mark_next 7 stored_reached (omega arith) (one_part 0) refl no_sync_runs in
-    let marked_6 = mark_next 6 marked_7 (omega arith) (one_part 0) refl no_sync_runs in
-    let marked_5 = mark_next 5 marked_6 (omega arith) (one_part 0) refl no_sync_runs in
-    let marked_4 = mark_next 4 marked_5 (omega arith) (one_part 0) refl no_sync_runs in
-    let marked_3 = mark_next 3 marked_4 (omega arith) (one_part 0) refl no_sync_runs in
-    let marked_2 = mark_next 2 marked_3 (omega arith) (one_part 0) refl no_sync_runs in
-    let marked_1 = mark_next 1 marked_2 (omega arith) (one_part 0) refl no_sync_runs in
-    mark_next 0 marked_1 (omega arith) (one_part 0) refl no_sync_runs
+    let marked_7 = mark_next 8 7 stored_reached (omega arith) (one_part 0) refl no_sync_runs in
+    let marked_6 = mark_next 8 6 marked_7 (omega arith) (one_part 0) refl no_sync_runs in
+    let marked_5 = mark_next 8 5 marked_6 (omega arith) (one_part 0) refl no_sync_runs in
+    let marked_4 = mark_next 8 4 marked_5 (omega arith) (one_part 0) refl no_sync_runs in
+    let marked_3 = mark_next 8 3 marked_4 (omega arith) (one_part 0) refl no_sync_runs in
+    let marked_2 = mark_next 8 2 marked_3 (omega arith) (one_part 0) refl no_sync_runs in
+    let marked_1 = mark_next 8 1 marked_2 (omega arith) (one_part 0) refl no_sync_runs in
+    mark_next 8 0 marked_1 (omega arith) (one_part 0) refl no_sync_runs
 
 each_marked : (word : ℕ) → word < 8
     → stored_at (view_of own_marked.views 0).ghost.stored (8 + word) ≡ Some (record { word = 8 + word; value = content_word (seat_zero own_marked) 0 word; marked = true })
@@ -101,13 +93,13 @@ each_marked (suc (suc (suc (suc (suc (suc zero)))))) less = refl
 each_marked (suc (suc (suc (suc (suc (suc (suc zero))))))) less = refl
 each_marked (suc (suc (suc (suc (suc (suc (suc (suc word)))))))) less = absurd (omega (arith, less))
 
-fenced_reached : IsReached image_a own_fenced
-fenced_reached = reach marked_reached (step_allowed image_a own_marked 0 1 Fence (CountsFilled 0 ∷ []) (omega arith) (one_part 0) (record { owned = omega arith; each = each_marked }, tt) refl
-    (record { in_sync = λ sync tail none. absurd (no_sync_runs sync) }) tt refl)
+pub fenced_reached : IsReached image_a own_fenced
+fenced_reached = step_reached image_a own_marked 0 1 Fence (CountsFilled 0 ∷ []) marked_reached (omega arith) (one_part 0) (record { owned = omega arith; each = each_marked }, tt) refl
+    (record { in_sync = λ sync tail none. absurd (no_sync_runs sync) })
 
 given_reached : IsReached image_a own_given
-given_reached = reach fenced_reached (step_allowed image_a own_fenced 0 1 (ClearBits (Map 0) 2) [] (omega arith) (one_part 0) tt refl
-    (record { inside = omega arith; small = omega arith; given = Rattle.log_core.specs.May.AreGivenBack.OfOwned (all_among 2 (λ block. is_listed (owned_numbers (seat_zero own_fenced).blocks.owned) block) refl) }) tt refl)
+given_reached = step_reached image_a own_fenced 0 1 (ClearBits (Map 0) 2) [] fenced_reached (omega arith) (one_part 0) tt refl
+    (record { inside = omega arith; small = omega arith; given = Rattle.log_core.specs.May.AreGivenBack.OfOwned (all_among 2 (λ block. is_listed (owned_numbers (seat_zero own_fenced).blocks.owned) block) refl) })
 
 pub block_runs : BlockRuns
 block_runs = (

@@ -22,74 +22,62 @@ pin_runs = (
       (
         tt,
         record {
-          fits = record {
-            made = omega arith;
-            unspent = one_part 0;
-            step = record {
-              begins = record {
-                works = Begins (Pwrite 0) (170 ∷ []) ∷ [];
-                may = (record { none_runs = refl; not_won = refl; no_head = refl; no_marks = refl; none_laid = refl; steps = makes_steps }, tt);
-                gives = refl;
-              };
-              number = omega arith;
-              may = tt;
-              enters = record { last = _; computed = record { works = []; may = tt; gives = refl }; going_on = refl; adds_are = tt; seat_is = refl };
-            };
-          };
-          offered = record { kind = tt; before = refl; later = refl };
-        },
-      ),
-      record {
-        fits = record {
           made = omega arith;
           unspent = one_part 0;
           step = record {
-            begins = record { works = []; may = tt; gives = refl };
-            number = refl;
-            may = record { value_is = inr (λ none. omega (arith, none), refl); no_marks = λ sync. refl };
+            begins = record {
+              works = Begins (Pwrite 0) (170 ∷ []) ∷ [];
+              may = (record { none_runs = refl; not_won = refl; no_head = refl; no_marks = refl; none_laid = refl; steps = makes_steps }, tt);
+              gives = refl;
+            };
+            number = omega arith;
+            may = tt;
             enters = record { last = _; computed = record { works = []; may = tt; gives = refl }; going_on = refl; adds_are = tt; seat_is = refl };
           };
-        };
-        offered = record { kind = tt; before = refl; later = refl };
-      },
-    ),
-    record {
-      fits = record {
+        },
+      ),
+      record {
         made = omega arith;
         unspent = one_part 0;
         step = record {
           begins = record { works = []; may = tt; gives = refl };
           number = refl;
-          may = tt;
+          may = record { value_is = inr (λ none. omega (arith, none), refl); no_marks = λ sync. refl };
           enters = record { last = _; computed = record { works = []; may = tt; gives = refl }; going_on = refl; adds_are = tt; seat_is = refl };
         };
+      },
+    ),
+    record {
+      made = omega arith;
+      unspent = one_part 0;
+      step = record {
+        begins = record { works = []; may = tt; gives = refl };
+        number = refl;
+        may = tt;
+        enters = record { last = _; computed = record { works = []; may = tt; gives = refl }; going_on = refl; adds_are = tt; seat_is = refl };
       };
-      offered = record { kind = tt; before = refl; later = refl };
     },
   ),
   refl,
 )
 
 pub write_fits : WriteFits
-write_fits = (
-  record {
-    made = omega arith;
-    unspent = one_part 0;
-    step = record {
-      begins = record { works = []; may = tt; gives = refl };
-      number = refl;
-      may = (λ seal. absurd (omega (arith, seal)), λ entry. entry_may_be_put.0);
-      enters = record {
-        last = _;
-        computed = record { works = []; may = tt; gives = refl };
-        going_on = refl;
-        adds_are = record { at_tail = refl; position = refl; seat = refl; number = refl; op = refl; fits = refl };
-        seat_is = refl;
-      };
+write_fits = record {
+  made = omega arith;
+  unspent = one_part 0;
+  step = record {
+    begins = record { works = []; may = tt; gives = refl };
+    number = refl;
+    may = (λ seal. absurd (omega (arith, seal)), λ entry. entry_may_be_put.0);
+    enters = record {
+      last = _;
+      computed = record { works = []; may = tt; gives = refl };
+      going_on = refl;
+      adds_are = record { at_tail = refl; position = refl; seat = refl; number = refl; op = refl; fits = refl };
+      seat_is = refl;
     };
-  },
-  λ allowed. allowed.offered.kind,
-)
+  };
+}
 
 pub views_join : ViewsJoin
 views_join = (

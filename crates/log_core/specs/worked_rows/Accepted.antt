@@ -22,7 +22,7 @@ use Rattle.log_core.specs.Files.{entries, file_at, history_map_at}
 use Rattle.log_core.specs.Works.{Begins, StartsFromSnapshot, ReadsRun, EndsReading, TakesEntry, TakesSeal, Follows}
 use Rattle.log_core.specs.Steps.{Step, Splits, Joins, new_meaning}
 use Rattle.log_core.specs.After.{after}
-use Rattle.log_core.specs.Runs.{MayMakeStep, Allowed, MayJoin, MaySplit, IsRun, end}
+use Rattle.log_core.specs.Runs.{Allowed, MayJoin, MaySplit, IsRun, end}
 use Rattle.log_core.specs.May.{MayStoreOwnPin, MayLoadImageWord, MayStoreWord, MayMark, MayCommit, walked_trail}
 use Rattle.log_core.specs.Answers.{MayAdd}
 use Rattle.log_core.specs.Walks.{HasRead}
@@ -126,12 +126,12 @@ pin_steps =
 abbrev pub PinRuns : Type 0
 PinRuns = IsRun image_a pin_steps × (end image_a pin_steps ≡ pinned)
 
--- the exchange that puts an entry in, with the record that ends its call, meets the condition of its kind; but no exchange is a step yet
+-- the exchange that puts an entry in, with the record that ends its call, is allowed
 abbrev pub write_step : Step
 write_step = step_of image_a racing 0 (Exchange (Image 27) 0 to_first) 1 [] [] (first_call ∷ [])
 
 abbrev pub WriteFits : Type 0
-WriteFits = MayMakeStep image_a racing write_step × (Allowed image_a racing write_step → ⊥)
+WriteFits = Allowed image_a racing write_step
 
 -- seat 0 has its records and its blocks kept for later, and holds nothing; seat 1 has come further, and holds nothing
 abbrev pub idle : View → View
@@ -208,7 +208,7 @@ LateWrite =
     × ((view_of late_found.views 1).seat.walk.tail_base ≡ 1)
     × ((view_of late_found.views 1).seat.walk.at_tail ≡ true)
     × ((view_of late_found.views 1).seat.walk.map ≡ Some 1 ∷ None ∷ None ∷ None ∷ [])
-    × MayMakeStep image_a late_found late_step
+    × Allowed image_a late_found late_step
     × (length late.history ≡ 2)
     × (file_at image_a late.history 2 ≡ 187 ∷ [])
     × (history_map_at image_a (entries image_a late.history) 2 0 ≡ Some 2)

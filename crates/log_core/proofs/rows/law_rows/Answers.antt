@@ -1,6 +1,6 @@
 use Rattle.log_core.proofs.row_checks.RowsBegun.{just_made, pins_in_three_steps, scan_sees_pins, comes_to_tail}
 use Rattle.log_core.proofs.row_checks.RowsTaken.{bits_taken, fence_follows}
-use Rattle.log_core.proofs.row_checks.RowsOffered.{filled_no_more}
+use Rattle.log_core.proofs.row_checks.RowsAllowed.{filled_no_more}
 use Rattle.log_core.proofs.row_checks.RowsExchanged.{slot_won, slot_lost, write_ends, link_won, link_lost, head_won, head_lost}
 use Rattle.log_core.proofs.row_checks.RowsGiven.{kept_until_unpinned, bits_cleared, bits_not_cleared, collect_ends, sync_ends}
 use Rattle.log_core.proofs.row_checks.RowsFiles.{files_by_position, early_files, trail_walked, lacks_blocks, quiet_calls, replies_fit, limits_fit}

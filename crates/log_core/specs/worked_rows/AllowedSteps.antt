@@ -1,20 +1,21 @@
--- Steps on the bitmap and on own blocks: what they come to, which are offered, and a run of those that are.
+-- Steps on the bitmap and on own blocks: what they come to; which steps are allowed; and a run of them.
 use Rattle.std.specs.Prelude.{ℕ, ◌≡◌, true, false, List, [], ◌∷◌, map, replicate, Some}
 use Rattle.log_entry.specs.declared.shapes.Area.TheVariants.{Data}
+use Rattle.pmem_words.specs.declared.keeps.Task.TheVariants.{Collect}
 use Rattle.asks.specs.declared.ask.Ask.{Ask}
-use Rattle.asks.specs.declared.ask.Ask.TheVariants.{Load, Store, SetBits, ClearBits, Mark, Fence}
+use Rattle.asks.specs.declared.ask.Ask.TheVariants.{Load, Store, Exchange, SetBits, ClearBits, Mark, Fence}
 use Rattle.asks.specs.declared.ask.Place.TheVariants.{Image, Map}
 use Rattle.persistence.specs.Memory.{cell}
 use Rattle.log_core.specs.Views.{view_of}
 use Rattle.log_core.specs.Origin.{Free, Header, InChain, OwnedBy}
 use Rattle.log_core.specs.Cores.{Core}
-use Rattle.log_core.specs.Works.{Work, StartsFromLog, SetsWord, CountsFilled, stored_at, state_after_work}
+use Rattle.log_core.specs.Works.{Work, Begins, StartsFromLog, SetsWord, CountsFilled, stored_at, state_after_work}
 use Rattle.log_core.specs.May.{MayLoadBitmapWord, MaySetBits}
-use Rattle.log_core.specs.Runs.{MayMakeStep, Allowed, IsReached}
+use Rattle.log_core.specs.Runs.{Allowed, IsReached}
 use Rattle.log_core.specs.Starts.{IsStart}
 use Rattle.log_core.specs.Invariant.{Invariant}
 use Rattle.log_core.specs.worked_rows.Samples.{image_a, step_of, stepping, number_in, storing, marking}
-use Rattle.log_core.specs.worked_rows.Rows.{pinned, walked, taken_by_one, stored_words, marked_words, fenced, syncing, slot_marked, collected, scan_clear}
+use Rattle.log_core.specs.worked_rows.Rows.{pinned, walked, taken_by_one, stored_words, marked_words, fenced, syncing, slot_marked, collected, scan_clear, racing, to_first, written, linking}
 
 -- another value is stored in a filled and fenced block
 abbrev pub stored_again : Core
@@ -40,10 +41,7 @@ BitmapMayBeRead =
     × (MayLoadBitmapWord (view_of syncing.views 0).seat 0 → ⊥)
     × (MaySetBits (view_of syncing.views 0).seat 0 4 → ⊥)
 
--- a step of a seat in its running call meets the condition of its kind, and is allowed
-abbrev pub MayBeMade : Core → ℕ → Ask → List Work → Type 0
-MayBeMade c seat ask works = MayMakeStep image_a c (step_of image_a c seat ask (number_in c seat) works [] [])
-
+-- a step of a seat in its running call is allowed
 abbrev pub IsAllowed : Core → ℕ → Ask → List Work → Type 0
 IsAllowed c seat ask works = Allowed image_a c (step_of image_a c seat ask (number_in c seat) works [] [])
 
@@ -51,11 +49,16 @@ IsAllowed c seat ask works = Allowed image_a c (step_of image_a c seat ask (numb
 abbrev pub front_read : Core
 front_read = stepping image_a pinned 0 (Load (Image 25)) 1 [] []
 
+-- seat 0 begins a collection, and finds the tail's slot empty
+abbrev pub tail_read : Core
+tail_read = stepping image_a written 0 (Load (Image 28)) 2 (Begins Collect [] ∷ []) []
+
 -- allowed are a load of a word of the pinned chain, also where a walk begins at the first log block before it, a load of a bitmap
 -- word, a setting of bits, a store into an own block, a mark of a word of it, a fence in a write, and a clearing of the bits of own
--- blocks and of replaced ones; a sync's mark of the head and of a slot, a collection's mark of its head, and a sync's fence
-abbrev pub OfferedKinds : Type 0
-OfferedKinds =
+-- blocks and of replaced ones; a sync's mark of the head and of a slot, a collection's mark of its head, and a sync's fence; and exchanges of the tail's slot for an entry and
+-- for a seal, and of its link. Not of a link for a block with another content, nor of a slot that is not the tail's
+abbrev pub AllowedKinds : Type 0
+AllowedKinds =
     IsAllowed pinned 0 (Load (Image 25)) []
     × IsAllowed front_read 0 (Load (Image 27)) (StartsFromLog ∷ [])
     × IsAllowed walked 0 (Load (Map 0)) []
@@ -69,6 +72,11 @@ OfferedKinds =
     × IsAllowed syncing 0 (Mark 27) []
     × IsAllowed collected 0 (Mark 3) []
     × IsAllowed slot_marked 0 Fence []
+    × IsAllowed racing 0 (Exchange (Image 27) 0 to_first) []
+    × IsAllowed tail_read 0 (Exchange (Image 28) 0 3) []
+    × IsAllowed linking 0 (Exchange (Image 24) 0 4) []
+    × (IsAllowed linking 0 (Exchange (Image 24) 0 5) [] → ⊥)
+    × (IsAllowed tail_read 0 (Exchange (Image 29) 0 3) [] → ⊥)
 
 -- seat 0 with its pin loads the bitmap word, takes block 1, stores and marks its words, fences it, and gives it back
 abbrev pub own_taken : Core
