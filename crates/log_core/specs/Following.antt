@@ -1,8 +1,8 @@
 -- What follows of every run from the invariant. A run without its newest steps is a run, so what is said of the newest step is said of each.
-use Rattle.std.specs.Prelude.{ℕ, ◌%◌, ◌≡◌, true, false, List, ◌∷◌, ◌++◌, Some, None}
+use Rattle.std.specs.Prelude.{ℕ, ◌%◌, ◌<◌, ◌≡◌, Bool, true, false, List, ◌∷◌, ◌++◌, Some, None}
 use Rattle.std.specs.Int.{bit_at}
 use Rattle.std.specs.List.{AllByRecursion}
-use Rattle.log_entry.specs.Legal.{Legal, last_file, last_position_of}
+use Rattle.log_entry.specs.Legal.{Legal, is_write, last_file, last_position_of}
 use Rattle.log_entry.specs.declared.calls.Op.{Op}
 use Rattle.log_entry.specs.declared.calls.Call.{Call}
 use Rattle.pmem_words.specs.Owned.{is_among}
@@ -16,6 +16,7 @@ use Rattle.log_core.specs.Files.{entries, end_of, file_at}
 use Rattle.log_core.specs.Cores.{Core, is_named}
 use Rattle.log_core.specs.Steps.{Note, Step, Does}
 use Rattle.log_core.specs.Order.{nth_generation}
+use Rattle.log_core.specs.Records.{NeverFall}
 use Rattle.log_core.specs.Invariant.{KeptIn}
 use Rattle.log_core.specs.Runs.{IsRun, end}
 use Rattle.log_core.specs.Starts.{IsStart}
@@ -41,21 +42,22 @@ NoneReused = (o : Origin) (seat : ℕ) (ask : Ask) (note : Note) (steps : List S
 abbrev pub NoCallRuns : Core → Type 0
 NoCallRuns c = (seat : ℕ) → op_in (view_of c.views seat).seat ≡ None
 
--- the calls are one legal history, from the start's file and position to the end of the writes and the file there; and each generation
--- that the heads came to was put in place by one of them, in turn
+-- the calls are one legal history, from the start's file and position to the end of the writes and the file there; each seat's calls stand
+-- in it by their numbers; and each generation that the heads came to was put in place by one of them, in turn
 pub record IsOneHistory (o : Origin) (c : Core) (calls : List Call) : Type 0 where
   pub legal : Legal o.geometry.block_bytes o.file (first_position o) calls
   pub to_end : last_position_of (first_position o) calls ≡ end_of o c.history
   pub to_file : last_file o.file calls ≡ file_at o c.history (end_of o c.history)
+  pub each_seat : (seat : ℕ) → NeverFall seat 0 0 calls
   pub collected : HasCollections (first_generation o) (start_base o) calls
 
 -- so are the calls of each run that ends with no call running
 abbrev pub RunsAreLegal : Type 0
 RunsAreLegal = (o : Origin) (calls : List Call) (c : Core) → IsStart o → Ran o calls c → NoCallRuns c → IsOneHistory o c calls
 
--- a seat made a step of its call of this number, asking this, and behind it the position was the end: so it is where a view finds its
--- tail empty, and behind the exchange that puts a write in
-pub record IsSeen (o : Origin) (steps : List Step) (seat number position : ℕ) (op : Op) : Type 0 where
+-- a seat made a step of its call of this number, asking this, and behind it the position was the end: there a view finds its tail empty.
+-- An accepted write was put in by that step: the end was a smaller one before it
+pub record IsSeen (o : Origin) (steps : List Step) (seat number position : ℕ) (op : Op) (won : Bool) : Type 0 where
   pub ask : Ask
   pub note : Note
   pub later : List Step
@@ -64,8 +66,9 @@ pub record IsSeen (o : Origin) (steps : List Step) (seat number position : ℕ) 
   pub number_is : note.number ≡ number
   pub asks : op_in note.before ≡ Some op
   pub at_end : position ≡ end_of o (end o (Does seat ask note ∷ earlier)).history
+  pub put_in : won ≡ true → end_of o (end o earlier).history < position
 
 -- so each record of each run is of a position that was the end at a step of its own call
 abbrev pub RecordsAreSeen : Type 0
 RecordsAreSeen = (o : Origin) (steps : List Step) → IsStart o → IsRun o steps →
-    AllByRecursion (λ (call : Call). IsSeen o steps call.seat call.number call.position call.op) (recorded_calls (end o steps).views)
+    AllByRecursion (λ (call : Call). IsSeen o steps call.seat call.number call.position call.op (is_write call.op call.reply)) (recorded_calls (end o steps).views)

@@ -23,8 +23,8 @@ pub fn law_reuse()
 {}
 
 /// The calls of each run that ends with no call running, in the order of a report, are one legal history from the start's file and
-/// position to the end of the writes, and their collections put each generation in place, in turn. And each record of each run is of a
-/// position that was the end at a step of its own call.
+/// position to the end of the writes, with each seat's calls by their numbers, and their collections put each generation in place, in turn.
+/// And each record of each run is of a position that was the end at a step of its own call, which put it in where it is an accepted write.
 pub fn law_legal()
     ensures one_history { RunsAreLegal }
     ensures each_seen { RecordsAreSeen }

@@ -37,7 +37,7 @@ part_below [] k seat = omega arith
 part_below (v ∷ views) zero seat = omega arith
 part_below (v ∷ views) (suc k) seat = (let rest = part_below views k seat in omega (arith, rest))
 
-one_most : (b : Bool) → one_if b ≤ 1
+pub one_most : (b : Bool) → one_if b ≤ 1
 one_most true = omega arith
 one_most false = omega arith
 

@@ -10,7 +10,8 @@ use Rattle.log_core.specs.Origin.{Origin, first_generation, Generation}
 use Rattle.log_core.specs.Order.{nth_generation}
 use Rattle.log_core.specs.Records.{one_if, collects, collected_in, SaysOfGenerations}
 use Rattle.log_core.specs.Histories.{Put, put_by, collections, PutInTurn}
-use Rattle.log_core.proofs.following.Rising.{place_number, AllFrom, Rises, one_most}
+use Rattle.log_core.proofs.following.Rising.{place_number, AllFrom, Rises}
+use Rattle.log_core.proofs.clauses.JoinedParts.{one_most}
 
 module _ (o : Origin) (generations : List Generation) where
   abbrev pub first : ℕ

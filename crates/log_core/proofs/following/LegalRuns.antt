@@ -1,12 +1,11 @@
 -- The calls of a run that ends with no call running are one legal history.
 use Rattle.std.proofs.Common.{◌≡◌, ◌<◌, ◌≤◌, ◌+◌, ◌-◌, ◌==◌, ◌&&◌, ℕ, Bool, true, false, not, if◌then◌else◌, List, [], ◌∷◌, ◌++◌, take, IsPermutation, refl, sym, ◌∙◌, ap, subst, arith, sum_by}
 use Rattle.std.specs.List.{AllByRecursion}
-use Rattle.std.proofs.lemmas.List.Elements.{All-from_recursion, recursion_from_All}
-use Rattle.std.proofs.lemmas.List.Sorted.{All-permutation, sum_by-IsPermutation}
+use Rattle.std.proofs.lemmas.List.Sorted.{sum_by-IsPermutation}
 use Rattle.std.proofs.lemmas.List.Sums.{sum_by-cons}
 use Rattle.std.proofs.lemmas.Bool.{le-ltb}
-use Rattle.std.proofs.lemmas.List.{append_assoc}
 use Rattle.log_entry.specs.Legal.{is_write}
+use Rattle.log_entry.specs.Order.{IsInOrder}
 use Rattle.log_entry.specs.declared.calls.Call.{Call}
 use Rattle.log_image.proofs.ListLemmas.{each_join}
 use Rattle.log_core.specs.Origin.{Origin, first_position, first_generation, Generation}
@@ -29,13 +28,10 @@ use Rattle.log_core.proofs.following.InTurn.{PutOnce}
 use Rattle.log_core.proofs.following.CollectedCalls.{has_collections}
 use Rattle.log_core.proofs.following.Moments.{first_stays}
 use Rattle.log_core.proofs.following.RecordedCalls.{records_stand, written_once, put_once}
+use Rattle.log_core.proofs.following.CallsInTime.{each_quiet, each_permuted, calls_never_fall}
 use Rattle.log_core.proofs.following.QuietCalls.{no_write_quiet, no_collection_quiet, quiet_stands}
 
--- a fact of each call of a list is one of each call of the same calls in another order
-each_permuted : (P : Call → Type 0) (calls others : List Call) → IsPermutation calls others → AllByRecursion P calls → AllByRecursion P others
-each_permuted P calls others same all = recursion_from_All P others (All-permutation P calls others same (All-from_recursion P calls all))
-
--- so are the counts
+-- the counts of the same calls in another order are the same
 writes_sum : (position : ℕ) (calls : List Call) → writes_at position calls ≡ sum_by (λ (call : Call). one_if (is_write call.op call.reply && (call.position == position))) calls
 writes_sum position [] = refl
 writes_sum position (call ∷ calls) = (let rest = writes_sum position calls in let cons = sum_by-cons (λ (c : Call). one_if (is_write c.op c.reply && (c.position == position))) call calls in omega (arith, rest, cons))
@@ -58,35 +54,21 @@ no_collections : (generation : ℕ) (calls : List Call) → AllByRecursion (λ (
 no_collections generation [] none = refl
 no_collections generation (call ∷ calls) none = (let rest = no_collections generation calls none.1 in let here = none.0 in omega (arith, rest, here))
 
--- each quiet call is one of the whole run
-quiet_later : (o : Origin) (core : Core) (later earlier : List Step) (call : Call) → IsQuietCall o earlier core call → IsQuietCall o (later ++ earlier) core call
-quiet_later o core later earlier call quiet = record {
-  quiet = quiet.quiet;
-  later = later ++ quiet.later;
-  earlier = quiet.earlier;
-  moment = ap (λ (steps : List Step). later ++ steps) quiet.moment ∙ sym (append_assoc later quiet.later quiet.earlier);
-  made = quiet.made;
-  answers = quiet.answers;
-}
-
-pub each_quiet : (o : Origin) (core : Core) (steps : List Step) (calls : List Call) → AreQuiet o core steps calls → AllByRecursion (IsQuietCall o steps core) calls
-each_quiet o core steps [] are = tt
-each_quiet o core steps (call ∷ calls) are = (
-  are.0,
-  each_weaker (IsQuietCall o are.0.earlier core) (IsQuietCall o steps core) calls
-      (λ other quiet. subst (λ (all : List Step). IsQuietCall o all core other) (sym are.0.moment) (quiet_later o core are.0.later are.0.earlier other quiet))
-      (each_quiet o core are.0.earlier calls are.2),
-)
-
 -- the file at the start's position
 start_file : (o : Origin) (c : Core) → file_at o c.history (first_position o) ≡ o.file
 start_file o c = ap (λ (early : Bool). if early then early_file o (first_position o) else file_after_writes o.file (take (first_position o - first_position o) c.history)) (le-ltb (first_position o) (first_position o) (omega arith))
     ∙ (let none : first_position o - first_position o ≡ 0 = omega arith in ap (λ (count : ℕ). file_after_writes o.file (take count c.history)) none)
 
 module _ (o : Origin) (start : IsStart o) (steps : List Step) (run : IsRun o steps) (idle : NoCallRuns (end o steps)) (quiet calls : List Call)
-    (are_quiet : AllByRecursion (IsQuietCall o steps (end o steps)) quiet) (same : IsPermutation (recorded_calls (end o steps).views ++ quiet) calls) (rises : Rises calls) where
+    (are : AreQuiet o (end o steps) steps quiet) (same : IsPermutation (recorded_calls (end o steps).views ++ quiet) calls) (order : IsInOrder calls) where
   abbrev c : Core
   c = end o steps
+
+  are_quiet : AllByRecursion (IsQuietCall o steps c) quiet
+  are_quiet = each_quiet o c steps quiet are
+
+  rises : Rises calls
+  rises = rises_in_order calls order
 
   inv : Invariant o c
   inv = run_from o steps (start_meets o start) run
@@ -136,6 +118,7 @@ module _ (o : Origin) (start : IsStart o) (steps : List Step) (run : IsRun o ste
     legal = there.legal;
     to_end = there.end_is;
     to_file = there.last_is;
+    each_seat = calls_never_fall o steps start run quiet are calls same order;
     collected = has_collections o c.generations inv.order.generations_rise.rise (first_stays o steps).some (ap (λ (g : Generation). g.base) (first_stays o steps).same) calls
         (each_weaker (Stands o c.history c.generations) (λ (call : Call). SaysOfGenerations o c.generations call.position call.reply) calls (λ call stands. stands.holds.of_generations) stand)
         rises puts_once;
@@ -144,6 +127,6 @@ module _ (o : Origin) (start : IsStart o) (steps : List Step) (run : IsRun o ste
 pub runs_are_legal : RunsAreLegal
 runs_are_legal o calls core start ran idle = subst (λ (c : Core). IsOneHistory o c calls) ran.ends
     (one_history o start ran.steps ran.is_run (subst (λ (c : Core). NoCallRuns c) (sym ran.ends) idle) ran.quiet calls
-    (each_quiet o (end o ran.steps) ran.steps ran.quiet (subst (λ (c : Core). AreQuiet o c ran.steps ran.quiet) (sym ran.ends) ran.are_quiet))
+    (subst (λ (c : Core). AreQuiet o c ran.steps ran.quiet) (sym ran.ends) ran.are_quiet)
     (subst (λ (c : Core). IsPermutation (recorded_calls c.views ++ ran.quiet) calls) (sym ran.ends) ran.same_calls)
-    (rises_in_order calls ran.in_order))
+    ran.in_order)

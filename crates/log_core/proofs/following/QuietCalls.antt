@@ -1,6 +1,5 @@
 -- A quiet call of a run stands in the history: it is no write and no collection, at a position that its view had come to.
-use Rattle.std.proofs.Common.{◌≡◌, ◌≤◌, ◌+◌, ◌-◌, ◌==◌, nat_lt, if◌then◌else◌, max, ℕ, Bool, true, false, List, [], ◌∷◌, length, refl, sym, ◌∙◌, ap, subst, arith, Some, None}
-use Rattle.std.specs.List.{AllByRecursion}
+use Rattle.std.proofs.Common.{◌≡◌, ◌≤◌, ◌+◌, ◌-◌, ◌==◌, nat_lt, if◌then◌else◌, ℕ, Bool, true, false, List, [], ◌∷◌, length, refl, sym, ◌∙◌, ap, subst, arith, Some, None}
 use Rattle.std.proofs.lemmas.Bool.{false≢true}
 use Rattle.log_entry.specs.Shape.{longest_of, limit_of}
 use Rattle.log_entry.specs.Legal.{Answers, AnswersWrite, is_write, last_position, touched_blocks, appended_blocks}
@@ -21,11 +20,12 @@ use Rattle.log_core.specs.Records.{collects, SaysOfGenerations, RecordHolds}
 use Rattle.log_core.specs.Runs.{IsRun, end}
 use Rattle.log_core.specs.Starts.{IsStart}
 use Rattle.log_core.specs.Invariant.{Invariant}
-use Rattle.log_core.specs.Histories.{greatest_position, IsQuietCall}
+use Rattle.log_core.specs.Histories.{IsQuietCall}
 use Rattle.log_core.proofs.Each.{each_weaker}
 use Rattle.log_core.proofs.starts.StartMeets.{start_meets}
 use Rattle.log_core.proofs.clauses.Others.{unspent_made}
 use Rattle.log_core.proofs.kinds.RunHolds.{run_from}
+use Rattle.log_core.proofs.following.Greatest.{greatest_low, greatest_high}
 use Rattle.log_core.proofs.following.Stands.{Stands}
 use Rattle.log_core.proofs.following.Moments.{earlier_run, history_grows}
 
@@ -64,15 +64,6 @@ refused_no_write (Pread offset count) why = refl
 refused_no_write Size why = refl
 refused_no_write Sync why = refl
 refused_no_write Collect why = refl
-
--- the greatest position is no less than the first, and no more than a bound of all
-greatest_low : (position : ℕ) (calls : List Call) → position ≤ greatest_position position calls
-greatest_low position [] = omega arith
-greatest_low position (call ∷ calls) = (let rest = greatest_low (max position call.position) calls in omega (arith, rest))
-
-greatest_high : (position most : ℕ) (calls : List Call) → position ≤ most → AllByRecursion (λ (call : Call). call.position ≤ most) calls → greatest_position position calls ≤ most
-greatest_high position most [] low all = low
-greatest_high position most (call ∷ calls) low all = greatest_high (max position call.position) most calls (let here = all.0 in omega (arith, low, here)) all.1
 
 module _ (o : Origin) (steps : List Step) (start : IsStart o) (run : IsRun o steps) (generations : List Generation) (call : Call) (quiet : IsQuietCall o steps (end o steps) call) where
   abbrev last : Core

@@ -1,7 +1,7 @@
 -- The records of all views of a core, once no call runs: each stands in the history, and each write and each generation is there once.
 use Rattle.std.proofs.Common.{◌≡◌, ◌≢◌, ◌⊎◌, inl, inr, ⊎_elim, ◌<◌, ◌≤◌, ◌+◌, ◌-◌, ◌==◌, ◌||◌, ℕ, suc, Bool, true, false, List, [], ◌∷◌, length, refl, sym, ◌∙◌, ap, arith, Option, Some, None}
 use Rattle.std.specs.List.{AllByRecursion}
-use Rattle.std.proofs.lemmas.Bool.{lt-ltb}
+use Rattle.std.proofs.lemmas.Bool.{lt-ltb, false_from_ne_true}
 use Rattle.log_entry.specs.Legal.{is_write}
 use Rattle.log_entry.specs.declared.calls.Op.TheVariants.{Collect as CollectOp}
 use Rattle.log_entry.specs.declared.calls.Call.{Call}
@@ -65,10 +65,6 @@ no_parts : (parts : List ℕ) → (parts ≡ []) ⊎ (parts ≢ [])
 no_parts [] = inl refl
 no_parts (part ∷ parts) = inr (λ none. cc)
 
-never_true : (b : Bool) → (b ≡ true → ⊥) → b ≡ false
-never_true true never = absurd (never refl)
-never_true false never = refl
-
 none_put : (put : Option HeadPut) → (put ≢ None → ⊥) → put ≡ None
 none_put None never = refl
 none_put (Some head) never = absurd (never (λ e. cc))
@@ -88,7 +84,7 @@ module _ (o : Origin) (c : Core) (inv : Invariant o c) (idle : NoCallRuns c) whe
 
   -- no view has put in an entry, or a head, that has no record
   not_won : (k : ℕ) → (view_of c.views k).seat.calling.won ≡ false
-  not_won k = never_true (view_of c.views k).seat.calling.won (λ won. (inv.records.calls k).task.won_runs won (idle k))
+  not_won k = false_from_ne_true (view_of c.views k).seat.calling.won (λ won. (inv.records.calls k).task.won_runs won (idle k))
 
   not_put : (k : ℕ) → (view_of c.views k).ghost.call.put ≡ None
   not_put k = none_put (view_of c.views k).ghost.call.put (λ some.

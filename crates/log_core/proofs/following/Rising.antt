@@ -8,6 +8,7 @@ use Rattle.log_entry.specs.Order.{IsInOrder, place_of, place_cmp}
 use Rattle.log_entry.specs.declared.calls.Call.{Call}
 use Rattle.log_core.specs.Records.{one_if}
 use Rattle.log_core.proofs.Each.{each_weaker}
+use Rattle.log_core.proofs.clauses.JoinedParts.{one_most}
 
 -- where a call stands: twice its position, and one more where it is no write
 abbrev pub place_number : Call → ℕ
@@ -22,12 +23,8 @@ abbrev pub Rises : List Call → Type 0
 Rises [] = Unit {0}
 Rises (call ∷ calls) = AllFrom (place_number call) calls × Rises calls
 
-pub one_most : (b : Bool) → one_if b ≤ 1
-one_most true = omega arith
-one_most false = omega arith
-
 -- how two calls compare by what position, kind, seat and number say
-abbrev compared : (lower same : Bool) → (kinds seats numbers : Ordering) → Bool
+abbrev pub compared : (lower same : Bool) → (kinds seats numbers : Ordering) → Bool
 compared lower same kinds seats numbers = is_lt (ordering_then (ordering_then (ordering_then (cond lower Less (cond same Equal Greater)) kinds) seats) numbers)
 
 -- at one position a write stands first
@@ -37,7 +34,7 @@ kinds_behind false false seats numbers is = omega arith
 kinds_behind false true seats numbers is = cc
 
 -- a call that does not go before another stands at or behind it
-behind : (first second : Bool) (position next : ℕ) (seats numbers : Ordering) →
+pub behind : (first second : Bool) (position next : ℕ) (seats numbers : Ordering) →
     compared (nat_lt next position) (next == position) (bool_cmp (not second) (not first)) seats numbers ≡ false →
     position + position + one_if (not first) ≤ next + next + one_if (not second)
 behind first second position next seats numbers order = by (nat_lt next position) (next == position) refl refl order
@@ -53,7 +50,7 @@ behind first second position next seats numbers order = by (nat_lt next position
         apart_by e same = (let never : true ≡ false = sym (eq-eqb next position same) ∙ e in cc)
 
 -- the rest of a list in order is in order
-order_rest : (call : Call) (calls : List Call) → IsInOrder (call ∷ calls) → IsInOrder calls
+pub order_rest : (call : Call) (calls : List Call) → IsInOrder (call ∷ calls) → IsInOrder calls
 order_rest call calls order k d low high =
     (let same : suc k + 1 ≡ suc (k + 1) = omega arith in
     subst (λ (j : ℕ). is_lt (place_cmp (place_of (slice_index_or (call ∷ calls) j d)) (place_of (slice_index_or calls k d))) ≡ false) same (order (suc k) d (omega arith) (omega (arith, high))))

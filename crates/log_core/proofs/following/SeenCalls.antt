@@ -20,7 +20,6 @@ use Rattle.log_core.specs.Runs.{MayNumber, MayStep, MaySplit, MayJoin, Allowed, 
 use Rattle.log_core.specs.Invariant.{Invariant}
 use Rattle.log_core.specs.Knows.{Knows}
 use Rattle.log_core.specs.Following.{IsSeen, RecordsAreSeen}
-use Rattle.log_core.proofs.Each.{each_weaker}
 use Rattle.log_core.proofs.starts.StartMeets.{start_meets}
 use Rattle.log_core.proofs.clauses.OneView.{each_set}
 use Rattle.log_core.proofs.kinds.StepHolds.{at_ask, began}
@@ -28,53 +27,14 @@ use Rattle.log_core.proofs.kinds.RunHolds.{step_keeps, run_from}
 use Rattle.log_core.proofs.kinds.Splits.{each_grown}
 use Rattle.log_core.proofs.kinds.JoinedViews.{each_joined}
 use Rattle.log_core.proofs.following.RecordedCalls.{each_view, each_record}
-use Rattle.log_core.proofs.following.TailMoves.{TailMoves, computed_tail, moves_by_ask}
-
--- a view whose call is at its tail was there at a step of that call
-abbrev IsTailSeen : Origin → List Step → ℕ → View → Type 0
-IsTailSeen o steps seat v = v.seat.walk.at_tail ≡ true → (op : Op) → op_in v.seat ≡ Some op → IsSeen o steps seat v.ghost.call.number v.seat.walk.position op
-
-abbrev IsCallSeen : Origin → List Step → Call → Type 0
-IsCallSeen o steps call = IsSeen o steps call.seat call.number call.position call.op
-
--- so it is of each view, and of each record
-record AllSeen (o : Origin) (steps : List Step) : Type 0 where
-  pub tails : (seat : ℕ) → IsTailSeen o steps seat (view_of (end o steps).views seat)
-  pub records : (seat : ℕ) → AllByRecursion (IsCallSeen o steps) (view_of (end o steps).views seat).done
-
--- and it stays with further steps
-seen_later : (o : Origin) (steps : List Step) (step : Step) (seat number position : ℕ) (op : Op) → IsSeen o steps seat number position op → IsSeen o (step ∷ steps) seat number position op
-seen_later o steps step seat number position op seen = record {
-  ask = seen.ask;
-  note = seen.note;
-  later = step ∷ seen.later;
-  earlier = seen.earlier;
-  moment = ap (λ (rest : List Step). step ∷ rest) seen.moment;
-  number_is = seen.number_is;
-  asks = seen.asks;
-  at_end = seen.at_end;
-}
-
-tail_later : (o : Origin) (steps : List Step) (step : Step) (seat : ℕ) (v : View) → IsTailSeen o steps seat v → IsTailSeen o (step ∷ steps) seat v
-tail_later o steps step seat v seen at op asks = seen_later o steps step seat v.ghost.call.number v.seat.walk.position op (seen at op asks)
-
-records_later : (o : Origin) (steps : List Step) (step : Step) (calls : List Call) → AllByRecursion (IsCallSeen o steps) calls → AllByRecursion (IsCallSeen o (step ∷ steps)) calls
-records_later o steps step calls = each_weaker (IsCallSeen o steps) (IsCallSeen o (step ∷ steps)) calls (λ call seen. seen_later o steps step call.seat call.number call.position call.op seen)
-
-seen_as : (o : Origin) (steps : List Step) (seat number other position place : ℕ) (op : Op) → number ≡ other → position ≡ place → IsSeen o steps seat number position op → IsSeen o steps seat other place op
-seen_as o steps seat number other position place op same_number same_place seen = record {
-  ask = seen.ask;
-  note = seen.note;
-  later = seen.later;
-  earlier = seen.earlier;
-  moment = seen.moment;
-  number_is = seen.number_is ∙ same_number;
-  asks = seen.asks;
-  at_end = sym same_place ∙ seen.at_end;
-}
+use Rattle.log_core.proofs.following.Seen.{IsTailSeen, IsCallSeen, AllSeen, seen_later, tail_later, records_later, seen_as}
+use Rattle.log_core.proofs.following.TailWorks.{IsSameTail, StandsWon, computed_tail, computed_won}
+use Rattle.log_core.proofs.following.TailMoves.{TailMoves, moves_by_ask}
+use Rattle.log_core.proofs.Replies.{unwon_no_write}
+use Rattle.log_entry.specs.Legal.{is_write}
 
 -- a call has its own number from its first step on
-number_at_ask : (begun : Bool) (call : RunningCall) (number : ℕ) → MayNumber begun call.number number → (call_if begun call number).number ≡ number
+pub number_at_ask : (begun : Bool) (call : RunningCall) (number : ℕ) → MayNumber begun call.number number → (call_if begun call number).number ≡ number
 number_at_ask true call number may = refl
 number_at_ask false call number may = sym may
 
@@ -98,32 +58,35 @@ module _ (o : Origin) (steps : List Step) (inv : Invariant o (end o steps)) (see
     abbrev v : View
     v = view_of c.views n
 
-    abbrev kind : Kind
+    abbrev pub kind : Kind
     kind = kind_of_ask (q_of_origin o) n ask
 
-    abbrev f : ℕ
+    abbrev pub f : ℕ
     f = found_answer c.memory ask
 
     abbrev this : Step
     this = Does n ask note
 
-    abbrev step : MayStep o c v kind note f
+    abbrev pub step : MayStep o c v kind note f
     step = allowed.step
 
-    abbrev left : Seat
+    abbrev pub left : Seat
     left = effect_at v note kind f
 
-    abbrev last : Seat
+    abbrev pub last : Seat
     last = step.enters.last
 
     knows : Knows o c n note.before (ghost_at v note) (slice_index c.memory.now.pins n) (slice_index (began o c n inv allowed.made allowed.unspent note) n)
     knows = at_ask o c n inv allowed.made allowed.unspent note kind f step
 
-    moves : TailMoves note.before left (end_of o (history_after c.history n note kind (found c.memory ask)))
-    moves = moves_by_ask o c n note (ghost_at v note) (slice_index c.memory.now.pins n) (slice_index (began o c n inv allowed.made allowed.unspent note) n) inv knows allowed.unspent v.ghost.marks ask step.may
+    before_stands : StandsWon note.before
+    before_stands won = (let was = computed_won v.ghost v.seat note.before step.begins won in was.1 (seen.stands n was.0))
+
+    pub moves : TailMoves note.before left (end_of o c.history) (end_of o (history_after c.history n note kind (found c.memory ask)))
+    moves = moves_by_ask o c n note (ghost_at v note) (slice_index c.memory.now.pins n) (slice_index (began o c n inv allowed.made allowed.unspent note) n) inv knows allowed.unspent v.ghost.marks before_stands ask step.may
 
     -- a call that is at its tail behind the step was there before it, or is at the end now
-    seen_last : last.walk.at_tail ≡ true → (op : Op) → op_in last ≡ Some op → IsSeen o (this ∷ steps) n note.number last.walk.position op
+    seen_last : last.walk.at_tail ≡ true → (op : Op) → op_in last ≡ Some op → IsSeen o (this ∷ steps) n note.number last.walk.position op last.calling.won
     seen_last at op asks = ⊎_elim old new (moves.tail later.0.0)
       where
         later : ((left.walk.at_tail ≡ true) × (last.walk.position ≡ left.walk.position)) × (op_in last ≡ op_in left)
@@ -132,16 +95,22 @@ module _ (o : Origin) (steps : List Step) (inv : Invariant o (end o steps)) (see
         asks_before : op_in note.before ≡ Some op
         asks_before = sym moves.same_op ∙ (sym later.1 ∙ asks)
 
-        old : (note.before.walk.at_tail ≡ true) × (left.walk.position ≡ note.before.walk.position) → IsSeen o (this ∷ steps) n note.number last.walk.position op
-        old stood = (let before = computed_tail v.ghost v.seat note.before step.begins stood.0 in
-            let none_begins : is_begun (op_in v.seat) (op_in note.before) ≡ false = ap (λ (asked : Option Op). is_begun (op_in v.seat) asked) before.1 ∙ same_begun (op_in v.seat) in
-            seen_as o (this ∷ steps) n v.ghost.call.number note.number v.seat.walk.position last.walk.position op
-            (sym (same_number (is_begun (op_in v.seat) (op_in note.before)) v.ghost.call.number note.number none_begins step.number))
-            (sym before.0.1 ∙ (sym stood.1 ∙ sym later.0.1))
-            (seen_later o steps this n v.ghost.call.number v.seat.walk.position op (seen.tails n before.0.0 op (sym before.1 ∙ asks_before))))
+        -- what has put in an entry had done so behind the step
+        left_won : last.calling.won ≡ true → left.calling.won ≡ true
+        left_won won = (computed_won (ghost_left v note kind f) left last step.enters.computed won).0
 
-        new : left.walk.position ≡ end_of o (history_after c.history n note kind (found c.memory ask)) → IsSeen o (this ∷ steps) n note.number last.walk.position op
-        new at_end = record {
+        old : IsSameTail note.before left × (left.calling.won ≡ true → note.before.calling.won ≡ true) → IsSeen o (this ∷ steps) n note.number last.walk.position op last.calling.won
+        old stood = (let before = computed_tail v.ghost v.seat note.before step.begins stood.0.0 in
+            let none_begins : is_begun (op_in v.seat) (op_in note.before) ≡ false = ap (λ (asked : Option Op). is_begun (op_in v.seat) asked) before.1 ∙ same_begun (op_in v.seat) in
+            seen_as o (this ∷ steps) n v.ghost.call.number note.number v.seat.walk.position last.walk.position op v.seat.calling.won last.calling.won
+            (sym (same_number (is_begun (op_in v.seat) (op_in note.before)) v.ghost.call.number note.number none_begins step.number))
+            (sym before.0.1 ∙ (sym stood.0.1 ∙ sym later.0.1))
+            (λ won. (computed_won v.ghost v.seat note.before step.begins (stood.1 (left_won won))).0)
+            (seen_later o steps this n v.ghost.call.number v.seat.walk.position op v.seat.calling.won (seen.tails n before.0.0 op (sym before.1 ∙ asks_before))))
+
+        new : (left.walk.position ≡ end_of o (history_after c.history n note kind (found c.memory ask))) × (left.calling.won ≡ true → end_of o c.history < left.walk.position) →
+            IsSeen o (this ∷ steps) n note.number last.walk.position op last.calling.won
+        new now = record {
           ask = ask;
           note = note;
           later = [];
@@ -149,22 +118,23 @@ module _ (o : Origin) (steps : List Step) (inv : Invariant o (end o steps)) (see
           moment = refl;
           number_is = refl;
           asks = asks_before;
-          at_end = later.0.1 ∙ at_end;
+          at_end = later.0.1 ∙ now.0;
+          put_in = λ won. (let more = now.1 (left_won won) in let same = later.0.1 in omega (arith, more, same));
         }
 
-    left_number : (ghost_left v note kind f).call.number ≡ note.number
+    pub left_number : (ghost_left v note kind f).call.number ≡ note.number
     left_number = number_at_ask (is_begun (op_in v.seat) (op_in note.before)) v.ghost.call note.number step.number
 
     -- so it is of the view that the step leaves
-    tail_entered : (adds : List Call) (t : Seat) → t ≡ ended adds last → t.walk.at_tail ≡ true → (op : Op) → op_in t ≡ Some op → IsSeen o (this ∷ steps) n note.number t.walk.position op
-    tail_entered adds t is = subst (λ (u : Seat). u.walk.at_tail ≡ true → (op : Op) → op_in u ≡ Some op → IsSeen o (this ∷ steps) n note.number u.walk.position op) (sym is) (by adds)
+    tail_entered : (adds : List Call) (t : Seat) → t ≡ ended adds last → t.walk.at_tail ≡ true → (op : Op) → op_in t ≡ Some op → IsSeen o (this ∷ steps) n note.number t.walk.position op t.calling.won
+    tail_entered adds t is = subst (λ (u : Seat). u.walk.at_tail ≡ true → (op : Op) → op_in u ≡ Some op → IsSeen o (this ∷ steps) n note.number u.walk.position op u.calling.won) (sym is) (by adds)
       where
-        by : (added : List Call) → (ended added last).walk.at_tail ≡ true → (op : Op) → op_in (ended added last) ≡ Some op → IsSeen o (this ∷ steps) n note.number (ended added last).walk.position op
+        by : (added : List Call) → (ended added last).walk.at_tail ≡ true → (op : Op) → op_in (ended added last) ≡ Some op → IsSeen o (this ∷ steps) n note.number (ended added last).walk.position op (ended added last).calling.won
         by [] at op asks = seen_last at op asks
         by (call ∷ calls) at op asks = (let never : None ≡ Some op = asks in cc)
 
     -- and of the record that it adds
-    last_is : last.number ≡ n
+    pub last_is : last.number ≡ n
     last_is = (let later = step_keeps o c this inv allowed in
         let same : view_of (after o c this).views n ≡ view_after v kind note f = get_or-set_same c.views n _ spent_view allowed.made in
         let long = Rattle.std.proofs.lemmas.List.length-set c.views n (view_after v kind note f) in
@@ -175,18 +145,32 @@ module _ (o : Origin) (steps : List Step) (inv : Invariant o (end o steps)) (see
     added_seen : (adds : List Call) → MayAddAll (ghost_left v note kind f) last adds → AllByRecursion (IsCallSeen o (this ∷ steps)) adds
     added_seen [] may = tt
     added_seen (call ∷ []) may = (
-      subst (λ (seat : ℕ). IsSeen o (this ∷ steps) seat call.number call.position call.op) (sym (may.seat ∙ last_is))
-          (seen_as o (this ∷ steps) n note.number call.number last.walk.position call.position call.op (sym (may.number ∙ left_number)) (sym may.position) (seen_last may.at_tail call.op may.op)),
+      subst (λ (seat : ℕ). IsSeen o (this ∷ steps) seat call.number call.position call.op (is_write call.op call.reply)) (sym (may.seat ∙ last_is))
+          (seen_as o (this ∷ steps) n note.number call.number last.walk.position call.position call.op last.calling.won (is_write call.op call.reply) (sym (may.number ∙ left_number)) (sym may.position)
+          (λ write. written_won last.calling.won refl write) (seen_last may.at_tail call.op may.op)),
       tt,
     )
+      where
+        written_won : (won : Bool) → last.calling.won ≡ won → is_write call.op call.reply ≡ true → won ≡ true
+        written_won true is write = refl
+        written_won false is write = (let never : false ≡ true = sym (unwon_no_write (ghost_left v note kind f) last call.op call.reply is may.fits) ∙ write in cc)
     added_seen (call ∷ other ∷ calls) may = absurd may
+
+    -- what has put in an entry is at its tail
+    stands_entered : (adds : List Call) (t : Seat) → t ≡ ended adds last → StandsWon t
+    stands_entered adds t is = subst StandsWon (sym is) (by adds)
+      where
+        by : (added : List Call) → StandsWon (ended added last)
+        by [] won = (let was = computed_won (ghost_left v note kind f) left last step.enters.computed won in was.1 (moves.stands was.0))
+        by (call ∷ calls) won = (let never : false ≡ true = won in cc)
 
     seen_does : AllSeen o (this ∷ steps)
     seen_does = record {
       tails = each_set (λ (k : ℕ) (w : View). IsTailSeen o (this ∷ steps) k w) c.views n (view_after v kind note f) allowed.made
-          (λ at op asks. seen_as o (this ∷ steps) n note.number (view_after v kind note f).ghost.call.number note.seat.walk.position note.seat.walk.position op (sym left_number) refl
+          (λ at op asks. seen_as o (this ∷ steps) n note.number (view_after v kind note f).ghost.call.number note.seat.walk.position note.seat.walk.position op note.seat.calling.won note.seat.calling.won (sym left_number) refl (λ won. won)
           (tail_entered note.adds note.seat step.enters.seat_is at op asks))
           (λ k other. tail_later o steps this k (view_of c.views k) (seen.tails k));
+      stands = each_set (λ (k : ℕ) (w : View). StandsWon w.seat) c.views n (view_after v kind note f) allowed.made (stands_entered note.adds note.seat step.enters.seat_is) (λ k other. seen.stands k);
       records = each_set (λ (k : ℕ) (w : View). AllByRecursion (IsCallSeen o (this ∷ steps)) w.done) c.views n (view_after v kind note f) allowed.made
           (each_join (IsCallSeen o (this ∷ steps)) v.done note.adds (records_later o steps this v.done (seen.records n)) (added_seen note.adds step.enters.adds_are))
           (λ k other. records_later o steps this (view_of c.views k).done (seen.records k));
@@ -197,6 +181,7 @@ module _ (o : Origin) (steps : List Step) (inv : Invariant o (end o steps)) (see
   seen_splits may = record {
     tails = each_grown o c inv may (λ (k : ℕ) (w : View). IsTailSeen o (Splits 0 ∷ steps) k w) (tail_later o steps (Splits 0) 0 (view_of c.views 0) (seen.tails 0)) (λ at op asks. (let never : false ≡ true = at in cc))
         (λ k other. tail_later o steps (Splits 0) k (view_of c.views k) (seen.tails k));
+    stands = each_grown o c inv may (λ (k : ℕ) (w : View). StandsWon w.seat) (seen.stands 0) (λ won. (let never : false ≡ true = won in cc)) (λ k other. seen.stands k);
     records = each_grown o c inv may (λ (k : ℕ) (w : View). AllByRecursion (IsCallSeen o (Splits 0 ∷ steps)) w.done) (records_later o steps (Splits 0) (view_of c.views 0).done (seen.records 0)) tt
         (λ k other. records_later o steps (Splits 0) (view_of c.views k).done (seen.records k));
   }
@@ -212,6 +197,7 @@ module _ (o : Origin) (steps : List Step) (inv : Invariant o (end o steps)) (see
         (λ at op asks. (let never : false ≡ true = sym (joined_away _ (view_of c.views seat) (view_of c.views other)) ∙ at in cc))
         (λ at op asks. (let never : false ≡ true = at in cc))
         (λ k not_seat not_other. tail_later o steps (Joins seat other) k (view_of c.views k) (seen.tails k));
+    stands = each_joined o c seat other inv may (λ (k : ℕ) (w : View). StandsWon w.seat) (λ won. (let never : false ≡ true = sym may.idle.not_won ∙ won in cc)) (λ won. (let never : false ≡ true = won in cc)) (λ k not_seat not_other. seen.stands k);
     records = each_joined o c seat other inv may (λ (k : ℕ) (w : View). AllByRecursion (IsCallSeen o (Joins seat other ∷ steps)) w.done)
         (each_join (IsCallSeen o (Joins seat other ∷ steps)) (view_of c.views seat).done (view_of c.views other).done
         (records_later o steps (Joins seat other) (view_of c.views seat).done (seen.records seat)) (records_later o steps (Joins seat other) (view_of c.views other).done (seen.records other)))
@@ -232,22 +218,23 @@ view_or_spent P (v ∷ views) (suc k) spent all = view_or_spent P views k spent 
 
 -- no view has walked at the start
 abbrev IsFresh : View → Type 0
-IsFresh v = (v.seat.walk.at_tail ≡ false) × (v.done ≡ [])
+IsFresh v = (v.seat.walk.at_tail ≡ false) × (v.done ≡ []) × (v.seat.calling.won ≡ false)
 
 all_fresh : (o : Origin) (numbers : List ℕ) → AllByRecursion IsFresh (map (λ (number : ℕ). new_view o.geometry o.seats (first_position o) (made_by o.made number) number) numbers)
 all_fresh o [] = tt
-all_fresh o (number ∷ numbers) = ((refl, refl), all_fresh o numbers)
+all_fresh o (number ∷ numbers) = ((refl, refl, refl), all_fresh o numbers)
 
 seen_start : (o : Origin) → AllSeen o []
 seen_start o = record {
   tails = λ seat at op asks. (let never : false ≡ true = sym (fresh seat).0 ∙ at in cc);
+  stands = λ seat won. (let never : false ≡ true = sym (fresh seat).2 ∙ won in cc);
   records = λ seat. subst (λ (calls : List Call). AllByRecursion (IsCallSeen o []) calls) (sym (fresh seat).1) tt;
 }
   where
     fresh : (seat : ℕ) → IsFresh (view_of (first_core o).views seat)
-    fresh seat = view_or_spent IsFresh (first_core o).views seat (refl, refl) (all_fresh o (range_with_len 0 o.made))
+    fresh seat = view_or_spent IsFresh (first_core o).views seat (refl, refl, refl) (all_fresh o (range_with_len 0 o.made))
 
-seen_run : (o : Origin) (steps : List Step) → Invariant o (first_core o) → IsRun o steps → AllSeen o steps
+pub seen_run : (o : Origin) (steps : List Step) → Invariant o (first_core o) → IsRun o steps → AllSeen o steps
 seen_run o [] start run = seen_start o
 seen_run o (step ∷ steps) start run = seen_step o steps (run_from o steps start run.0) (seen_run o steps start run.0) step run.1
 

@@ -1,5 +1,5 @@
--- What is at its tail after computing was there before, at the same position; and after a step it was there before, or is at the end.
-use Rattle.std.proofs.Common.{◌≡◌, ◌≢◌, ◌⊎◌, inl, inr, ◌+◌, ◌==◌, ◌&&◌, ◌||◌, ◌%◌, not, if◌then◌else◌, ℕ, Bool, true, false, List, [], ◌∷◌, ◌++◌, refl, sym, ◌∙◌, ap, subst, arith, slice_index, length-append}
+-- What is at its tail after a step was there before, or is at the end.
+use Rattle.std.proofs.Common.{◌≡◌, ◌≢◌, ◌⊎◌, inl, inr, ◌<◌, ◌+◌, ◌==◌, ◌&&◌, ◌||◌, ◌%◌, not, if◌then◌else◌, ℕ, Bool, true, false, List, [], ◌∷◌, ◌++◌, refl, sym, ◌∙◌, ap, subst, arith, slice_index, length-append}
 use Rattle.std.proofs.lemmas.Bool.{eqb-true, eqb-false}
 use Rattle.log_entry.specs.declared.layouts.TheConstants.{SEAL}
 use Rattle.pmem_words.specs.Seats.{Seat}
@@ -12,59 +12,29 @@ use Rattle.log_core.specs.Views.{Ghost, MarkedWord, view_of, op_in}
 use Rattle.log_core.specs.Origin.{Origin, q_of_origin}
 use Rattle.log_core.specs.Files.{end_of}
 use Rattle.log_core.specs.Cores.{Core}
-use Rattle.log_core.specs.Works.{Work, Begins, KeepsTable, StartsFromLog, StartsFromSnapshot, ReadsRun, NextSnapshot, EndsReading, Forgets, SetsWord, CountsFilled, OpensBase, AddsBaseWord, DropsBases, Lays, NotesNamed, NotesHeld, KeepsReplaced, TakesEntry, TakesSeal, Follows, MayWorkAll, state_after_work, state_after_all_work, is_going_on, Computes}
 use Rattle.log_core.specs.Steps.{Note, Kind, LoadsHead, StoresOwnPin, LoadsPinWord, LoadsImageWord, LoadsBitmapWord, SetsBits, ClearsBits, StoresWord, ExchangesSlot, ExchangesLink, ExchangesHead, MarksWord, Fences, NoKind, kind_of_ask, effect, is_of_owned, give_if, not_found, is_tail_found, slot_sealed, slot_exchanged, link_exchanged, head_exchanged}
 use Rattle.log_core.specs.After.{history_if, history_after, write_of}
 use Rattle.log_core.specs.May.{May, MayExchangeSlot, MayExchangeLink}
 use Rattle.log_core.specs.Invariant.{Invariant}
 use Rattle.log_core.specs.Knows.{Knows}
 use Rattle.log_core.proofs.TailEnds.{slot_last, link_last}
-use Rattle.log_core.proofs.kinds.GoingOn.{op_stays}
 use Rattle.log_core.proofs.kinds.LoadsImageWord.{at_end}
+use Rattle.log_core.proofs.following.TailWorks.{IsSameTail, StandsWon}
 
--- the one state is at its tail where the other is, at the same position
-abbrev pub IsSameTail : Seat → Seat → Type 0
-IsSameTail s t = (s.walk.at_tail ≡ true) × (t.walk.position ≡ s.walk.position)
-
--- a computation finds no tail
-tail_before : (s : Seat) (work : Work) → (state_after_work s work).walk.at_tail ≡ true → IsSameTail s (state_after_work s work) × (is_going_on work ≡ true)
-tail_before s (Begins task bytes) at = (let never : false ≡ true = at in cc)
-tail_before s KeepsTable at = ((at, refl), refl)
-tail_before s StartsFromLog at = (let never : false ≡ true = at in cc)
-tail_before s StartsFromSnapshot at = (let never : false ≡ true = at in cc)
-tail_before s ReadsRun at = ((at, refl), refl)
-tail_before s NextSnapshot at = ((at, refl), refl)
-tail_before s EndsReading at = ((at, refl), refl)
-tail_before s TakesEntry at = (let never : false ≡ true = at in cc)
-tail_before s TakesSeal at = ((at, refl), refl)
-tail_before s Follows at = ((at, refl), refl)
-tail_before s Forgets at = ((at, refl), refl)
-tail_before s (OpensBase virt) at = ((at, refl), refl)
-tail_before s AddsBaseWord at = ((at, refl), refl)
-tail_before s DropsBases at = ((at, refl), refl)
-tail_before s (Lays bytes) at = ((at, refl), refl)
-tail_before s (SetsWord place word value) at = ((at, refl), refl)
-tail_before s (CountsFilled place) at = ((at, refl), refl)
-tail_before s (NotesNamed words) at = ((at, refl), refl)
-tail_before s KeepsReplaced at = ((at, refl), refl)
-tail_before s (NotesHeld held) at = ((at, refl), refl)
-
-tail_before_all : (g : Ghost) (s : Seat) (works : List Work) → MayWorkAll g s works → (state_after_all_work s works).walk.at_tail ≡ true →
-    IsSameTail s (state_after_all_work s works) × (op_in (state_after_all_work s works) ≡ op_in s)
-tail_before_all g s [] may at = ((at, refl), refl)
-tail_before_all g s (work ∷ works) may at =
-    (let rest = tail_before_all g (state_after_work s work) works may.1 at in
-    let one = tail_before s work rest.0.0 in
-    ((one.0.0, rest.0.1 ∙ one.0.1), rest.1 ∙ op_stays g s work one.1 may.0))
-
-pub computed_tail : (g : Ghost) (s t : Seat) → Computes g s t → t.walk.at_tail ≡ true → IsSameTail s t × (op_in t ≡ op_in s)
-computed_tail g s t computes at = subst (λ (u : Seat). u.walk.at_tail ≡ true → IsSameTail s u × (op_in u ≡ op_in s)) (sym computes.gives)
-    (λ there. tail_before_all g s computes.works computes.may there) at
-
--- what a step makes of a state: it asks the same, and where it is at its tail it was so before, or is at the end
-pub record TailMoves (s t : Seat) (end : ℕ) : Type 0 where
+-- what a step makes of a state: it asks the same, and where it is at its tail it was so before, or is at the end, and has put in an entry where
+-- the end is another
+pub record TailMoves (s t : Seat) (before end : ℕ) : Type 0 where
   pub same_op : op_in t ≡ op_in s
-  pub tail : t.walk.at_tail ≡ true → IsSameTail s t ⊎ (t.walk.position ≡ end)
+  pub stands : StandsWon t
+  pub tail : t.walk.at_tail ≡ true → (IsSameTail s t × (t.calling.won ≡ true → s.calling.won ≡ true)) ⊎ ((t.walk.position ≡ end) × (t.calling.won ≡ true → before < t.walk.position))
+
+-- as where it leaves call and walk as they were
+same_moves : (s t : Seat) (before end : ℕ) → op_in t ≡ op_in s → (t.walk.at_tail ≡ s.walk.at_tail) × (t.walk.position ≡ s.walk.position) × (t.calling.won ≡ s.calling.won) → StandsWon s → TailMoves s t before end
+same_moves s t before end same is stands = record {
+  same_op = same;
+  stands = λ won. is.0 ∙ stands (sym is.2 ∙ won);
+  tail = λ at. inl ((sym is.0 ∙ at, is.1), λ won. sym is.2 ∙ won);
+}
 
 -- what an ask of these kinds finds, and its answer
 abbrev IsFoundBy : Core → Kind → ℕ → ℕ → Type 0
@@ -112,64 +82,98 @@ found_by_ask o c n (ClearBits (FenceOf other) bits) = tt
 found_by_ask o c n (Mark word) = tt
 found_by_ask o c n Fence = tt
 
-module _ (o : Origin) (c : Core) (n : ℕ) (note : Note) (g : Ghost) (pin began : ℕ) (inv : Invariant o c) (knows : Knows o c n note.before g pin began) (unspent : (view_of c.views n).parts ≢ []) (marks : List MarkedWord) where
+module _ (o : Origin) (c : Core) (n : ℕ) (note : Note) (g : Ghost) (pin began : ℕ) (inv : Invariant o c) (knows : Knows o c n note.before g pin began) (unspent : (view_of c.views n).parts ≢ []) (marks : List MarkedWord)
+    (stands : StandsWon note.before) where
   abbrev s : Seat
   s = note.before
 
   abbrev words : List ℕ
   words = c.memory.now.words
 
+  abbrev finish : ℕ
+  finish = end_of o c.history
+
   abbrev Moves : Kind → ℕ → ℕ → Type 0
-  Moves kind f h = TailMoves s (effect marks s kind f) (end_of o (history_after c.history n note kind h))
+  Moves kind f h = TailMoves s (effect marks s kind f) finish (end_of o (history_after c.history n note kind h))
 
-  cleared_moves : (own : Bool) (word bits : ℕ) → TailMoves s (not_found (give_if own s word bits) word bits) (end_of o c.history)
-  cleared_moves true word bits = record { same_op = refl; tail = λ at. inl (at, refl) }
-  cleared_moves false word bits = record { same_op = refl; tail = λ at. inl (at, refl) }
+  cleared_moves : (own : Bool) (word bits : ℕ) → TailMoves s (not_found (give_if own s word bits) word bits) finish finish
+  cleared_moves true word bits = same_moves s (not_found (give_if true s word bits) word bits) finish finish refl (refl, refl, refl) stands
+  cleared_moves false word bits = same_moves s (not_found (give_if false s word bits) word bits) finish finish refl (refl, refl, refl) stands
 
-  head_moves : (won : Bool) (next f : ℕ) → TailMoves s (head_exchanged s next f won) (end_of o c.history)
-  head_moves true next f = record { same_op = refl; tail = λ at. inl (at, refl) }
-  head_moves false next f = record { same_op = refl; tail = λ at. inl (at, refl) }
+  head_moves : (won : Bool) (next f : ℕ) → TailMoves s (head_exchanged s next f won) finish finish
+  head_moves true next f = same_moves s (head_exchanged s next f true) finish finish refl (refl, refl, refl) stands
+  head_moves false next f = same_moves s (head_exchanged s next f false) finish finish refl (refl, refl, refl) stands
 
-  link_moves : (won : Bool) (word block : ℕ) → (slice_index words word == 0) ≡ won → MayExchangeLink s word block → TailMoves s (link_exchanged s word block (slice_index words word) won) (end_of o c.history)
+  -- a view that comes to its tail now has put in nothing
+  found_now : (t : Seat) → t.walk.position ≡ s.walk.position → t.calling.won ≡ s.calling.won → s.walk.position ≡ finish → (at : Bool) → s.walk.at_tail ≡ at →
+      (IsSameTail s t × (t.calling.won ≡ true → s.calling.won ≡ true)) ⊎ ((t.walk.position ≡ finish) × (t.calling.won ≡ true → finish < t.walk.position))
+  found_now t place same_won at_finish true is = inl ((is, place), λ won. sym same_won ∙ won)
+  found_now t place same_won at_finish false is = inr (place ∙ at_finish, λ won. (let never : false ≡ true = sym is ∙ stands (sym same_won ∙ won) in cc))
+
+  link_moves : (won : Bool) (word block : ℕ) → (slice_index words word == 0) ≡ won → MayExchangeLink s word block → TailMoves s (link_exchanged s word block (slice_index words word) won) finish finish
   link_moves true word block e may = record {
     same_op = refl;
-    tail = λ at. inr (link_last o c n s g pin began inv knows unspent may.valid may.ready may.at_end (ap (λ (w : ℕ). slice_index words w) (sym may.link) ∙ eqb-true (slice_index words word) 0 e)).position;
+    stands = λ won. refl;
+    tail = λ at. found_now (link_exchanged s word block (slice_index words word) true) refl refl
+        (link_last o c n s g pin began inv knows unspent may.valid may.ready may.at_end (ap (λ (w : ℕ). slice_index words w) (sym may.link) ∙ eqb-true (slice_index words word) 0 e)).position s.walk.at_tail refl;
   }
-  link_moves false word block e may = record { same_op = refl; tail = λ at. inl (at, refl) }
+  link_moves false word block e may = same_moves s (link_exchanged s word block (slice_index words word) false) finish finish refl (refl, refl, refl) stands
 
   slot_moves : (seal won : Bool) (word entry : ℕ) → (entry == SEAL) ≡ seal → (slice_index words word == 0) ≡ won → MayExchangeSlot o c.history s word entry →
-      TailMoves s (if seal then slot_sealed s word (slice_index words word) won else slot_exchanged s word entry (slice_index words word) won) (end_of o (history_if (won && not seal) c.history (write_of n note entry)))
-  slot_moves true true word entry is e may = record { same_op = refl; tail = λ at. inl ((may.0 (eqb-true entry SEAL is)).at_tail.at_tail, refl) }
-  slot_moves true false word entry is e may = record { same_op = refl; tail = λ at. (let never : false ≡ true = at in cc) }
-  slot_moves false true word entry is e may = record { same_op = refl; tail = λ at. inr next }
+      TailMoves s (if seal then slot_sealed s word (slice_index words word) won else slot_exchanged s word entry (slice_index words word) won) finish (end_of o (history_if (won && not seal) c.history (write_of n note entry)))
+  slot_moves true true word entry is e may = record {
+    same_op = refl;
+    stands = λ won. refl;
+    tail = λ at. inl (((may.0 (eqb-true entry SEAL is)).at_tail.at_tail, refl), λ won. won);
+  }
+  slot_moves true false word entry is e may = record {
+    same_op = refl;
+    stands = λ won. (let never : false ≡ true = sym (may.0 (eqb-true entry SEAL is)).at_tail.not_won ∙ won in cc);
+    tail = λ at. (let never : false ≡ true = at in cc);
+  }
+  slot_moves false true word entry is e may = record { same_op = refl; stands = λ won. refl; tail = λ at. inr (next, λ won. more) }
     where
       commit : Rattle.log_core.specs.May.MayCommit o c.history s word entry
       commit = may.1 (eqb-false entry SEAL is)
 
+      at_finish : s.walk.position ≡ finish
+      at_finish = (slot_last o c n s g pin began inv knows unspent commit.at_tail.valid commit.at_tail.ready commit.inside (ap (λ (w : ℕ). slice_index words w) (sym commit.slot) ∙ eqb-true (slice_index words word) 0 e)).position
+
       next : s.walk.position + 1 ≡ end_of o (c.history ++ write_of n note entry ∷ [])
-      next = (let last = (slot_last o c n s g pin began inv knows unspent commit.at_tail.valid commit.at_tail.ready commit.inside (ap (λ (w : ℕ). slice_index words w) (sym commit.slot) ∙ eqb-true (slice_index words word) 0 e)).position in
-          let long = length-append c.history (write_of n note entry ∷ []) in omega (arith, last, long))
-  slot_moves false false word entry is e may = record { same_op = refl; tail = λ at. (let never : false ≡ true = at in cc) }
+      next = (let last = at_finish in let long = length-append c.history (write_of n note entry ∷ []) in omega (arith, last, long))
+
+      more : finish < s.walk.position + 1
+      more = (let last = at_finish in omega (arith, last))
+  slot_moves false false word entry is e may = record {
+    same_op = refl;
+    stands = λ won. (let never : false ≡ true = sym (may.1 (eqb-false entry SEAL is)).at_tail.not_won ∙ won in cc);
+    tail = λ at. (let never : false ≡ true = at in cc);
+  }
 
   by_kind : (kind : Kind) (f h : ℕ) → IsFoundBy c kind f h → May o c g s kind → Moves kind f h
-  by_kind LoadsHead f h found may = record { same_op = refl; tail = λ at. inl (at, refl) }
-  by_kind (StoresOwnPin value) f h found may = record { same_op = refl; tail = λ at. inl (at, refl) }
-  by_kind (LoadsPinWord other) f h found may = record { same_op = refl; tail = λ at. inl (at, refl) }
-  by_kind (LoadsImageWord word) f h found may = record { same_op = refl; tail = λ at. go s.walk.at_tail refl at }
+  by_kind LoadsHead f h found may = same_moves s (effect marks s LoadsHead f) finish finish refl (refl, refl, refl) stands
+  by_kind (StoresOwnPin value) f h found may = same_moves s (effect marks s (StoresOwnPin value) f) finish finish refl (refl, refl, refl) stands
+  by_kind (LoadsPinWord other) f h found may = same_moves s (effect marks s (LoadsPinWord other) f) finish finish refl (refl, refl, refl) stands
+  by_kind (LoadsBitmapWord word) f h found may = same_moves s (effect marks s (LoadsBitmapWord word) f) finish finish refl (refl, refl, refl) stands
+  by_kind (SetsBits word bits) f h found may = same_moves s (effect marks s (SetsBits word bits) f) finish finish refl (refl, refl, refl) stands
+  by_kind (StoresWord word value) f h found may = same_moves s (effect marks s (StoresWord word value) f) finish finish refl (refl, refl, refl) stands
+  by_kind (MarksWord word) f h found may = same_moves s (effect marks s (MarksWord word) f) finish finish refl (refl, refl, refl) stands
+  by_kind Fences f h found may = same_moves s (effect marks s Fences f) finish finish refl (refl, refl, refl) stands
+  by_kind (LoadsImageWord word) f h found may = record {
+    same_op = refl;
+    stands = λ won. rw (stands won) refl;
+    tail = λ at. go s.walk.at_tail refl at;
+  }
     where
-      go : (before : Bool) → s.walk.at_tail ≡ before → (before || is_tail_found s word f) ≡ true → IsSameTail s s ⊎ (s.walk.position ≡ end_of o c.history)
-      go true is at = inl (is, refl)
-      go false is at = inr (at_end o c n s g pin began word inv knows unspent may (ap (λ (value : ℕ). is_tail_found s word value) (sym found) ∙ at))
-  by_kind (LoadsBitmapWord word) f h found may = record { same_op = refl; tail = λ at. inl (at, refl) }
-  by_kind (SetsBits word bits) f h found may = record { same_op = refl; tail = λ at. inl (at, refl) }
+      go : (before : Bool) → s.walk.at_tail ≡ before → (before || is_tail_found s word f) ≡ true →
+          (IsSameTail s (effect marks s (LoadsImageWord word) f) × (s.calling.won ≡ true → s.calling.won ≡ true)) ⊎ ((s.walk.position ≡ finish) × (s.calling.won ≡ true → finish < s.walk.position))
+      go true is at = inl ((is, refl), λ won. won)
+      go false is at = inr (at_end o c n s g pin began word inv knows unspent may (ap (λ (value : ℕ). is_tail_found s word value) (sym found) ∙ at), λ won. (let never : false ≡ true = sym is ∙ stands won in cc))
   by_kind (ClearsBits word bits) f h found may = cleared_moves (is_of_owned s word bits) word bits
-  by_kind (StoresWord word value) f h found may = record { same_op = refl; tail = λ at. inl (at, refl) }
   by_kind (ExchangesSlot word entry) f h found may = subst (λ (k : ℕ). Moves (ExchangesSlot word entry) f k) (sym found.1)
       (subst (λ (k : ℕ). Moves (ExchangesSlot word entry) k k) (sym found.0) (slot_moves (entry == SEAL) (slice_index words word == 0) word entry refl refl may))
   by_kind (ExchangesLink word block) f h found may = subst (λ (k : ℕ). Moves (ExchangesLink word block) k h) (sym found) (link_moves (slice_index words word == 0) word block refl may)
   by_kind (ExchangesHead before next) f h found may = head_moves (f == before) next f
-  by_kind (MarksWord word) f h found may = record { same_op = refl; tail = λ at. inl (at, refl) }
-  by_kind Fences f h found may = record { same_op = refl; tail = λ at. inl (at, refl) }
   by_kind NoKind f h found may = absurd may
 
   -- so it is of each ask
