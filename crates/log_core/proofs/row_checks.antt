@@ -29,3 +29,6 @@ pub mod RowsWritten
 pub mod RowsLinked
 pub mod RowsEnded
 pub mod RowsJoined
+pub mod RowsStepped
+pub mod RowsTwoWriters
+pub mod RowsBothPut

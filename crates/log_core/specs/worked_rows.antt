@@ -10,3 +10,4 @@ pub mod Written
 pub mod Ended
 pub mod Accepted
 pub mod Joined
+pub mod TwoWriters
