@@ -32,3 +32,7 @@ pub mod RowsJoined
 pub mod RowsStepped
 pub mod RowsTwoWriters
 pub mod RowsBothPut
+pub mod RowsCollecting
+pub mod RowsHeadPut
+pub mod RowsGivenBack
+pub mod RowsOvertaken

@@ -11,3 +11,5 @@ pub mod Ended
 pub mod Accepted
 pub mod Joined
 pub mod TwoWriters
+pub mod Collecting
+pub mod GivenBack

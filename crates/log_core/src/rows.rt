@@ -4,6 +4,8 @@ ghost use Rattle.log_core.specs.worked_rows.Rows.{JustMade, PinsInThreeSteps, Sc
 ghost use Rattle.log_core.specs.worked_rows.AllowedSteps.{FilledNoMore, BitmapMayBeRead, AllowedKinds, BlockRuns};
 ghost use Rattle.log_core.specs.worked_rows.Written.{WriteRuns, LinkRuns, EntriesNotPut};
 ghost use Rattle.log_core.specs.worked_rows.TwoWriters.{TwoAtOneTail, SecondLoses, TwoWritersRun};
+ghost use Rattle.log_core.specs.worked_rows.Collecting.{TwoCollect};
+ghost use Rattle.log_core.specs.worked_rows.GivenBack.{CollectionRuns, OvertakenRuns};
 ghost use Rattle.log_core.specs.worked_rows.Ended.{CallsEnd, WriteNotPut, SizeBeforeTail, KeptTooEarly};
 ghost use Rattle.log_core.specs.worked_rows.Joined.{SyncRuns, NoMarkOutsideOfSyncs, SeatsAreJoined};
 ghost use Rattle.log_core.specs.worked_rows.Refused.{OtherEntryPossible, HeadSkips, LogHasMore, BitWithoutOwner, BlockOnTwoLists, ChainBlockFree, OtherContentPossible, PinOfAnother, ViewOfAnother, StoredNotPresent, ReplacedStillNamed, RecordOfNoWrite, SyncedMayBeLost, NamedTwice, SnapshotNamesMore, WriteOfNoSeat};
@@ -108,6 +110,9 @@ pub fn law_accepted()
     ensures two_at_one_tail { TwoAtOneTail }
     ensures second_loses { SecondLoses }
     ensures two_writers_run { TwoWritersRun }
+    ensures two_collect { TwoCollect }
+    ensures collection_runs { CollectionRuns }
+    ensures overtaken_runs { OvertakenRuns }
     ensures calls_end { CallsEnd }
     ensures sync_runs { SyncRuns }
     ensures no_mark_outside_of_syncs { NoMarkOutsideOfSyncs }

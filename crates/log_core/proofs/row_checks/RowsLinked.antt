@@ -23,10 +23,10 @@ use Rattle.log_core.proofs.row_checks.RowsReached.{reached_holds, store_next, ma
 use Rattle.log_core.proofs.row_checks.RowsWritten.{put_reached}
 
 -- a collection makes steps, and is no sync
-collect_steps : (op : Op) → op_of Collect [] ≡ Some op → is_quiet 64 op ≡ false
+pub collect_steps : (op : Op) → op_of Collect [] ≡ Some op → is_quiet 64 op ≡ false
 collect_steps op same = subst (λ (o : Op). is_quiet 64 o ≡ false) (ap op_or_size same) refl
 
-no_sync : Collect ≢ Sync
+pub no_sync : Collect ≢ Sync
 no_sync same = false≢true (ap is_sync same)
 
 sealing_reached : IsReached image_a own_sealing
@@ -79,7 +79,7 @@ fenced_reached : IsReached image_a log_fenced
 fenced_reached = step_reached image_a log_marked 0 2 Fence (CountsFilled 0 ∷ []) marked_reached (omega arith) (one_part 0) (record { owned = omega arith; each = each_marked }, tt) refl
     (record { in_sync = λ sync tail none. absurd (no_sync sync) })
 
-linked_reached : IsReached image_a own_linked
+pub linked_reached : IsReached image_a own_linked
 linked_reached = step_reached image_a log_fenced 0 2 (Exchange (Image 24) 0 4) [] fenced_reached (omega arith) (one_part 0) tt refl
     (record { valid = refl; ready = refl; link = refl; at_end = refl; owned = refl; in_log = refl; content = refl })
 
