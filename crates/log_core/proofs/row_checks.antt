@@ -29,3 +29,10 @@ pub mod RowsWritten
 pub mod RowsLinked
 pub mod RowsEnded
 pub mod RowsJoined
+pub mod RowsStepped
+pub mod RowsTwoWriters
+pub mod RowsBothPut
+pub mod RowsCollecting
+pub mod RowsHeadPut
+pub mod RowsGivenBack
+pub mod RowsOvertaken

@@ -10,3 +10,6 @@ pub mod Written
 pub mod Ended
 pub mod Accepted
 pub mod Joined
+pub mod TwoWriters
+pub mod Collecting
+pub mod GivenBack
