@@ -42,6 +42,7 @@ may_put_there = record {
   at_tail = record { valid = refl; ready = refl; not_won = refl; at_tail = refl };
   slot = refl;
   inside = omega arith;
+  small = omega arith;
   op = PwriteOp 0 (187 ∷ []);
   job = refl;
   is_write = refl;
@@ -69,6 +70,7 @@ may_put_next = record {
   at_tail = record { valid = refl; ready = refl; not_won = refl; at_tail = refl };
   slot = refl;
   inside = omega arith;
+  small = omega arith;
   op = PwriteOp 0 (187 ∷ []);
   job = refl;
   is_write = refl;
