@@ -24,6 +24,7 @@ pub mod RowsLate
 pub mod RowsTurns
 pub mod RowsAllowed
 pub mod RowsStart
+pub mod RowsStarting
 pub mod RowsReached
 pub mod RowsWritten
 pub mod RowsLinked

@@ -1,6 +1,7 @@
 //! Worked states and steps, each the contract of a function that does nothing: what they compute to, and states that are refused.
 
 ghost use Rattle.log_core.specs.worked_rows.Rows.{JustMade, PinsInThreeSteps, ScanSeesPins, ComesToTail, BitsTaken, FenceFollows, SlotWon, SlotLost, WriteEnds, LinkWon, LinkLost, HeadWon, HeadLost, KeptUntilUnpinned, BitsCleared, BitsNotCleared, CollectEnds, SyncEnds, FilesByPosition, EarlyFiles, WalkedTrail, LacksBlocks, EntryTakenIn, ReadLays, BaseWords, SnapshotRead, QuietCalls, RepliesFit, LimitsFit};
+ghost use Rattle.log_core.specs.worked_rows.Starting.{EachKindStarts};
 ghost use Rattle.log_core.specs.worked_rows.AllowedSteps.{FilledNoMore, BitmapMayBeRead, AllowedKinds, BlockRuns};
 ghost use Rattle.log_core.specs.worked_rows.Written.{WriteRuns, LinkRuns, EntriesNotPut};
 ghost use Rattle.log_core.specs.worked_rows.TwoWriters.{TwoAtOneTail, SecondLoses, TwoWritersRun};
@@ -101,6 +102,7 @@ pub fn law_accepted()
     ensures word_may_be_loaded { WordMayBeLoaded }
     ensures word_may_be_marked { WordMayBeMarked }
     ensures entry_may_be_put { EntryMayBePut }
+    ensures each_kind_starts { EachKindStarts }
     ensures bitmap_may_be_read { BitmapMayBeRead }
     ensures allowed_kinds { AllowedKinds }
     ensures block_runs { BlockRuns }

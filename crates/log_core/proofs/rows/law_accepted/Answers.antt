@@ -7,6 +7,7 @@ use Rattle.log_core.proofs.row_checks.RowsOwners.{owners_stand}
 use Rattle.log_core.proofs.row_checks.RowsRun.{pin_runs, write_fits, views_join, views_split}
 use Rattle.log_core.proofs.row_checks.RowsLate.{late_write, late_sync, late_walk}
 use Rattle.log_core.proofs.row_checks.RowsTurns.{runs_may_be_put, collections_in_turn}
+use Rattle.log_core.proofs.row_checks.RowsStarting.{each_kind_starts}
 use Rattle.log_core.proofs.row_checks.RowsAllowed.{bitmap_may_be_read, allowed_kinds}
 use Rattle.log_core.proofs.row_checks.RowsReached.{block_runs}
 use Rattle.log_core.proofs.row_checks.RowsWritten.{write_runs, entries_not_put}
@@ -25,6 +26,7 @@ returns c = record {
   word_may_be_loaded = word_may_be_loaded;
   word_may_be_marked = word_may_be_marked;
   entry_may_be_put = entry_may_be_put;
+  each_kind_starts = each_kind_starts;
   bitmap_may_be_read = bitmap_may_be_read;
   allowed_kinds = allowed_kinds;
   block_runs = block_runs;
