@@ -17,4 +17,6 @@ pub mod SeatOrder
 pub mod NumbersRise
 pub mod CountedCalls
 pub mod CallsInTime
+pub mod Causes
+pub mod FoundAtSteps
 pub mod LegalRuns
