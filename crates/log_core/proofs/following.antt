@@ -19,4 +19,5 @@ pub mod CountedCalls
 pub mod CallsInTime
 pub mod Causes
 pub mod FoundAtSteps
+pub mod CausesOfReplies
 pub mod LegalRuns

@@ -36,7 +36,7 @@ pub record Causes (o : Origin) (steps : List Step) (seat number : ℕ) (words pi
   pub pins_seen : call.put ≢ None → (other : ℕ) → other < length pins → IsAtStep o steps seat number (FindsPin other (slice_index pins other))
 
 -- it stays with further steps
-at_step_later : (o : Origin) (steps : List Step) (step : Step) (seat number : ℕ) (holds : Core → Ask → Type 0) → IsAtStep o steps seat number holds → IsAtStep o (step ∷ steps) seat number holds
+pub at_step_later : (o : Origin) (steps : List Step) (step : Step) (seat number : ℕ) (holds : Core → Ask → Type 0) → IsAtStep o steps seat number holds → IsAtStep o (step ∷ steps) seat number holds
 at_step_later o steps step seat number holds at = record {
   ask = at.ask;
   note = at.note;
