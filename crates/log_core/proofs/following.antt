@@ -20,4 +20,6 @@ pub mod CallsInTime
 pub mod Causes
 pub mod FoundAtSteps
 pub mod CausesOfReplies
+pub mod FoundWorks
+pub mod CausedCalls
 pub mod LegalRuns

@@ -1,5 +1,5 @@
 -- What a step finds is added to what its call has found.
-use Rattle.std.proofs.Common.{◌≡◌, ◌≢◌, ◌⊎◌, inl, inr, ⊎_elim, ◌<◌, ◌+◌, ◌-◌, ◌/◌, ◌%◌, ◌^◌, ◌==◌, ◌&&◌, not, min, if◌then◌else◌, ℕ, Bool, true, false, List, [], ◌∷◌, length, bit_or, refl, sym, ◌∙◌, arith, slice_index}
+use Rattle.std.proofs.Common.{◌≡◌, ◌≢◌, ◌⊎◌, inl, inr, ⊎_elim, ◌<◌, ◌-◌, ◌/◌, ◌%◌, ◌^◌, ◌==◌, not, if◌then◌else◌, ℕ, Bool, true, false, List, [], ◌∷◌, length, bit_or, refl, subst, arith, slice_index}
 use Rattle.std.specs.Int.{bit_at}
 use Rattle.std.proofs.lemmas.Nat.Bits.{bit_at_and, bit_at-lt}
 use Rattle.std.proofs.lemmas.Bool.{eqb-true, eqb-false}
@@ -39,16 +39,14 @@ module _ (o : Origin) (c : Core) (steps : List Step) (n number : ℕ) (s : Seat)
   Now ask = (holds : Core → Ask → Type 0) → holds c ask → IsAtStep o steps n number holds
 
   cleared : (own : Bool) (word bits : ℕ) → word < length s.blocks.found → At (not_found (give_if own s word bits) word bits) g.call
-  cleared true word bits inside = more_found o steps n number s.blocks.found s.giving.pins_seen g.call word (without_bits (slice_index s.blocks.found word) bits) inside causes
-      (λ block at is. inr (there block at is))
+  cleared own word bits inside = by own
     where
       there : (block : ℕ) → word ≡ block / 64 → bit_at (without_bits (slice_index s.blocks.found word) bits) (block % 64) ≡ 1 → found_bit s.blocks.found block ≡ 1
-      there block at is = Rattle.std.proofs.Common.subst (λ (k : ℕ). bit_at (slice_index s.blocks.found k) (block % 64) ≡ 1) at (without_bit (slice_index s.blocks.found word) bits (block % 64) is)
-  cleared false word bits inside = more_found o steps n number s.blocks.found s.giving.pins_seen g.call word (without_bits (slice_index s.blocks.found word) bits) inside causes
-      (λ block at is. inr (there block at is))
-    where
-      there : (block : ℕ) → word ≡ block / 64 → bit_at (without_bits (slice_index s.blocks.found word) bits) (block % 64) ≡ 1 → found_bit s.blocks.found block ≡ 1
-      there block at is = Rattle.std.proofs.Common.subst (λ (k : ℕ). bit_at (slice_index s.blocks.found k) (block % 64) ≡ 1) at (without_bit (slice_index s.blocks.found word) bits (block % 64) is)
+      there block at is = subst (λ (k : ℕ). bit_at (slice_index s.blocks.found k) (block % 64) ≡ 1) at (without_bit (slice_index s.blocks.found word) bits (block % 64) is)
+
+      by : (mine : Bool) → At (not_found (give_if mine s word bits) word bits) g.call
+      by true = more_found o steps n number s.blocks.found s.giving.pins_seen g.call word (without_bits (slice_index s.blocks.found word) bits) inside causes (λ block at is. inr (there block at is))
+      by false = more_found o steps n number s.blocks.found s.giving.pins_seen g.call word (without_bits (slice_index s.blocks.found word) bits) inside causes (λ block at is. inr (there block at is))
 
   slot_after : (seal won : Bool) (word entry f : ℕ) → At (if seal then slot_sealed s word f won else slot_exchanged s word entry f won) g.call
   slot_after true true word entry f = causes
@@ -79,7 +77,7 @@ module _ (o : Origin) (c : Core) (steps : List Step) (n number : ℕ) (s : Seat)
   loaded : (word f : ℕ) → ((block : ℕ) → word ≡ block / 64 → bit_at f (block % 64) ≡ 1 → IsAtStep o steps n number (FindsTaken block)) → (block : ℕ) → word ≡ block / 64 →
       bit_at (bit_or (slice_index s.blocks.found word) f) (block % 64) ≡ 1 → IsAtStep o steps n number (FindsTaken block) ⊎ (found_bit s.blocks.found block ≡ 1)
   loaded word f now block at is = ⊎_elim
-      (λ old. inr (Rattle.std.proofs.Common.subst (λ (k : ℕ). bit_at (slice_index s.blocks.found k) (block % 64) ≡ 1) at old))
+      (λ old. inr (subst (λ (k : ℕ). bit_at (slice_index s.blocks.found k) (block % 64) ≡ 1) at old))
       (λ new. inl (now block at new)) (either_bit (slice_index s.blocks.found word) f (block % 64) is)
 
   pub after_ask : (ask : Ask) → Now ask → May o c g s (kind_of_ask (q_of_origin o) n ask) → After (kind_of_ask (q_of_origin o) n ask) (found_answer c.memory ask)
