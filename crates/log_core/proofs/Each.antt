@@ -1,5 +1,5 @@
 -- Facts of each element of a list.
-use Rattle.std.proofs.Common.{◌≡◌, ℕ, zero, suc, ◌<◌, Bool, true, false, ◌||◌, List, [], ◌∷◌, ◌++◌, length, get_or, filter, cond, map, refl, ap, ◌∙◌, arith}
+use Rattle.std.proofs.Common.{◌≡◌, ℕ, zero, suc, ◌<◌, Bool, true, false, ◌||◌, List, [], ◌∷◌, ◌++◌, length, get_or, filter, cond, map, refl, ap, ◌∙◌, arith, slice_set, slice_index, ◌^◌}
 use Rattle.std.specs.List.{AllByRecursion, list_any}
 
 pub each_weaker : {X : Type 0} (P Q : X → Type 0) (xs : List X) → ((x : X) → P x → Q x) → AllByRecursion P xs → AllByRecursion Q xs
@@ -15,6 +15,18 @@ pub each_at : {X : Type 0} (P : X → Type 0) (xs : List X) (d : X) (n : ℕ) �
 each_at P [] d n inside all = absurd (omega (arith, inside))
 each_at P (x ∷ xs) d zero inside all = all.0
 each_at P (x ∷ xs) d (suc n) inside all = each_at P xs d n (omega (arith, inside)) all.1
+
+-- and of each where one is replaced by another
+pub each_replaced : {X : Type 0} (P : X → Type 0) (xs : List X) (n : ℕ) (x : X) → AllByRecursion P xs → P x → AllByRecursion P (slice_set xs n x)
+each_replaced P [] n x all new = tt
+each_replaced P (y ∷ xs) zero x all new = (new, all.1)
+each_replaced P (y ∷ xs) (suc n) x all new = (all.0, each_replaced P xs n x all.1 new)
+
+-- a word of 64-bit words, or 0 past them
+pub each_word : (words : List ℕ) (n : ℕ) → AllByRecursion (λ (word : ℕ). word < 2 ^ 64) words → slice_index words n < 2 ^ 64
+each_word [] n all = omega arith
+each_word (word ∷ words) zero all = all.0
+each_word (word ∷ words) (suc n) all = each_word words n all.1
 
 pub each_both : {X : Type 0} (P Q : X → Type 0) (xs : List X) → AllByRecursion P xs → AllByRecursion Q xs → AllByRecursion (λ (x : X). P x × Q x) xs
 each_both P Q [] first second = tt

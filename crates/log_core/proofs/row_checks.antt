@@ -24,8 +24,16 @@ pub mod RowsLate
 pub mod RowsTurns
 pub mod RowsAllowed
 pub mod RowsStart
+pub mod RowsStarting
 pub mod RowsReached
 pub mod RowsWritten
 pub mod RowsLinked
 pub mod RowsEnded
 pub mod RowsJoined
+pub mod RowsStepped
+pub mod RowsTwoWriters
+pub mod RowsBothPut
+pub mod RowsCollecting
+pub mod RowsHeadPut
+pub mod RowsGivenBack
+pub mod RowsOvertaken

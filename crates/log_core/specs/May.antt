@@ -116,6 +116,7 @@ pub record MayCommit (o : Origin) (history : List Write) (s : Seat) (word entry 
   pub at_tail : IsAtTail s
   pub slot : word ≡ place_in (seat_shape s) s.walk.tail_block s.walk.tail_slot
   pub inside : s.walk.tail_slot < words_of s
+  pub small : entry < 2 ^ 64
   pub op : Op
   pub job : op_in s ≡ Some op
   pub is_write : is_write op (accepted_reply op s.walk.size) ≡ true

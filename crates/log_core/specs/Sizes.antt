@@ -1,10 +1,10 @@
 -- The parts of a core fit one another: their lengths, and what each view has of the start.
-use Rattle.std.specs.Prelude.{ℕ, ◌*◌, ◌<◌, ◌≤◌, ◌≡◌, ◌≢◌, ◌⊎◌, List, [], length, slice_index}
+use Rattle.std.specs.Prelude.{ℕ, ◌*◌, ◌^◌, ◌<◌, ◌≤◌, ◌≡◌, ◌≢◌, ◌⊎◌, List, [], length, slice_index}
 use Rattle.std.specs.List.{AllByRecursion}
 use Rattle.log_image.specs.Image.{words_in, total}
 use Rattle.pmem_words.specs.Seats.{bitmap_words}
 use Rattle.pmem_words.specs.declared.TheConstants.{SEATS}
-use Rattle.persistence.specs.Memory.{Memory, PendingMark}
+use Rattle.persistence.specs.Memory.{Memory, Replaced, PendingMark}
 use Rattle.log_core.specs.Views.{View, view_of, spent_view}
 use Rattle.log_core.specs.Origin.{Origin, shape, first_position}
 
@@ -20,13 +20,16 @@ pub record HasImage (o : Origin) : Type 0 where
   pub bitmap : total (shape o) ≤ 64 * length o.taken
   pub wide : 8 ≤ words_in (shape o)
 
--- the memory has the words of the image, of its bitmap and of the pins; floors and marks are within the values that were replaced
+-- the memory has the words of the image, of its bitmap and of the pins; floors and marks are within the values that were replaced; and
+-- each word of the image, now and before, has 64 bits
 pub record MemoryFits (o : Origin) (memory : Memory) (views : ℕ) : Type 0 where
   pub words : length memory.now.words ≡ length o.words
   pub taken : length memory.now.taken ≡ length o.taken
   pub pins : length memory.now.pins ≡ o.seats
   pub floors : length memory.floors ≡ length o.words
   pub reached : (word : ℕ) → slice_index memory.floors word ≤ length memory.past
+  pub small : AllByRecursion (λ (word : ℕ). word < 2 ^ 64) memory.now.words
+  pub small_past : AllByRecursion (λ (replaced : Replaced). replaced.value < 2 ^ 64) memory.past
   pub pending : AllByRecursion (λ (note : PendingMark). (note.seat < views) × (note.word < length o.words) × (note.time ≤ length memory.past)) memory.pending
 
 -- what an unspent view has of the start: its number is its place, and its lists have the lengths of the image

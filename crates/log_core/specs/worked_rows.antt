@@ -5,8 +5,12 @@ pub mod Refused
 pub mod Gaps
 pub mod CallGaps
 pub mod CoreGaps
+pub mod Starting
 pub mod AllowedSteps
 pub mod Written
 pub mod Ended
 pub mod Accepted
 pub mod Joined
+pub mod TwoWriters
+pub mod Collecting
+pub mod GivenBack

@@ -1,8 +1,12 @@
 //! Worked states and steps, each the contract of a function that does nothing: what they compute to, and states that are refused.
 
 ghost use Rattle.log_core.specs.worked_rows.Rows.{JustMade, PinsInThreeSteps, ScanSeesPins, ComesToTail, BitsTaken, FenceFollows, SlotWon, SlotLost, WriteEnds, LinkWon, LinkLost, HeadWon, HeadLost, KeptUntilUnpinned, BitsCleared, BitsNotCleared, CollectEnds, SyncEnds, FilesByPosition, EarlyFiles, WalkedTrail, LacksBlocks, EntryTakenIn, ReadLays, BaseWords, SnapshotRead, QuietCalls, RepliesFit, LimitsFit};
+ghost use Rattle.log_core.specs.worked_rows.Starting.{EachKindStarts};
 ghost use Rattle.log_core.specs.worked_rows.AllowedSteps.{FilledNoMore, BitmapMayBeRead, AllowedKinds, BlockRuns};
 ghost use Rattle.log_core.specs.worked_rows.Written.{WriteRuns, LinkRuns, EntriesNotPut};
+ghost use Rattle.log_core.specs.worked_rows.TwoWriters.{TwoAtOneTail, SecondLoses, TwoWritersRun};
+ghost use Rattle.log_core.specs.worked_rows.Collecting.{TwoCollect};
+ghost use Rattle.log_core.specs.worked_rows.GivenBack.{CollectionRuns, OvertakenRuns};
 ghost use Rattle.log_core.specs.worked_rows.Ended.{CallsEnd, WriteNotPut, SizeBeforeTail, KeptTooEarly};
 ghost use Rattle.log_core.specs.worked_rows.Joined.{SyncRuns, NoMarkOutsideOfSyncs, SeatsAreJoined};
 ghost use Rattle.log_core.specs.worked_rows.Refused.{OtherEntryPossible, HeadSkips, LogHasMore, BitWithoutOwner, BlockOnTwoLists, ChainBlockFree, OtherContentPossible, PinOfAnother, ViewOfAnother, StoredNotPresent, ReplacedStillNamed, RecordOfNoWrite, SyncedMayBeLost, NamedTwice, SnapshotNamesMore, WriteOfNoSeat};
@@ -98,12 +102,19 @@ pub fn law_accepted()
     ensures word_may_be_loaded { WordMayBeLoaded }
     ensures word_may_be_marked { WordMayBeMarked }
     ensures entry_may_be_put { EntryMayBePut }
+    ensures each_kind_starts { EachKindStarts }
     ensures bitmap_may_be_read { BitmapMayBeRead }
     ensures allowed_kinds { AllowedKinds }
     ensures block_runs { BlockRuns }
     ensures write_runs { WriteRuns }
     ensures link_runs { LinkRuns }
     ensures entries_not_put { EntriesNotPut }
+    ensures two_at_one_tail { TwoAtOneTail }
+    ensures second_loses { SecondLoses }
+    ensures two_writers_run { TwoWritersRun }
+    ensures two_collect { TwoCollect }
+    ensures collection_runs { CollectionRuns }
+    ensures overtaken_runs { OvertakenRuns }
     ensures calls_end { CallsEnd }
     ensures sync_runs { SyncRuns }
     ensures no_mark_outside_of_syncs { NoMarkOutsideOfSyncs }

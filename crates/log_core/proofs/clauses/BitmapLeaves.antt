@@ -20,6 +20,8 @@ bitmap_leaves o c n word value inv = record {
     pins = inv.sizes.words.pins;
     floors = inv.sizes.words.floors;
     reached = inv.sizes.words.reached;
+    small = inv.sizes.words.small;
+    small_past = inv.sizes.words.small_past;
     pending = inv.sizes.words.pending;
   };
   pins = λ k other. refl;

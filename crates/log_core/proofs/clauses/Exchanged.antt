@@ -1,10 +1,11 @@
 -- What an exchange from 0 makes of a memory: where it wins its word has one value more, and else nothing changes.
-use Rattle.std.proofs.Common.{◌≡◌, ◌≢◌, ◌<◌, ◌≤◌, ◌==◌, if◌then◌else◌, inr, ℕ, Bool, true, false, List, [], ◌∷◌, ◌++◌, length, refl, sym, ◌∙◌, ap, subst, arith, slice_index, slice_set}
+use Rattle.std.specs.List.{AllByRecursion}
+use Rattle.std.proofs.Common.{◌≡◌, ◌≢◌, ◌<◌, ◌≤◌, ◌==◌, if◌then◌else◌, inr, ℕ, Bool, true, false, List, [], ◌∷◌, ◌++◌, length, refl, sym, ◌∙◌, ap, subst, arith, slice_index, slice_set, ◌^◌}
 use Rattle.std.proofs.lemmas.Bool.{eq-eqb}
 use Rattle.std.proofs.lemmas.List.{length-set, length_push, set-get_or, get_or_append_left}
 use Rattle.asks.specs.declared.ask.Place.TheVariants.{Image}
 use Rattle.asks.specs.declared.ask.Ask.TheVariants.{Exchange}
-use Rattle.persistence.specs.Memory.{Memory, PendingMark, Cell, cell, index_at, replaced_at, memory_after}
+use Rattle.persistence.specs.Memory.{Memory, PendingMark, Cell, cell, index_at, replaced_at, memory_after, Replaced}
 use Rattle.persistence.specs.Steps.{with_value}
 use Rattle.persistence.specs.Survivors.{value_at}
 use Rattle.persistence.proofs.CellLaws.{stores_grow_cells, others_leave_cells}
@@ -12,7 +13,7 @@ use Rattle.persistence.proofs.FenceLaws.{steps_keep_order}
 use Rattle.persistence.proofs.ValueLemmas.{index_at-grown}
 use Rattle.log_core.specs.Origin.{Origin}
 use Rattle.log_core.specs.Sizes.{MemoryFits}
-use Rattle.log_core.proofs.Each.{each_weaker}
+use Rattle.log_core.proofs.Each.{each_weaker, each_replaced, each_word, each_push}
 use Rattle.log_core.proofs.clauses.MemoryMoves.{orderly}
 use Rattle.log_core.proofs.clauses.OneView.{same_or_other}
 
@@ -48,19 +49,26 @@ module _ (o : Origin) (m : Memory) (views : ℕ) (fits : MemoryFits o m views) (
   longer true found = (let more = length_push m.past (record { word = word; value = found }) in omega (arith, more))
   longer false found = omega arith
 
+  past_small : (b : Bool) → AllByRecursion (λ (r : Replaced). r.value < 2 ^ 64) (replaced_at b (Image word) (slice_index m.now.words word) m.past)
+  past_small true = each_push (λ (r : Replaced). r.value < 2 ^ 64) m.past (record { word = word; value = slice_index m.now.words word }) fits.small_past (each_word m.now.words word fits.small)
+  past_small false = fits.small_past
+
   times_stay : (b : Bool) (found time k : ℕ) → time ≤ length m.past → index_at (replaced_at b (Image word) found m.past) time k ≡ index_at m.past time k
   times_stay true found time k early = index_at-grown m.past (record { word = word; value = found } ∷ []) time k early
   times_stay false found time k early = refl
 
   -- where the word is 0 it grows
-  pub exchange_wins : word < length o.words → slice_index m.now.words word ≡ 0 → WordGrows o views m exchanged word value
-  exchange_wins inside zero = (let order = steps_keep_order m n (Exchange (Image word) 0 value) (orderly o m views fits) in record {
+  pub exchange_wins : word < length o.words → slice_index m.now.words word ≡ 0 → value < 2 ^ 64 → WordGrows o views m exchanged word value
+  exchange_wins inside zero small = (let order = steps_keep_order m n (Exchange (Image word) 0 value) (orderly o m views fits) in record {
     fits = record {
       words = length-set m.now.words word (if slice_index m.now.words word == 0 then value else slice_index m.now.words word) ∙ fits.words;
       taken = fits.taken;
       pins = fits.pins;
       floors = fits.floors;
       reached = order.reached;
+      small = each_replaced (λ (w : ℕ). w < 2 ^ 64) m.now.words word (if slice_index m.now.words word == 0 then value else slice_index m.now.words word) fits.small
+          (subst (λ (b : Bool). (if b then value else slice_index m.now.words word) < 2 ^ 64) (sym (eq-eqb (slice_index m.now.words word) 0 zero)) small);
+      small_past = past_small (slice_index m.now.words word == 0);
       pending = each_weaker (λ (note : PendingMark). (note.seat < views) × (note.word < length o.words) × (note.time ≤ length m.past))
           (λ (note : PendingMark). (note.seat < views) × (note.word < length o.words) × (note.time ≤ length exchanged.past)) m.pending
           (λ note known. (known.0, known.1, (let old = known.2 in let more = longer (slice_index m.now.words word == 0) (slice_index m.now.words word) in omega (arith, old, more)))) fits.pending;

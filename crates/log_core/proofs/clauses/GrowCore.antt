@@ -94,6 +94,8 @@ module _ (o : Origin) (c : Core) (x : Growth) (s : Seat) (g : Ghost) (began : Li
       pins = m.pins;
       floors = m.floors;
       reached = m.reached;
+      small = m.small;
+      small_past = m.small_past;
       pending = subst (λ (k : ℕ). AllByRecursion (λ (note : PendingMark). (note.seat < k) × (note.word < length o.words) × (note.time ≤ length x.memory.past)) x.memory.pending) (sym count) m.pending;
     };
     some = subst (λ (k : ℕ). 0 < k) (sym count) inv.sizes.some;

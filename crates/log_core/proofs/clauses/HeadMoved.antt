@@ -1,10 +1,11 @@
 -- What an exchange of the head makes of a memory: where it wins the head has one value more, and else nothing changes.
-use Rattle.std.proofs.Common.{◌≡◌, ◌≢◌, ◌<◌, ◌≤◌, ◌==◌, ◌∷◌, if◌then◌else◌, inr, ℕ, Bool, true, false, List, [], length, refl, sym, ◌∙◌, ap, subst, arith, slice_index, slice_set}
+use Rattle.std.specs.List.{AllByRecursion}
+use Rattle.std.proofs.Common.{◌≡◌, ◌≢◌, ◌<◌, ◌≤◌, ◌==◌, ◌∷◌, if◌then◌else◌, inr, ℕ, Bool, true, false, List, [], length, refl, sym, ◌∙◌, ap, subst, arith, slice_index, slice_set, ◌^◌}
 use Rattle.std.proofs.lemmas.Bool.{eq-eqb}
 use Rattle.std.proofs.lemmas.List.{length-set, length_push, set-get_or}
 use Rattle.asks.specs.declared.ask.Place.TheVariants.{Image}
 use Rattle.asks.specs.declared.ask.Ask.TheVariants.{Exchange}
-use Rattle.persistence.specs.Memory.{Memory, PendingMark, Cell, cell, index_at, replaced_at, memory_after}
+use Rattle.persistence.specs.Memory.{Memory, PendingMark, Cell, cell, index_at, replaced_at, memory_after, Replaced}
 use Rattle.persistence.specs.Steps.{with_value}
 use Rattle.persistence.specs.Survivors.{value_at}
 use Rattle.persistence.proofs.CellLaws.{stores_grow_cells, others_leave_cells}
@@ -13,7 +14,7 @@ use Rattle.persistence.proofs.ValueLemmas.{index_at-grown}
 use Rattle.log_core.specs.Entries.{head_place}
 use Rattle.log_core.specs.Origin.{Origin}
 use Rattle.log_core.specs.Sizes.{MemoryFits}
-use Rattle.log_core.proofs.Each.{each_weaker}
+use Rattle.log_core.proofs.Each.{each_weaker, each_replaced, each_word, each_push}
 use Rattle.log_core.proofs.clauses.MemoryMoves.{orderly}
 use Rattle.log_core.proofs.clauses.OneView.{same_or_other}
 use Rattle.log_core.proofs.clauses.Exchanged.{grown_value}
@@ -39,18 +40,25 @@ module _ (o : Origin) (m : Memory) (views : ℕ) (fits : MemoryFits o m views) (
   longer true = (let more = length_push m.past (record { word = head_place; value = now }) in omega (arith, more))
   longer false = omega arith
 
+  past_small : (b : Bool) → AllByRecursion (λ (r : Replaced). r.value < 2 ^ 64) (replaced_at b (Image head_place) now m.past)
+  past_small true = each_push (λ (r : Replaced). r.value < 2 ^ 64) m.past (record { word = head_place; value = now }) fits.small_past (each_word m.now.words head_place fits.small)
+  past_small false = fits.small_past
+
   times_stay : (b : Bool) (time k : ℕ) → time ≤ length m.past → index_at (replaced_at b (Image head_place) now m.past) time k ≡ index_at m.past time k
   times_stay true time k early = index_at-grown m.past (record { word = head_place; value = now } ∷ []) time k early
   times_stay false time k early = refl
 
-  pub head_wins : head_place < length o.words → now ≡ before → HeadMoves o views m exchanged next
-  head_wins inside same = (let order = steps_keep_order m n (Exchange (Image head_place) before next) (orderly o m views fits) in record {
+  pub head_wins : head_place < length o.words → now ≡ before → next < 2 ^ 64 → HeadMoves o views m exchanged next
+  head_wins inside same small = (let order = steps_keep_order m n (Exchange (Image head_place) before next) (orderly o m views fits) in record {
     fits = record {
       words = length-set m.now.words head_place (if now == before then next else now) ∙ fits.words;
       taken = fits.taken;
       pins = fits.pins;
       floors = fits.floors;
       reached = order.reached;
+      small = each_replaced (λ (w : ℕ). w < 2 ^ 64) m.now.words head_place (if now == before then next else now) fits.small
+          (subst (λ (b : Bool). (if b then next else now) < 2 ^ 64) (sym (eq-eqb now before same)) small);
+      small_past = past_small (now == before);
       pending = each_weaker (λ (note : PendingMark). (note.seat < views) × (note.word < length o.words) × (note.time ≤ length m.past))
           (λ (note : PendingMark). (note.seat < views) × (note.word < length o.words) × (note.time ≤ length exchanged.past)) m.pending
           (λ note known. (known.0, known.1, (let old = known.2 in let more = longer (now == before) in omega (arith, old, more)))) fits.pending;

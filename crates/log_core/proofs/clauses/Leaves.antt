@@ -126,7 +126,7 @@ taken_apart n whose (inr left) mine = (left_apart n left.0).other (sym left.1 �
 pub pins_leave : (o : Origin) (c : Core) (n : ℕ) → Invariant o c → (pins : List ℕ) → length pins ≡ length c.memory.now.pins → ((k : ℕ) → k ≢ n → slice_index pins k ≡ slice_index c.memory.now.pins k) →
     Leaves o c n (record (c.memory) { now = record (c.memory.now) { pins = pins } })
 pins_leave o c n inv pins same others = record {
-  fits = (let r = inv.sizes.words in record { words = r.words; taken = r.taken; pins = same ∙ r.pins; floors = r.floors; reached = r.reached; pending = r.pending });
+  fits = (let r = inv.sizes.words in record { words = r.words; taken = r.taken; pins = same ∙ r.pins; floors = r.floors; reached = r.reached; small = r.small; small_past = r.small_past; pending = r.pending });
   pins = others;
   cells = λ word apart. record { present = refl; past = refl; floor = omega arith; inside = floor_inside c.memory word };
   values = λ word k low. refl;

@@ -1,5 +1,5 @@
 -- What a store, a mark and a fence make of a memory.
-use Rattle.std.proofs.Common.{◌≡◌, ◌≢◌, ◌<◌, ◌≤◌, ◌+◌, ◌==◌, ◌&&◌, inl, inr, ⊎_elim, ℕ, Bool, true, false, not, [], ◌∷◌, ◌++◌, length, Contains, refl, sym, ◌∙◌, subst, arith, slice_index}
+use Rattle.std.proofs.Common.{◌≡◌, ◌≢◌, ◌<◌, ◌≤◌, ◌+◌, ◌==◌, ◌&&◌, inl, inr, ⊎_elim, ℕ, Bool, true, false, not, [], ◌∷◌, ◌++◌, length, Contains, refl, sym, ◌∙◌, subst, arith, slice_index, ◌^◌}
 use Rattle.std.specs.List.{AllByRecursion, list_any}
 use Rattle.std.proofs.lemmas.Bool.{eqb-true}
 use Rattle.std.proofs.lemmas.Bool.Decides.{leb_tells}
@@ -7,7 +7,7 @@ use Rattle.std.proofs.lemmas.List.{length-set, length_push, get_or_past}
 use Rattle.std.proofs.lemmas.List.Elements.{All-from_recursion, recursion_from_All, All-contains_itself}
 use Rattle.asks.specs.declared.ask.Place.TheVariants.{Image}
 use Rattle.asks.specs.declared.ask.Ask.TheVariants.{Store, Mark, Fence}
-use Rattle.persistence.specs.Memory.{Memory, PendingMark, cell, index_at, pending_of, memory_after}
+use Rattle.persistence.specs.Memory.{Memory, PendingMark, cell, index_at, pending_of, memory_after, Replaced}
 use Rattle.persistence.specs.Steps.{IsOrderly, with_value}
 use Rattle.persistence.proofs.CellLaws.{stores_grow_cells, others_leave_cells}
 use Rattle.persistence.proofs.FenceLaws.{fences_raise_floors, fences_forget_own_marks, steps_keep_order, pending_of-push_own, pending_of-push_other}
@@ -15,7 +15,7 @@ use Rattle.persistence.proofs.ValueLemmas.{index_at-grown}
 use Rattle.log_core.specs.Origin.{Origin}
 use Rattle.log_core.specs.Sizes.{MemoryFits}
 use Rattle.log_core.specs.Owned.{is_of_present, IsMarkedNow}
-use Rattle.log_core.proofs.Each.{each_weaker, each_push, each_both, each_filter, any_each}
+use Rattle.log_core.proofs.Each.{each_weaker, each_push, each_both, each_filter, any_each, each_replaced, each_word}
 use Rattle.log_core.proofs.clauses.Narrows.{Narrows, floor_inside}
 
 module _ (o : Origin) (m : Memory) (views : ℕ) (fits : MemoryFits o m views) where
@@ -46,13 +46,15 @@ module _ (o : Origin) (m : Memory) (views : ℕ) (fits : MemoryFits o m views) w
     pub stored_times : (time k : ℕ) → time ≤ length m.past → index_at stored.past time k ≡ index_at m.past time k
     stored_times time k reached = index_at-grown m.past (record { word = word; value = slice_index m.now.words word } ∷ []) time k reached
 
-    pub stored_fits : MemoryFits o stored views
-    stored_fits = (let order = steps_keep_order m n (Store (Image word) value) orderly in record {
+    pub stored_fits : value < 2 ^ 64 → MemoryFits o stored views
+    stored_fits small = (let order = steps_keep_order m n (Store (Image word) value) orderly in record {
       words = length-set m.now.words word value ∙ fits.words;
       taken = fits.taken;
       pins = fits.pins;
       floors = fits.floors;
       reached = order.reached;
+      small = each_replaced (λ (w : ℕ). w < 2 ^ 64) m.now.words word value fits.small small;
+      small_past = each_push (λ (r : Replaced). r.value < 2 ^ 64) m.past (record { word = word; value = slice_index m.now.words word }) fits.small_past (each_word m.now.words word fits.small);
       pending = each_weaker IsKnown (λ (note : PendingMark). (note.seat < views) × (note.word < length o.words) × (note.time ≤ length stored.past)) m.pending
           (λ note known. (known.0, known.1, (let old = known.2 in let more = one_more in omega (arith, old, more)))) fits.pending;
     })
@@ -81,6 +83,8 @@ module _ (o : Origin) (m : Memory) (views : ℕ) (fits : MemoryFits o m views) w
       pins = fits.pins;
       floors = fits.floors;
       reached = fits.reached;
+      small = each_replaced (λ (w : ℕ). w < 2 ^ 64) m.now.words word (slice_index m.now.words word) fits.small (each_word m.now.words word fits.small);
+      small_past = fits.small_past;
       pending = each_push IsKnown m.pending mark fits.pending (made, inside, omega arith);
     }
 
@@ -111,6 +115,8 @@ module _ (o : Origin) (m : Memory) (views : ℕ) (fits : MemoryFits o m views) w
       pins = fits.pins;
       floors = order.floors ∙ fits.words;
       reached = order.reached;
+      small = fits.small;
+      small_past = fits.small_past;
       pending = each_filter IsKnown (λ (note : PendingMark). not (note.seat == n)) m.pending (each_weaker IsKnown (λ (note : PendingMark). not (note.seat == n) ≡ true → IsKnown note) m.pending (λ note known other. known) fits.pending);
     })
 

@@ -30,6 +30,8 @@ module _ (o : Origin) (before : List View) (n : ℕ) (w : View) (here : n < leng
       pins = fits.pins;
       floors = fits.floors;
       reached = fits.reached;
+      small = fits.small;
+      small_past = fits.small_past;
       pending = subst (λ (k : ℕ). AllByRecursion (λ (note : PendingMark). (note.seat < k) × (note.word < length o.words) × (note.time ≤ length m.past)) m.pending) (sym count) fits.pending;
     };
     some = subst (λ (k : ℕ). 0 < k) (sym count) sizes.some;

@@ -86,7 +86,7 @@ module _ (o : Origin) (c : Core) (n : ℕ) (s : Seat) (g : Ghost) (pin began wor
   memory_grows : WordGrows o (length c.views) c.memory m (place_in (shape o) (last_log c).block s.walk.tail_slot) entry
   memory_grows = subst (λ (k : ℕ). WordGrows o (length c.views) c.memory m k entry)
       (may.slot ∙ (ap (λ (i : Shape). place_in i s.walk.tail_block s.walk.tail_slot) same_image ∙ ap (λ (b : ℕ). place_in (shape o) b s.walk.tail_slot) (sym at_last.block)))
-      (exchange_wins o c.memory (length c.views) inv.sizes.words n word entry word_inside empty)
+      (exchange_wins o c.memory (length c.views) inv.sizes.words n word entry word_inside empty may.small)
 
   -- the slot is an entry's, so the end is one more
   pub one_entry : length (entry_words (entry ∷ [])) ≡ 1

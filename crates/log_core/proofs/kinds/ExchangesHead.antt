@@ -163,6 +163,8 @@ module _ (o : Origin) (c : Core) (n : ℕ) (s : Seat) (g : Ghost) (ends : List �
       pins = mem.pins;
       floors = mem.floors;
       reached = mem.reached;
+      small = mem.small;
+      small_past = mem.small_past;
       pending = subst (λ (k : ℕ). AllByRecursion (λ (note : PendingMark). (note.seat < k) × (note.word < length o.words) × (note.time ≤ length m.past)) m.pending) (sym count) mem.pending;
     };
     some = subst (λ (k : ℕ). 0 < k) (sym count) inv.sizes.some;

@@ -101,6 +101,8 @@ module _ (o : Origin) (c : Core) (seat other : ℕ) (inv : Invariant o c) (may :
       pins = r.pins;
       floors = r.floors;
       reached = r.reached;
+      small = r.small;
+      small_past = r.small_past;
       pending = subst (λ (k : ℕ). AllByRecursion (λ (note : PendingMark). (note.seat < k) × (note.word < length o.words) × (note.time ≤ length c.memory.past)) c.memory.pending) (sym count) r.pending;
     });
     some = subst (λ (k : ℕ). 0 < k) (sym count) inv.sizes.some;

@@ -1,5 +1,5 @@
 -- An exchange of the link of the tail's block that wins: what it makes of the core. The owned log block is the last one of the chain then.
-use Rattle.std.proofs.Common.{◌≡◌, ◌≢◌, ◌<◌, ◌≤◌, ◌+◌, ◌-◌, ◌*◌, ◌/◌, ◌==◌, ◌||◌, ◌&&◌, nat_lt, ⊎_elim, slice_index_or, ◌++◌, ◌∷◌, ℕ, zero, suc, Bool, true, false, List, [], length, replicate, refl, sym, ◌∙◌, ap, subst, arith, slice_index, Some}
+use Rattle.std.proofs.Common.{◌≡◌, ◌≢◌, ◌<◌, ◌≤◌, ◌+◌, ◌-◌, ◌*◌, ◌/◌, ◌==◌, ◌||◌, ◌&&◌, nat_lt, ⊎_elim, slice_index_or, ◌++◌, ◌∷◌, ℕ, zero, suc, Bool, true, false, List, [], length, replicate, refl, sym, ◌∙◌, ap, subst, arith, slice_index, Some, ◌^◌}
 use Rattle.std.proofs.lemmas.Bool.{eqb-true, cases_lt, ltb-true, and_parts}
 use Rattle.std.proofs.lemmas.List.{length_push, get_or_push, get_or_append_left, get_or_past, get_or-replicate, length-replicate}
 use Rattle.log_entry.specs.Words.{block_word}
@@ -95,17 +95,21 @@ module _ (o : Origin) (c : Core) (n : ℕ) (s : Seat) (g : Ghost) (pin began wor
   word_inside = named_inside o c n s g pin began word inv f unspent
       (tail_load o c n s g pin began inv f unspent may.valid may.ready 0 word (let wide = inv.sizes.image.wide in let same = words in omega (arith, wide, same)) may.link)
 
+  in_log : is_in_log (shape o) block ≡ true
+  in_log = subst (λ (i : Shape). is_in_log i block ≡ true) image may.in_log
+
+  block_small : block < 2 ^ 64
+  block_small = (let low = ltb-true block (total (shape o)) (and_parts (nat_lt (shape o).data_blocks block) (nat_lt block (total (shape o))) in_log).1 in
+      let few = o.geometry.few_blocks in omega (arith, low, few))
+
   memory_grows : WordGrows o (length c.views) c.memory m (place_in (shape o) (last_log c).block 0) block
   memory_grows = subst (λ (w : ℕ). WordGrows o (length c.views) c.memory m w block)
       (may.link ∙ (ap (λ (i : Shape). place_in i s.walk.tail_block 0) image ∙ ap (λ (b : ℕ). place_in (shape o) b 0) (sym last.block)))
-      (exchange_wins o c.memory (length c.views) inv.sizes.words n word block word_inside empty)
+      (exchange_wins o c.memory (length c.views) inv.sizes.words n word block word_inside empty block_small)
 
   -- the new block: its owner, and its content
   pub owned : is_listed (owned_numbers s.blocks.owned) block ≡ true
   owned = fenced_owned s.blocks.owned block may.owned
-
-  in_log : is_in_log (shape o) block ≡ true
-  in_log = subst (λ (i : Shape). is_in_log i block ≡ true) image may.in_log
 
   -- it is no header
   pub some_block : block ≢ 0

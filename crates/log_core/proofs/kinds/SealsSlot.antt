@@ -64,7 +64,7 @@ module _ (o : Origin) (c : Core) (n : ℕ) (s : Seat) (g : Ghost) (pin began wor
   memory_grows : WordGrows o (length c.views) c.memory m (place_in (shape o) (last_log c).block s.walk.tail_slot) slot
   memory_grows = subst (λ (w : ℕ). WordGrows o (length c.views) c.memory m w slot)
       (may.slot ∙ (ap (λ (i : Shape). place_in i s.walk.tail_block s.walk.tail_slot) image ∙ ap (λ (b : ℕ). place_in (shape o) b s.walk.tail_slot) (sym last.block)))
-      (exchange_wins o c.memory (length c.views) inv.sizes.words n word slot word_inside empty)
+      (exchange_wins o c.memory (length c.views) inv.sizes.words n word slot word_inside empty (omega arith))
 
   no_entries : length (entry_words (slot ∷ [])) ≡ 0
   no_entries = ap (λ (k : ℕ). length (entry_words (k ∷ []))) is_seal

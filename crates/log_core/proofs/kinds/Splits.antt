@@ -121,6 +121,8 @@ module _ (o : Origin) (c : Core) (inv : Invariant o c) (may : MaySplit o c 0) wh
       pins = r.pins;
       floors = r.floors;
       reached = r.reached;
+      small = r.small;
+      small_past = r.small_past;
       pending = each_weaker (λ (note : PendingMark). (note.seat < count) × (note.word < length o.words) × (note.time ≤ length c.memory.past))
           (λ (note : PendingMark). (note.seat < length views) × (note.word < length o.words) × (note.time ≤ length c.memory.past)) c.memory.pending (λ note known. (more known.0, known.1, known.2)) r.pending;
     });

@@ -45,7 +45,7 @@ module _ (o : Origin) (c : Core) (n : ℕ) (s : Seat) (g : Ghost) (pin began wor
 
   pub store_leaves : Leaves o c n m
   store_leaves = record {
-    fits = stored_fits o c.memory (length c.views) inv.sizes.words n word value;
+    fits = stored_fits o c.memory (length c.views) inv.sizes.words n word value may.small;
     pins = λ k other. refl;
     cells = λ k apart. same_narrows c.memory m k (others k (other_word o c n s g pin began inv f unspent word may.owned k apart));
     values = λ k j inside. same_or_other k word

@@ -14,7 +14,7 @@ use Rattle.log_core.proofs.row_checks.RowTells.{limbo_of, is_put, said, none_not
 use Rattle.log_core.proofs.row_checks.RowsTaken.{all_among}
 
 -- what is neither at a head that a crash may leave nor pinned is not kept
-unkept : (o : Origin) (generations : List Generation) (floor : ℕ) (views : List View) (place : ℕ) → (floor ≤ place → ⊥) → ((seat : ℕ) → (view_of views seat).seat.hold.valid ≡ true → ⊥) → IsKept o generations floor views place → ⊥
+pub unkept : (o : Origin) (generations : List Generation) (floor : ℕ) (views : List View) (place : ℕ) → (floor ≤ place → ⊥) → ((seat : ℕ) → (view_of views seat).seat.hold.valid ≡ true → ⊥) → IsKept o generations floor views place → ⊥
 unkept o generations floor views place below free k = go k.why
   where
     go : (floor ≤ place) ⊎ IsPinned o views place → ⊥
@@ -66,11 +66,11 @@ none_given s bits block among owned limbo replaced (OfOwned all) = false≢true 
 none_given s bits block among owned limbo replaced (OfReplaced all sure scan) = replaced (all block among) sure scan
 none_given s bits block among owned limbo replaced (OfLimbo all scan) = false≢true (sym limbo ∙ all block among)
 
-no_clear : (s : Seat) (bits block : ℕ) → is_among 0 bits block ≡ true → is_listed (owned_numbers s.blocks.owned) block ≡ false → is_listed s.giving.limbo block ≡ false
+pub no_clear : (s : Seat) (bits block : ℕ) → is_among 0 bits block ≡ true → is_listed (owned_numbers s.blocks.owned) block ≡ false → is_listed s.giving.limbo block ≡ false
     → (is_listed s.giving.replaced block ≡ true → s.giving.head_fenced ≡ true → IsClearScan s 2 s.giving.replaced_generation → ⊥) → MayClearBits s 2 0 bits → ⊥
 no_clear s bits block among owned limbo replaced may = none_given s bits block among owned limbo replaced may.given
 
-held_by : (pin : ℕ) → pin ≡ 1 → (pin ≡ 0) ⊎ (1 < pin) → ⊥
+pub held_by : (pin : ℕ) → pin ≡ 1 → (pin ≡ 0) ⊎ (1 < pin) → ⊥
 held_by pin one (inl none) = omega (arith, one, none)
 held_by pin one (inr later) = omega (arith, one, later)
 

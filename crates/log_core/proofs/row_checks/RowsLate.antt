@@ -1,5 +1,5 @@
 -- Rows of a seat with an old pin that writes, syncs, and then walks anew.
-use Rattle.std.proofs.Common.{◌≡◌, ◌⊎◌, ◌≤◌, ◌<◌, ◌+◌, ◌*◌, ℕ, zero, suc, true, [], ◌∷◌, slice_index, refl, sym, ◌∙◌, ap, subst, inl, inr, arith, Option, None, Some}
+use Rattle.std.proofs.Common.{◌≡◌, ◌⊎◌, ◌≤◌, ◌<◌, ◌+◌, ◌*◌, ℕ, zero, suc, true, List, [], ◌∷◌, replicate, slice_index, refl, sym, ◌∙◌, ap, subst, inl, inr, arith, Option, None, Some}
 use Rattle.std.proofs.lemmas.Bool.{false≢true}
 use Rattle.std.proofs.lemmas.List.{get_or_past}
 use Rattle.std.specs.Option.{option_or}
@@ -28,14 +28,17 @@ use Rattle.log_core.proofs.row_checks.RowChecks.{in_all, below_same}
 use Rattle.log_core.proofs.row_checks.RowTells.{none_not_some, some_not_none, number_of, said, is_written}
 use Rattle.log_core.proofs.row_checks.RowsWrong.{one_part}
 
-bytes_held : (virt block at : ℕ) → block_in (direct_meaning to_second) virt ≡ Some block → at < 64
-    → byte_in (λ other. content_of (view_of late_found.views 1).seat other) (Some block) at ≡ slice_index (187 ∷ []) (virt * 64 + at)
-bytes_held zero block at found inside =
-    subst (λ (b : ℕ). byte_in (λ other. content_of (view_of late_found.views 1).seat other) (Some b) at ≡ slice_index (187 ∷ []) (0 * 64 + at)) (ap number_of found)
-    (below_same 64 (λ k. slice_index (word_bytes (content_of (view_of late_found.views 1).seat 2)) k) (λ k. slice_index (187 ∷ []) (0 * 64 + k)) at refl inside)
-bytes_held (suc virt) block at found inside = absurd (none_not_some block (sym (names_none (direct_meaning to_second) (suc virt) (omega arith)) ∙ found))
+-- a block with this byte first, and no other, holds the file of that byte
+pub bytes_held : (content : ℕ → List ℕ) → content 2 ≡ 187 ∷ replicate 7 0 → (virt block at : ℕ) → block_in (direct_meaning to_second) virt ≡ Some block → at < 64
+    → byte_in content (Some block) at ≡ slice_index (187 ∷ []) (virt * 64 + at)
+bytes_held content is zero block at found inside =
+    subst (λ (b : ℕ). byte_in content (Some b) at ≡ slice_index (187 ∷ []) (0 * 64 + at)) (ap number_of found)
+    (subst (λ (words : List ℕ). slice_index (word_bytes words) at ≡ slice_index (187 ∷ []) (0 * 64 + at)) (sym is)
+    (below_same 64 (λ k. slice_index (word_bytes (187 ∷ replicate 7 0)) k) (λ k. slice_index (187 ∷ []) (0 * 64 + k)) at refl inside))
+bytes_held content is (suc virt) block at found inside = absurd (none_not_some block (sym (names_none (direct_meaning to_second) (suc virt) (omega arith)) ∙ found))
 
-rest_held : (virt at : ℕ) → block_in (direct_meaning to_second) virt ≡ None → at < 64 → slice_index (170 ∷ []) (virt * 64 + at) ≡ slice_index (187 ∷ []) (virt * 64 + at)
+-- where the entry gives no block, the file stays as it is
+pub rest_held : (virt at : ℕ) → block_in (direct_meaning to_second) virt ≡ None → at < 64 → slice_index (170 ∷ []) (virt * 64 + at) ≡ slice_index (187 ∷ []) (virt * 64 + at)
 rest_held zero at none inside = absurd (some_not_none 2 none)
 rest_held (suc virt) at none inside = get_or_past (170 ∷ []) (suc virt * 64 + at) 0 (omega arith) ∙ sym (get_or_past (187 ∷ []) (suc virt * 64 + at) 0 (omega arith))
 
@@ -44,6 +47,7 @@ late_commit = record {
   at_tail = record { valid = refl; ready = refl; not_won = refl; at_tail = refl };
   slot = refl;
   inside = omega arith;
+  small = omega arith;
   op = PwriteOp 0 (187 ∷ []);
   job = refl;
   is_write = refl;
@@ -53,7 +57,7 @@ late_commit = record {
   in_data = λ block named. in_all (λ b. is_in_data small_shape b) (2 ∷ []) block refl named;
   once = refl;
   size_is = refl;
-  holds = bytes_held;
+  holds = bytes_held (λ other. content_of (view_of late_found.views 1).seat other) refl;
   rest = rest_held;
 }
 

@@ -23,10 +23,10 @@ use Rattle.log_core.proofs.row_checks.RowsReached.{reached_holds, store_next, ma
 use Rattle.log_core.proofs.row_checks.RowsWritten.{put_reached}
 
 -- a collection makes steps, and is no sync
-collect_steps : (op : Op) → op_of Collect [] ≡ Some op → is_quiet 64 op ≡ false
+pub collect_steps : (op : Op) → op_of Collect [] ≡ Some op → is_quiet 64 op ≡ false
 collect_steps op same = subst (λ (o : Op). is_quiet 64 o ≡ false) (ap op_or_size same) refl
 
-no_sync : Collect ≢ Sync
+pub no_sync : Collect ≢ Sync
 no_sync same = false≢true (ap is_sync same)
 
 sealing_reached : IsReached image_a own_sealing
@@ -43,25 +43,25 @@ taken_reached = step_reached image_a own_sealed 0 2 (SetBits (Map 0) 16) [] seal
 
 stored_reached : IsReached image_a log_stored
 stored_reached =
-    let stored_0 = store_next 32 0 0 taken_reached (omega arith) (one_part 0) (record { owned = omega arith; inside = omega arith; small = omega arith }) (record { owned = refl; small = omega arith }) in
-    let stored_1 = store_next 32 1 4611686018427387905 stored_0 (omega arith) (one_part 0) (record { owned = omega arith; inside = omega arith; small = omega arith }) (record { owned = refl; small = omega arith }) in
-    let stored_2 = store_next 32 2 0 stored_1 (omega arith) (one_part 0) (record { owned = omega arith; inside = omega arith; small = omega arith }) (record { owned = refl; small = omega arith }) in
-    let stored_3 = store_next 32 3 0 stored_2 (omega arith) (one_part 0) (record { owned = omega arith; inside = omega arith; small = omega arith }) (record { owned = refl; small = omega arith }) in
-    let stored_4 = store_next 32 4 0 stored_3 (omega arith) (one_part 0) (record { owned = omega arith; inside = omega arith; small = omega arith }) (record { owned = refl; small = omega arith }) in
-    let stored_5 = store_next 32 5 0 stored_4 (omega arith) (one_part 0) (record { owned = omega arith; inside = omega arith; small = omega arith }) (record { owned = refl; small = omega arith }) in
-    let stored_6 = store_next 32 6 0 stored_5 (omega arith) (one_part 0) (record { owned = omega arith; inside = omega arith; small = omega arith }) (record { owned = refl; small = omega arith }) in
-    store_next 32 7 0 stored_6 (omega arith) (one_part 0) (record { owned = omega arith; inside = omega arith; small = omega arith }) (record { owned = refl; small = omega arith })
+    let stored_0 = store_next 0 32 0 0 taken_reached (omega arith) (one_part 0) (record { owned = omega arith; inside = omega arith; small = omega arith }) (record { owned = refl; small = omega arith }) in
+    let stored_1 = store_next 0 32 1 4611686018427387905 stored_0 (omega arith) (one_part 0) (record { owned = omega arith; inside = omega arith; small = omega arith }) (record { owned = refl; small = omega arith }) in
+    let stored_2 = store_next 0 32 2 0 stored_1 (omega arith) (one_part 0) (record { owned = omega arith; inside = omega arith; small = omega arith }) (record { owned = refl; small = omega arith }) in
+    let stored_3 = store_next 0 32 3 0 stored_2 (omega arith) (one_part 0) (record { owned = omega arith; inside = omega arith; small = omega arith }) (record { owned = refl; small = omega arith }) in
+    let stored_4 = store_next 0 32 4 0 stored_3 (omega arith) (one_part 0) (record { owned = omega arith; inside = omega arith; small = omega arith }) (record { owned = refl; small = omega arith }) in
+    let stored_5 = store_next 0 32 5 0 stored_4 (omega arith) (one_part 0) (record { owned = omega arith; inside = omega arith; small = omega arith }) (record { owned = refl; small = omega arith }) in
+    let stored_6 = store_next 0 32 6 0 stored_5 (omega arith) (one_part 0) (record { owned = omega arith; inside = omega arith; small = omega arith }) (record { owned = refl; small = omega arith }) in
+    store_next 0 32 7 0 stored_6 (omega arith) (one_part 0) (record { owned = omega arith; inside = omega arith; small = omega arith }) (record { owned = refl; small = omega arith })
 
 marked_reached : IsReached image_a log_marked
 marked_reached =
-    let marked_7 = mark_next 32 7 stored_reached (omega arith) (one_part 0) refl no_sync in
-    let marked_6 = mark_next 32 6 marked_7 (omega arith) (one_part 0) refl no_sync in
-    let marked_5 = mark_next 32 5 marked_6 (omega arith) (one_part 0) refl no_sync in
-    let marked_4 = mark_next 32 4 marked_5 (omega arith) (one_part 0) refl no_sync in
-    let marked_3 = mark_next 32 3 marked_4 (omega arith) (one_part 0) refl no_sync in
-    let marked_2 = mark_next 32 2 marked_3 (omega arith) (one_part 0) refl no_sync in
-    let marked_1 = mark_next 32 1 marked_2 (omega arith) (one_part 0) refl no_sync in
-    mark_next 32 0 marked_1 (omega arith) (one_part 0) refl no_sync
+    let marked_7 = mark_next 0 32 7 stored_reached (omega arith) (one_part 0) refl no_sync in
+    let marked_6 = mark_next 0 32 6 marked_7 (omega arith) (one_part 0) refl no_sync in
+    let marked_5 = mark_next 0 32 5 marked_6 (omega arith) (one_part 0) refl no_sync in
+    let marked_4 = mark_next 0 32 4 marked_5 (omega arith) (one_part 0) refl no_sync in
+    let marked_3 = mark_next 0 32 3 marked_4 (omega arith) (one_part 0) refl no_sync in
+    let marked_2 = mark_next 0 32 2 marked_3 (omega arith) (one_part 0) refl no_sync in
+    let marked_1 = mark_next 0 32 1 marked_2 (omega arith) (one_part 0) refl no_sync in
+    mark_next 0 32 0 marked_1 (omega arith) (one_part 0) refl no_sync
 
 each_marked : (word : ℕ) → word < 8
     → stored_at (view_of log_marked.views 0).ghost.stored (32 + word) ≡ Some (record { word = 32 + word; value = content_word (seat_zero log_marked) 0 word; marked = true })
@@ -79,7 +79,7 @@ fenced_reached : IsReached image_a log_fenced
 fenced_reached = step_reached image_a log_marked 0 2 Fence (CountsFilled 0 ∷ []) marked_reached (omega arith) (one_part 0) (record { owned = omega arith; each = each_marked }, tt) refl
     (record { in_sync = λ sync tail none. absurd (no_sync sync) })
 
-linked_reached : IsReached image_a own_linked
+pub linked_reached : IsReached image_a own_linked
 linked_reached = step_reached image_a log_fenced 0 2 (Exchange (Image 24) 0 4) [] fenced_reached (omega arith) (one_part 0) tt refl
     (record { valid = refl; ready = refl; link = refl; at_end = refl; owned = refl; in_log = refl; content = refl })
 

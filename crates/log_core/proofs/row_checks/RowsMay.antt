@@ -97,6 +97,7 @@ entry_may_be_put = (
     at_tail = record { valid = refl; ready = refl; not_won = refl; at_tail = refl };
     slot = refl;
     inside = omega arith;
+    small = omega arith;
     op = PwriteOp 0 (170 ∷ []);
     job = refl;
     is_write = refl;

@@ -40,14 +40,19 @@ same_call : (call : Option Op) (number : ℕ) → MayNumber (is_begun call call)
 same_call None number = refl
 same_call (Some op) number = refl
 
--- seat 0 sets and stores a word of the block that it owns first, whose words begin there
-pub store_next : {c : Core} (first word value : ℕ) → IsReached image_a c → 0 < length c.views → (view_of c.views 0).parts ≢ [] → MaySetWord (seat_zero c) 0 word value → MayStoreWord (state_after_work (seat_zero c) (SetsWord 0 word value)) (first + word) value
-    → IsReached image_a (stepping image_a c 0 (Store (Image (first + word)) value) (number_in c 0) (SetsWord 0 word value ∷ []) [])
-store_next {c} first word value run made unspent sets stores = step_reached image_a c 0 (number_in c 0) (Store (Image (first + word)) value) (SetsWord 0 word value ∷ []) run made unspent (sets, tt) (same_call (op_in (seat_zero c)) (number_in c 0)) stores
+-- a seat sets and stores a word of the block that it owns first, whose words begin there
+pub store_next : {c : Core} (seat first word value : ℕ) → IsReached image_a c → seat < length c.views → (view_of c.views seat).parts ≢ [] →
+    MaySetWord (view_of c.views seat).seat 0 word value → MayStoreWord (state_after_work (view_of c.views seat).seat (SetsWord 0 word value)) (first + word) value →
+    IsReached image_a (stepping image_a c seat (Store (Image (first + word)) value) (number_in c seat) (SetsWord 0 word value ∷ []) [])
+store_next {c} seat first word value run made unspent sets stores =
+    step_reached image_a c seat (number_in c seat) (Store (Image (first + word)) value) (SetsWord 0 word value ∷ []) run made unspent (sets, tt) (same_call (op_in (view_of c.views seat).seat) (number_in c seat)) stores
 
 -- and marks it
-pub mark_next : {c : Core} (first word : ℕ) → IsReached image_a c → 0 < length c.views → (view_of c.views 0).parts ≢ [] → is_listed (owned_numbers (seat_zero c).blocks.owned) ((first + word) / words_of (seat_zero c)) ≡ true → (seat_zero c).calling.job ≢ Sync → IsReached image_a (stepping image_a c 0 (Mark (first + word)) (number_in c 0) [] [])
-mark_next {c} first word run made unspent own no_sync = step_reached image_a c 0 (number_in c 0) (Mark (first + word)) [] run made unspent tt (same_call (op_in (seat_zero c)) (number_in c 0)) (OfOwned own no_sync)
+pub mark_next : {c : Core} (seat first word : ℕ) → IsReached image_a c → seat < length c.views → (view_of c.views seat).parts ≢ [] →
+    is_listed (owned_numbers (view_of c.views seat).seat.blocks.owned) ((first + word) / words_of (view_of c.views seat).seat) ≡ true → (view_of c.views seat).seat.calling.job ≢ Sync →
+    IsReached image_a (stepping image_a c seat (Mark (first + word)) (number_in c seat) [] [])
+mark_next {c} seat first word run made unspent own no_sync =
+    step_reached image_a c seat (number_in c seat) (Mark (first + word)) [] run made unspent tt (same_call (op_in (view_of c.views seat).seat) (number_in c seat)) (OfOwned own no_sync)
 
 no_sync_runs : Pwrite 0 ≢ Sync
 no_sync_runs same = false≢true (ap is_sync same)
@@ -61,25 +66,25 @@ taken_reached =
 
 stored_reached : IsReached image_a own_stored
 stored_reached =
-    let stored_0 = store_next 8 0 170 taken_reached (omega arith) (one_part 0) (record { owned = omega arith; inside = omega arith; small = omega arith }) (record { owned = refl; small = omega arith }) in
-    let stored_1 = store_next 8 1 0 stored_0 (omega arith) (one_part 0) (record { owned = omega arith; inside = omega arith; small = omega arith }) (record { owned = refl; small = omega arith }) in
-    let stored_2 = store_next 8 2 0 stored_1 (omega arith) (one_part 0) (record { owned = omega arith; inside = omega arith; small = omega arith }) (record { owned = refl; small = omega arith }) in
-    let stored_3 = store_next 8 3 0 stored_2 (omega arith) (one_part 0) (record { owned = omega arith; inside = omega arith; small = omega arith }) (record { owned = refl; small = omega arith }) in
-    let stored_4 = store_next 8 4 0 stored_3 (omega arith) (one_part 0) (record { owned = omega arith; inside = omega arith; small = omega arith }) (record { owned = refl; small = omega arith }) in
-    let stored_5 = store_next 8 5 0 stored_4 (omega arith) (one_part 0) (record { owned = omega arith; inside = omega arith; small = omega arith }) (record { owned = refl; small = omega arith }) in
-    let stored_6 = store_next 8 6 0 stored_5 (omega arith) (one_part 0) (record { owned = omega arith; inside = omega arith; small = omega arith }) (record { owned = refl; small = omega arith }) in
-    store_next 8 7 0 stored_6 (omega arith) (one_part 0) (record { owned = omega arith; inside = omega arith; small = omega arith }) (record { owned = refl; small = omega arith })
+    let stored_0 = store_next 0 8 0 170 taken_reached (omega arith) (one_part 0) (record { owned = omega arith; inside = omega arith; small = omega arith }) (record { owned = refl; small = omega arith }) in
+    let stored_1 = store_next 0 8 1 0 stored_0 (omega arith) (one_part 0) (record { owned = omega arith; inside = omega arith; small = omega arith }) (record { owned = refl; small = omega arith }) in
+    let stored_2 = store_next 0 8 2 0 stored_1 (omega arith) (one_part 0) (record { owned = omega arith; inside = omega arith; small = omega arith }) (record { owned = refl; small = omega arith }) in
+    let stored_3 = store_next 0 8 3 0 stored_2 (omega arith) (one_part 0) (record { owned = omega arith; inside = omega arith; small = omega arith }) (record { owned = refl; small = omega arith }) in
+    let stored_4 = store_next 0 8 4 0 stored_3 (omega arith) (one_part 0) (record { owned = omega arith; inside = omega arith; small = omega arith }) (record { owned = refl; small = omega arith }) in
+    let stored_5 = store_next 0 8 5 0 stored_4 (omega arith) (one_part 0) (record { owned = omega arith; inside = omega arith; small = omega arith }) (record { owned = refl; small = omega arith }) in
+    let stored_6 = store_next 0 8 6 0 stored_5 (omega arith) (one_part 0) (record { owned = omega arith; inside = omega arith; small = omega arith }) (record { owned = refl; small = omega arith }) in
+    store_next 0 8 7 0 stored_6 (omega arith) (one_part 0) (record { owned = omega arith; inside = omega arith; small = omega arith }) (record { owned = refl; small = omega arith })
 
 marked_reached : IsReached image_a own_marked
 marked_reached =
-    let marked_7 = mark_next 8 7 stored_reached (omega arith) (one_part 0) refl no_sync_runs in
-    let marked_6 = mark_next 8 6 marked_7 (omega arith) (one_part 0) refl no_sync_runs in
-    let marked_5 = mark_next 8 5 marked_6 (omega arith) (one_part 0) refl no_sync_runs in
-    let marked_4 = mark_next 8 4 marked_5 (omega arith) (one_part 0) refl no_sync_runs in
-    let marked_3 = mark_next 8 3 marked_4 (omega arith) (one_part 0) refl no_sync_runs in
-    let marked_2 = mark_next 8 2 marked_3 (omega arith) (one_part 0) refl no_sync_runs in
-    let marked_1 = mark_next 8 1 marked_2 (omega arith) (one_part 0) refl no_sync_runs in
-    mark_next 8 0 marked_1 (omega arith) (one_part 0) refl no_sync_runs
+    let marked_7 = mark_next 0 8 7 stored_reached (omega arith) (one_part 0) refl no_sync_runs in
+    let marked_6 = mark_next 0 8 6 marked_7 (omega arith) (one_part 0) refl no_sync_runs in
+    let marked_5 = mark_next 0 8 5 marked_6 (omega arith) (one_part 0) refl no_sync_runs in
+    let marked_4 = mark_next 0 8 4 marked_5 (omega arith) (one_part 0) refl no_sync_runs in
+    let marked_3 = mark_next 0 8 3 marked_4 (omega arith) (one_part 0) refl no_sync_runs in
+    let marked_2 = mark_next 0 8 2 marked_3 (omega arith) (one_part 0) refl no_sync_runs in
+    let marked_1 = mark_next 0 8 1 marked_2 (omega arith) (one_part 0) refl no_sync_runs in
+    mark_next 0 8 0 marked_1 (omega arith) (one_part 0) refl no_sync_runs
 
 each_marked : (word : ℕ) → word < 8
     → stored_at (view_of own_marked.views 0).ghost.stored (8 + word) ≡ Some (record { word = 8 + word; value = content_word (seat_zero own_marked) 0 word; marked = true })

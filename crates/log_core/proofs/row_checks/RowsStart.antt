@@ -12,7 +12,7 @@ use Rattle.log_core.specs.worked_rows.Samples.{image_a}
 use Rattle.log_core.proofs.row_checks.RowChecks.{all_in, below_same, below_implied}
 
 -- each word is below 2^64, where a test finds it so
-each_small : (words : List ℕ) → all_in (λ word. nat_lt word (2 ^ 64)) words ≡ true → AllByRecursion (λ (word : ℕ). word < 2 ^ 64) words
+pub each_small : (words : List ℕ) → all_in (λ word. nat_lt word (2 ^ 64)) words ≡ true → AllByRecursion (λ (word : ℕ). word < 2 ^ 64) words
 each_small [] all = tt
 each_small (word ∷ words) all = (let parts = and_parts (nat_lt word (2 ^ 64)) (all_in (λ other. nat_lt other (2 ^ 64)) words) all in (ltb-true word (2 ^ 64) parts.0, each_small words parts.1))
 

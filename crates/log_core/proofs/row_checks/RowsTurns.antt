@@ -55,6 +55,7 @@ runs_may_be_put = (
     at_tail = record { valid = refl; ready = refl; not_won = refl; at_tail = refl };
     slot = refl;
     inside = omega arith;
+    small = omega arith;
     op = PwriteOp 256 (replicate 128 7);
     job = refl;
     is_write = refl;

@@ -31,7 +31,7 @@ use Rattle.log_core.proofs.row_checks.RowsReached.{reached_holds, fenced_reached
 front_reached : IsReached image_a (stepping image_a own_fenced 0 (Load (Image 25)) 1 [] [])
 front_reached = step_reached image_a own_fenced 0 1 (Load (Image 25)) [] fenced_reached (omega arith) (one_part 0) tt refl (record { valid = refl; named = refl })
 
-tail_reached : IsReached image_a own_at_tail
+pub tail_reached : IsReached image_a own_at_tail
 tail_reached = step_reached image_a _ 0 1 (Load (Image 27)) (StartsFromLog ∷ []) front_reached (omega arith) (one_part 0)
     (record { at_front = record { valid = refl; pinned = refl; front = λ none. cc }; free = record { not_won = refl; none_laid = refl; no_sync = refl; no_head = refl }; no_bases = refl; kind_is = refl }, tt)
     refl (record { valid = refl; named = refl })
@@ -43,11 +43,12 @@ bytes_held zero block at found inside =
     (below_same 64 (λ k. slice_index (word_bytes (content_of (seat_zero own_at_tail) 1)) k) (λ k. slice_index (170 ∷ []) (0 * 64 + k)) at refl inside)
 bytes_held (suc virt) block at found inside = absurd (none_not_some block (sym (names_none (direct_meaning to_first) (suc virt) (omega arith)) ∙ found))
 
-may_put : MayCommit image_a [] (seat_zero own_at_tail) 27 to_first
+pub may_put : MayCommit image_a [] (seat_zero own_at_tail) 27 to_first
 may_put = record {
   at_tail = record { valid = refl; ready = refl; not_won = refl; at_tail = refl };
   slot = refl;
   inside = omega arith;
+  small = omega arith;
   op = PwriteOp 0 (170 ∷ []);
   job = refl;
   is_write = refl;
@@ -90,4 +91,5 @@ entries_not_put = (
   λ allowed. false≢true ((allowed.step.may.1 (λ seal. omega (arith, seal))).owned 1 refl),
   λ allowed. false≢true ((allowed.step.may.1 (λ seal. omega (arith, seal))).owned 2 refl),
   λ allowed. (let size = size_of (seat_zero own_at_tail) 272678883950593 (PwriteOp 0 (170 ∷ [])) refl (allowed.step.may.1 (λ seal. omega (arith, seal))) in omega (arith, size)),
+  λ allowed. (let small = (allowed.step.may.1 (λ seal. omega (arith, seal))).small in omega (arith, small)),
 )

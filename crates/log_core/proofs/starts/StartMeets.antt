@@ -15,7 +15,7 @@ use Rattle.log_core.proofs.starts.StartHistory.{start_history}
 
 meets : (o : Origin) → IsStart o → Facts o → Invariant o (first_core o)
 meets o start s = record {
-  sizes = start_sizes o start.seats (record { whole = s.whole; bitmap = s.bitmap.room; wide = s.wide });
+  sizes = start_sizes o start.seats (record { whole = s.whole; bitmap = s.bitmap.room; wide = s.wide }) start.small;
   writes = start_history o s;
   order = record { heads = start_heads o s; generations_rise = start_rises o s; log = start_log o s; chains = start_chains o s (head_floor (first_memory o)) (first_views o) };
   owners = start_owners o s (head_floor (first_memory o)) (first_views o);

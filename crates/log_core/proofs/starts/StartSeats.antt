@@ -1,5 +1,5 @@
 -- The clauses over views at a start.
-use Rattle.std.proofs.Common.{◌≡◌, ◌≢◌, ◌⊎◌, ℕ, zero, suc, ◌+◌, ◌<◌, ◌≤◌, ◌==◌, Bool, true, false, List, [], ◌∷◌, length, map, get_or, replicate, Some, None, refl, sym, ap, ◌∙◌, arith, inl, inr}
+use Rattle.std.proofs.Common.{◌≡◌, ◌≢◌, ◌⊎◌, ℕ, zero, suc, ◌+◌, ◌<◌, ◌≤◌, ◌==◌, Bool, true, false, List, [], ◌∷◌, length, map, get_or, replicate, Some, None, refl, sym, ap, ◌∙◌, arith, inl, inr, ◌^◌}
 use Rattle.std.specs.Prelude.{nat_lt, nat_le, ◌&&◌}
 use Rattle.std.specs.List.{range_with_len, AllByRecursion}
 use Rattle.std.proofs.lemmas.Bool.{false≢true, eq-eqb, or_left}
@@ -37,11 +37,11 @@ some_made o seats = go seats.made
     go (inl one) = (omega (arith, one), omega (arith, one, seats.some))
     go (inr all) = (omega (arith, all, seats.some), omega (arith, all))
 
-pub start_sizes : (o : Origin) → HasSeats o → HasImage o → Sizes o (first_memory o) (first_views o) (replicate o.made 0)
-start_sizes o seats image = record {
+pub start_sizes : (o : Origin) → HasSeats o → HasImage o → AllByRecursion (λ (word : ℕ). word < 2 ^ 64) o.words → Sizes o (first_memory o) (first_views o) (replicate o.made 0)
+start_sizes o seats image small = record {
   seats = seats;
   image = image;
-  words = record { words = refl; taken = refl; pins = length-replicate o.seats 0; floors = length-replicate (length o.words) 0; reached = λ word. (let e = zeros_after [] (length o.words) word in omega (arith, e)); pending = tt };
+  words = record { words = refl; taken = refl; pins = length-replicate o.seats 0; floors = length-replicate (length o.words) 0; reached = λ word. (let e = zeros_after [] (length o.words) word in omega (arith, e)); small = small; small_past = tt; pending = tt };
   some = omega (arith, views_made o, (some_made o seats).0);
   few = omega (arith, views_made o, (some_made o seats).1);
   begun = length-replicate o.made 0 ∙ sym (views_made o);

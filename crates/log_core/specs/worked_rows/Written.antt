@@ -1,5 +1,5 @@
 -- A run in which a seat writes a byte: its entry is put in at the tail, with its record. And exchanges that would put in another one.
-use Rattle.std.specs.Prelude.{◌≡◌, [], ◌∷◌, map, replicate}
+use Rattle.std.specs.Prelude.{◌≡◌, [], ◌∷◌, map, replicate, ◌+◌, ◌^◌}
 use Rattle.pmem_words.specs.declared.keeps.Task.TheVariants.{Collect}
 use Rattle.asks.specs.declared.ask.Ask.TheVariants.{Load, Exchange, SetBits, Fence}
 use Rattle.asks.specs.declared.ask.Place.TheVariants.{Image, Map}
@@ -77,9 +77,11 @@ LinkRuns =
     × ((view_of own_linked.views 0).seat.walk.tail_block ≡ 4)
     × ((view_of own_linked.views 0).seat.walk.position ≡ 1)
 
--- at the same tail no entry may be put in that names a block that is not fenced, or not the seat's, nor one that says another size
+-- at the same tail no entry may be put in that names a block that is not fenced, or not the seat's, nor one that says another size, nor one
+-- that has more than 64 bits
 abbrev pub EntriesNotPut : Type 0
 EntriesNotPut =
     (IsAllowed unfenced_at_tail 0 (Exchange (Image 27) 0 to_first) [] → ⊥)
     × (IsAllowed own_at_tail 0 (Exchange (Image 27) 0 to_second) [] → ⊥)
     × (IsAllowed own_at_tail 0 (Exchange (Image 27) 0 272678883950593) [] → ⊥)
+    × (IsAllowed own_at_tail 0 (Exchange (Image 27) 0 (to_first + 2 ^ 64)) [] → ⊥)

@@ -7,10 +7,15 @@ use Rattle.log_core.proofs.row_checks.RowsOwners.{owners_stand}
 use Rattle.log_core.proofs.row_checks.RowsRun.{pin_runs, write_fits, views_join, views_split}
 use Rattle.log_core.proofs.row_checks.RowsLate.{late_write, late_sync, late_walk}
 use Rattle.log_core.proofs.row_checks.RowsTurns.{runs_may_be_put, collections_in_turn}
+use Rattle.log_core.proofs.row_checks.RowsStarting.{each_kind_starts}
 use Rattle.log_core.proofs.row_checks.RowsAllowed.{bitmap_may_be_read, allowed_kinds}
 use Rattle.log_core.proofs.row_checks.RowsReached.{block_runs}
 use Rattle.log_core.proofs.row_checks.RowsWritten.{write_runs, entries_not_put}
 use Rattle.log_core.proofs.row_checks.RowsLinked.{link_runs}
+use Rattle.log_core.proofs.row_checks.RowsTwoWriters.{two_at_one_tail}
+use Rattle.log_core.proofs.row_checks.RowsBothPut.{second_loses, two_writers_run}
+use Rattle.log_core.proofs.row_checks.RowsCollecting.{two_collect}
+use Rattle.log_core.proofs.row_checks.RowsOvertaken.{collection_runs, overtaken_runs}
 use Rattle.log_core.proofs.row_checks.RowsEnded.{calls_end}
 use Rattle.log_core.proofs.row_checks.RowsJoined.{sync_runs, no_mark_outside_of_syncs, seats_are_joined}
 use Rattle.log_core.proofs.rows.law_accepted.Goals as goal
@@ -21,12 +26,19 @@ returns c = record {
   word_may_be_loaded = word_may_be_loaded;
   word_may_be_marked = word_may_be_marked;
   entry_may_be_put = entry_may_be_put;
+  each_kind_starts = each_kind_starts;
   bitmap_may_be_read = bitmap_may_be_read;
   allowed_kinds = allowed_kinds;
   block_runs = block_runs;
   write_runs = write_runs;
   link_runs = link_runs;
   entries_not_put = entries_not_put;
+  two_at_one_tail = two_at_one_tail;
+  second_loses = second_loses;
+  two_writers_run = two_writers_run;
+  two_collect = two_collect;
+  collection_runs = collection_runs;
+  overtaken_runs = overtaken_runs;
   calls_end = calls_end;
   sync_runs = sync_runs;
   no_mark_outside_of_syncs = no_mark_outside_of_syncs;
