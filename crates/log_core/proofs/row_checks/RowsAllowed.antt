@@ -1,7 +1,8 @@
 -- Rows of steps of each kind: what they come to, and which are allowed; and runs that go on with one.
-use Rattle.std.proofs.Common.{◌≢◌, ◌<◌, ℕ, List, [], ◌∷◌, length, refl, sym, subst, arith, ap}
+use Rattle.std.proofs.Common.{◌≢◌, ◌<◌, ℕ, List, [], ◌∷◌, length, refl, sym, subst, arith, ap, Option, None, Some}
 use Rattle.std.proofs.lemmas.Bool.{false≢true, true≢false}
 use Rattle.log_entry.specs.declared.shapes.Area.TheVariants.{Data}
+use Rattle.log_entry.specs.declared.calls.Op.{Op}
 use Rattle.asks.specs.declared.ask.Ask.{Ask}
 use Rattle.log_core.specs.Views.{view_of, op_in}
 use Rattle.log_core.specs.Origin.{Origin, q_of_origin}
@@ -68,6 +69,11 @@ module _ (o : Origin) (c : Core) (seat number : ℕ) (ask : Ask) (works : List W
       May o c (ghost_begun (view_of c.views seat).ghost (view_of c.views seat).seat (state_after_all_work (view_of c.views seat).seat works) number) (state_after_all_work (view_of c.views seat).seat works) (kind_of_ask (q_of_origin o) seat ask) →
       IsReached o (stepping o c seat ask number works [])
   step_reached run made unspent computes numbered may = reach (step_of o c seat ask number works [] []) run (step_allowed o c seat number ask works made unspent computes numbered may)
+
+-- a step goes on with the call that runs
+pub same_call : (call : Option Op) (number : ℕ) → MayNumber (is_begun call call) number number
+same_call None number = refl
+same_call (Some op) number = refl
 
 pub allowed_kinds : AllowedKinds
 allowed_kinds = (
