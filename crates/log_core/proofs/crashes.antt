@@ -1,0 +1,3 @@
+-- What every crash leaves of a run.
+pub mod LeftWords
+pub mod LeftSlots
