@@ -1,3 +1,4 @@
 -- What every crash leaves of a run.
 pub mod LeftWords
 pub mod LeftSlots
+pub mod LeftLogs
