@@ -2,3 +2,4 @@
 pub mod LeftWords
 pub mod LeftSlots
 pub mod LeftLogs
+pub mod LeftBlocks
