@@ -3,3 +3,4 @@ pub mod LeftWords
 pub mod LeftSlots
 pub mod LeftLogs
 pub mod LeftBlocks
+pub mod LeftEntries
