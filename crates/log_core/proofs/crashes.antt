@@ -4,3 +4,4 @@ pub mod LeftSlots
 pub mod LeftLogs
 pub mod LeftBlocks
 pub mod LeftEntries
+pub mod LeftSnapshots
