@@ -5,3 +5,4 @@ pub mod LeftLogs
 pub mod LeftBlocks
 pub mod LeftEntries
 pub mod LeftSnapshots
+pub mod LeftChains
