@@ -6,3 +6,5 @@ pub mod LeftBlocks
 pub mod LeftEntries
 pub mod LeftSnapshots
 pub mod LeftChains
+pub mod LeftFiles
+pub mod Recovered
