@@ -1,5 +1,5 @@
 -- Every crash leaves words that stand for a file of the history, and so do they when they are cleared.
-use Rattle.std.proofs.Common.{◌≡◌, ◌<◌, ◌≤◌, ◌+◌, ◌*◌, ◌^◌, inl, ℕ, List, length, None, sym, ◌∙◌, ap, subst, arith, slice_index}
+use Rattle.std.proofs.Common.{◌≡◌, ◌<◌, ◌≤◌, ◌+◌, ◌-◌, ◌*◌, ◌^◌, inl, ℕ, List, length, None, sym, ◌∙◌, ap, subst, arith, slice_index}
 use Rattle.log_entry.specs.Fields.{field}
 use Rattle.log_entry.specs.Words.{head_word}
 use Rattle.log_entry.specs.Geometry.{shape_refusal}
@@ -10,7 +10,7 @@ use Rattle.log_image.specs.Image.{Shape, words_in, total}
 use Rattle.log_image.specs.Header.{shape_of, head_block, HasHeader}
 use Rattle.log_image.specs.declared.header.TheConstants.{HEADER_VERSION, HEADER_BLOCK_POWER, HEADER_UNNAMED, HEADER_DATA, HEADER_LOG}
 use Rattle.log_image.specs.Chains.{IsChain}
-use Rattle.log_image.specs.Stands.{StandsIn, StandsBy}
+use Rattle.log_image.specs.Stands.{StandsIn, StandsBy, Stands}
 use Rattle.log_image.specs.Tails.{tail_of, IsCleared}
 use Rattle.log_image.specs.Recovered.{Recovered}
 use Rattle.log_image.specs.declared.starts.Start.{Start}
@@ -20,15 +20,16 @@ use Rattle.persistence.specs.Memory.{cell}
 use Rattle.persistence.specs.Survivors.{IsPossible, Survives}
 use Rattle.log_core.specs.Entries.{head_place}
 use Rattle.log_core.specs.Views.{view_of}
-use Rattle.log_core.specs.Origin.{Origin, shape, first_generation}
+use Rattle.log_core.specs.Origin.{Origin, shape, first_position, first_generation}
 use Rattle.log_core.specs.Files.{file_at}
 use Rattle.log_core.specs.Cores.{Core}
 use Rattle.log_core.specs.Order.{nth_generation, front_of}
 use Rattle.log_core.specs.Starts.{IsStart}
 use Rattle.log_core.specs.Runs.{end}
 use Rattle.log_core.specs.Invariant.{Invariant, KeptIn}
-use Rattle.log_core.specs.Crashes.{IsRecovered, CrashesAreRecovered}
+use Rattle.log_core.specs.Crashes.{file_after_first, IsRecovered, CrashesAreRecovered}
 use Rattle.log_core.proofs.Each.{each_weaker}
+use Rattle.log_core.proofs.HistoryFiles.{late_file}
 use Rattle.log_core.proofs.Heads.{generation_field}
 use Rattle.log_core.proofs.Fronts.{head_front}
 use Rattle.log_core.proofs.ChainPlaces.{head_inside}
@@ -122,16 +123,35 @@ module _ (o : Origin) (c : Core) (start : IsStart o) (inv : Invariant o c) (word
       one : (is.stands.0 ≡ blocks) × (found ≡ file) × (elsewhere ≡ there)
       one = one_meaning begun.words.items is.stands.0 blocks found file elsewhere there is.stands.1 (cleared_by is.chain begun.words.items is.of_words is.cleared)
 
+  -- how many writes that is
+  abbrev many : ℕ
+  many = there - first_position o
+
+  enough : c.synced ≤ there
+  enough = from_synced o c inv place kept words left head_left.above
+
+  late : first_position o ≤ there
+  late = (let synced = enough in let first = inv.syncs.from_first in omega (arith, synced, first))
+
+  there_is : there ≡ first_position o + many
+  there_is = (let after = late in omega (arith, after))
+
+  file_is : file ≡ file_after_first o c many
+  file_is = late_file o c.history there late
+
+  as_said : (others : List ℕ) → StandsBy others blocks file there → Stands others (file_after_first o c many) (first_position o + many)
+  as_said others by = (blocks, subst (λ (found : List ℕ). StandsBy others blocks found (first_position o + many)) file_is (subst (λ (position : ℕ). StandsBy others blocks file position) there_is by))
+
   pub recovered : IsRecovered o c words
   recovered = record {
-    position = there;
-    synced = from_synced o c inv place kept words left head_left.above;
-    to_end = to_end o c inv place kept words left head_left.above;
-    stands = (blocks, stands_by);
-    cleared = λ other others of_words cleared. (blocks, cleared_by other others of_words cleared);
-    recovered = one_recovered;
-    answered = λ seat. each_weaker (λ (call : Call). (to : ℕ) → call.reply ≡ Synced to → to ≤ c.synced) (λ (call : Call). (to : ℕ) → call.reply ≡ Synced to → to ≤ there) (view_of c.views seat).done
-        (λ call synced to reply. (let enough = from_synced o c inv place kept words left head_left.above in let low = synced to reply in omega (arith, enough, low)))
+    writes = many;
+    to_end = (let upto = to_end o c inv place kept words left head_left.above in omega (arith, upto));
+    synced = (let low = enough in let is = there_is in omega (arith, low, is));
+    stands = as_said words stands_by;
+    cleared = λ other others of_words cleared. as_said others (cleared_by other others of_words cleared);
+    recovered = λ begun found elsewhere is. (let one = one_recovered begun found elsewhere is in (one.0 ∙ file_is, one.1 ∙ there_is));
+    answered = λ seat. each_weaker (λ (call : Call). (to : ℕ) → call.reply ≡ Synced to → to ≤ c.synced) (λ (call : Call). (to : ℕ) → call.reply ≡ Synced to → to ≤ first_position o + many) (view_of c.views seat).done
+        (λ call synced to reply. (let low = synced to reply in let more = enough in let is = there_is in omega (arith, more, low, is)))
         (inv.syncs.views_hold seat).answered;
   }
 
