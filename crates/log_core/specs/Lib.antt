@@ -29,6 +29,7 @@ pub mod Histories
 pub mod Laws
 pub mod Following
 pub mod Causes
+pub mod Crashes
 pub mod Knows
 pub mod Within
 pub mod Promising

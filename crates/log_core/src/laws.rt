@@ -3,6 +3,7 @@
 ghost use Rattle.log_core.specs.Laws.{StartMeets, StepKeeps, RunKeeps};
 ghost use Rattle.log_core.specs.Following.{NoneReused, RunsAreLegal, RecordsAreSeen};
 ghost use Rattle.log_core.specs.Causes.{RecordsHaveCauses};
+ghost use Rattle.log_core.specs.Crashes.{CrashesAreRecovered};
 
 /// The core that a run starts with meets the invariant.
 pub fn law_start()
@@ -32,4 +33,11 @@ pub fn law_legal()
     ensures one_history { RunsAreLegal }
     ensures each_seen { RecordsAreSeen }
     ensures causes { RecordsHaveCauses }
+{}
+
+/// Whatever a crash leaves after any run: the words stand for the file after the first writes of the history, among them all up to the synced
+/// position, and no other. So opening refuses none, clearing keeps it, and each start that is recovered is of that file and its position,
+/// which no sync was answered past.
+pub fn law_crash()
+    ensures { CrashesAreRecovered }
 {}
