@@ -25,7 +25,7 @@ file_after_first o c writes = file_after_writes o.file (take writes c.history)
 -- words that a crash left of a core: they have the first writes of the history, all up to one, among them all up to the synced position, and
 -- no other. They stand for the file after those, at its position, so no condition of opening refuses them. So do the words that are cleared
 -- after their tail; and each start that is recovered from them is of that file and that position. No sync of any view was answered with a
--- later position
+-- position past the synced one
 pub record IsRecovered (o : Origin) (c : Core) (words : List ℕ) : Type 0 where
   pub writes : ℕ
   pub to_end : writes ≤ length c.history
@@ -34,7 +34,7 @@ pub record IsRecovered (o : Origin) (c : Core) (words : List ℕ) : Type 0 where
   pub cleared : (chain others : List ℕ) → IsChain words (shape_of words) chain → IsCleared (shape_of words) (tail_of words (shape_of words) chain) words others →
       Stands others (file_after_first o c writes) (first_position o + writes)
   pub recovered : (start : Start) (file : List ℕ) (position : ℕ) → Recovered words start file position → (file ≡ file_after_first o c writes) × (position ≡ first_position o + writes)
-  pub answered : (seat : ℕ) → AllByRecursion (λ (call : Call). (position : ℕ) → call.reply ≡ Synced position → position ≤ first_position o + writes) (view_of c.views seat).done
+  pub answered : (seat : ℕ) → AllByRecursion (λ (call : Call). (position : ℕ) → call.reply ≡ Synced position → position ≤ c.synced) (view_of c.views seat).done
 
 -- so it is of all words that any crash may leave, after every run
 abbrev pub CrashesAreRecovered : Type 0

@@ -36,8 +36,8 @@ pub fn law_legal()
 {}
 
 /// Whatever a crash leaves after any run: the words stand for the file after the first writes of the history, among them all up to the synced
-/// position, and no other. So opening refuses none, clearing keeps it, and each start that is recovered is of that file and its position,
-/// which no sync was answered past.
+/// position, and no other. So opening refuses none, clearing keeps it, and each start that is recovered is of that file and its position. No
+/// sync was answered with a position past the synced one.
 pub fn law_crash()
     ensures { CrashesAreRecovered }
 {}

@@ -150,9 +150,7 @@ module _ (o : Origin) (c : Core) (start : IsStart o) (inv : Invariant o c) (word
     stands = as_said words stands_by;
     cleared = λ other others of_words cleared. as_said others (cleared_by other others of_words cleared);
     recovered = λ begun found elsewhere is. (let one = one_recovered begun found elsewhere is in (one.0 ∙ file_is, one.1 ∙ there_is));
-    answered = λ seat. each_weaker (λ (call : Call). (to : ℕ) → call.reply ≡ Synced to → to ≤ c.synced) (λ (call : Call). (to : ℕ) → call.reply ≡ Synced to → to ≤ first_position o + many) (view_of c.views seat).done
-        (λ call synced to reply. (let low = synced to reply in let more = enough in let is = there_is in omega (arith, more, low, is)))
-        (inv.syncs.views_hold seat).answered;
+    answered = λ seat. (inv.syncs.views_hold seat).answered;
   }
 
 pub crashes_are_recovered : CrashesAreRecovered
