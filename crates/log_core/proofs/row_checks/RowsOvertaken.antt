@@ -90,7 +90,7 @@ each_clear zero less = inl refl
 each_clear (suc zero) less = inl refl
 each_clear (suc (suc seat)) less = absurd (omega (arith, less))
 
-given_reached : IsReached image_a (given_from put_core)
+pub given_reached : IsReached image_a (given_from put_core)
 given_reached = step_reached image_a (clear_from put_core) 0 3 (ClearBits (Map 0) 8) [] clear_reached (omega arith) (one_part 0) tt refl
     (record { inside = omega arith; small = omega arith; given = OfLimbo (all_among 8 (λ block. is_listed (view_of (clear_from put_core).views 0).seat.giving.limbo block) refl) (record { whole = refl; each = each_clear }) })
 
