@@ -71,7 +71,7 @@ emptied_reached : IsReached image_a (emptied_from put_core)
 emptied_reached = step_reached image_a (lost_from put_core) 1 1 (ClearBits (Map 0) 64) [] lost_reached (omega arith) (one_part 1) tt refl
     (record { inside = omega arith; small = omega arith; given = OfOwned (all_among 64 (λ block. is_listed (owned_numbers (view_of (lost_from put_core).views 1).seat.blocks.owned) block) refl) })
 
-overtaken_reached : IsReached image_a (overtaken_from put_core)
+pub overtaken_reached : IsReached image_a (overtaken_from put_core)
 overtaken_reached = enters_reached image_a (emptied_from put_core) 1 1 (Store (Pin 1) 0) [] [] (overtaken_call ∷ []) emptied_reached (omega arith) (one_part 1) tt refl
     (record { value_is = inl refl; no_marks = λ sync. refl }) tt refl
     (record { at_tail = refl; position = refl; seat = refl; number = refl; op = refl; fits = (refl, refl, ((λ same. omega (arith, same)), omega arith, refl)) })

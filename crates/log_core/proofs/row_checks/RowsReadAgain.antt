@@ -2,19 +2,21 @@
 use Rattle.std.proofs.Common.{◌≡◌, ◌<◌, ◌+◌, ℕ, zero, suc, false, [], ◌∷◌, refl, sym, ap, subst, inr, arith, slice_index, Some}
 use Rattle.std.proofs.lemmas.Bool.{false≢true}
 use Rattle.log_entry.specs.declared.calls.Op.{Op}
-use Rattle.asks.specs.declared.ask.Ask.TheVariants.{Load, Store}
-use Rattle.asks.specs.declared.ask.Place.TheVariants.{Image, Pin}
+use Rattle.log_entry.specs.declared.shapes.Area.TheVariants.{Log}
+use Rattle.asks.specs.declared.ask.Ask.TheVariants.{Load, Store, SetBits}
+use Rattle.asks.specs.declared.ask.Place.TheVariants.{Image, Pin, Map}
 use Rattle.pmem_words.specs.Maps.{unmapped, listed}
 use Rattle.pmem_words.specs.Seats.{Seat}
-use Rattle.pmem_words.specs.declared.keeps.Task.TheVariants.{Pread}
+use Rattle.pmem_words.specs.declared.keeps.Task.TheVariants.{Pwrite, Pread}
 use Rattle.log_core.specs.Views.{view_of, op_of}
 use Rattle.log_core.specs.Cores.{Core}
-use Rattle.log_core.specs.Works.{Begins, StartsFromSnapshot, ReadsRun, EndsReading, Lays, IsByteAt, MayLay, is_quiet}
+use Rattle.log_core.specs.Works.{Begins, StartsFromSnapshot, ReadsRun, EndsReading, Lays, IsByteAt, MayLay, is_quiet, seat_shape}
+use Rattle.log_core.specs.Needs.{is_in_area}
 use Rattle.log_core.specs.After.{op_or_size}
 use Rattle.log_core.specs.Runs.{IsReached}
 use Rattle.log_core.specs.worked_rows.Samples.{image_a}
-use Rattle.log_core.specs.worked_rows.GivenBack.{given_from}
-use Rattle.log_core.specs.worked_rows.ReadAgain.{asked_from, stored_from, pinned_from, front_from, started_from, run_from, over_from, link_from, read_from, tail_from, byte_from, read_call, told_from, ReadsBySnapshot, ReadAgainRuns}
+use Rattle.log_core.specs.worked_rows.GivenBack.{given_from, overtaken_from}
+use Rattle.log_core.specs.worked_rows.ReadAgain.{asked_from, stored_from, pinned_from, front_from, started_from, run_from, over_from, link_from, read_from, tail_from, byte_from, read_call, told_from, taken_from, early_from, ReadsBySnapshot, ReadAgainRuns, UsedAgain, UsedAgainRuns}
 use Rattle.log_core.proofs.row_checks.RowsStart.{image_starts}
 use Rattle.log_core.proofs.row_checks.RowsWrong.{one_part}
 use Rattle.log_core.proofs.row_checks.RowsAllowed.{step_reached}
@@ -22,7 +24,8 @@ use Rattle.log_core.proofs.row_checks.RowsReached.{reached_holds}
 use Rattle.log_core.proofs.row_checks.RowsStepped.{enters_reached}
 use Rattle.log_core.proofs.row_checks.RowsHeadPut.{put_core, head_put_is}
 use Rattle.log_core.proofs.row_checks.RowsWorks.{first_laid}
-use Rattle.log_core.proofs.row_checks.RowsOvertaken.{given_reached}
+use Rattle.log_core.proofs.row_checks.RowsOvertaken.{given_reached, overtaken_reached}
+use Rattle.log_core.proofs.row_checks.RowsTaken.{all_among}
 
 read_steps : (op : Op) → op_of (Pread 0 4) [] ≡ Some op → is_quiet 64 op ≡ false
 read_steps op same = subst (λ (o : Op). is_quiet 64 o ≡ false) (ap op_or_size same) refl
@@ -101,3 +104,33 @@ reads = (
 
 pub read_again_runs : ReadAgainRuns
 read_again_runs = subst (λ (c : Core). ReadsBySnapshot c) (sym head_put_is) reads
+
+write_steps : (op : Op) → op_of (Pwrite 0) (187 ∷ []) ≡ Some op → is_quiet 64 op ≡ false
+write_steps op same = subst (λ (o : Op). is_quiet 64 o ≡ false) (ap op_or_size same) refl
+
+taken_reached : IsReached image_a (taken_from put_core)
+taken_reached = step_reached image_a (told_from put_core) 1 3 (SetBits (Map 0) 8) (Begins (Pwrite 0) (187 ∷ []) ∷ []) told_reached (omega arith) (one_part 1)
+    (record { none_runs = refl; not_won = refl; no_head = refl; no_marks = refl; none_laid = refl; steps = write_steps }, tt) (omega arith)
+    (record { inside = omega arith; area = Log; in_area = all_among 8 (λ block. is_in_area (seat_shape (view_of (told_from put_core).views 1).seat) Log block) refl; few = omega arith })
+
+early_reached : IsReached image_a (early_from put_core)
+early_reached = step_reached image_a (overtaken_from put_core) 1 2 (SetBits (Map 0) 8) (Begins (Pwrite 0) (187 ∷ []) ∷ []) overtaken_reached (omega arith) (one_part 1)
+    (record { none_runs = refl; not_won = refl; no_head = refl; no_marks = refl; none_laid = refl; steps = write_steps }, tt) (omega arith)
+    (record { inside = omega arith; area = Log; in_area = all_among 8 (λ block. is_in_area (seat_shape (view_of (overtaken_from put_core).views 1).seat) Log block) refl; few = omega arith })
+
+used : UsedAgain put_core
+used = (
+  taken_reached,
+  reached_holds image_a (taken_from put_core) image_starts taken_reached,
+  refl,
+  refl,
+  refl,
+  refl,
+  early_reached,
+  reached_holds image_a (early_from put_core) image_starts early_reached,
+  refl,
+  refl,
+)
+
+pub used_again_runs : UsedAgainRuns
+used_again_runs = subst (λ (c : Core). UsedAgain c) (sym head_put_is) used

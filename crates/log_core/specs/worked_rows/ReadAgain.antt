@@ -1,12 +1,14 @@
 -- How that run goes on after the collection: the other seat reads the file by the second generation's snapshot.
-use Rattle.std.specs.Prelude.{◌≡◌, true, [], ◌∷◌}
+use Rattle.std.specs.Prelude.{◌≡◌, true, false, [], ◌∷◌, map, replicate}
+use Rattle.log_entry.specs.declared.shapes.Area.TheVariants.{Log}
 use Rattle.log_entry.specs.declared.calls.Call.{Call}
 use Rattle.log_entry.specs.declared.calls.Op.TheVariants.{Pread as PreadOp}
 use Rattle.log_entry.specs.declared.calls.Reply.TheVariants.{Bytes}
-use Rattle.asks.specs.declared.ask.Ask.TheVariants.{Load, Store}
-use Rattle.asks.specs.declared.ask.Place.TheVariants.{Image, Pin}
-use Rattle.pmem_words.specs.declared.keeps.Task.TheVariants.{Pread}
+use Rattle.asks.specs.declared.ask.Ask.TheVariants.{Load, Store, SetBits}
+use Rattle.asks.specs.declared.ask.Place.TheVariants.{Image, Pin, Map}
+use Rattle.pmem_words.specs.declared.keeps.Task.TheVariants.{Pwrite, Pread}
 use Rattle.log_core.specs.Views.{view_of}
+use Rattle.log_core.specs.Origin.{Header, Free, InChain, OwnedBy, LeftTo}
 use Rattle.log_core.specs.Cores.{Core}
 use Rattle.log_core.specs.Works.{Begins, StartsFromSnapshot, ReadsRun, EndsReading, Lays, MayWork}
 use Rattle.log_core.specs.After.{after}
@@ -14,7 +16,7 @@ use Rattle.log_core.specs.Runs.{Allowed, IsReached}
 use Rattle.log_core.specs.Invariant.{Invariant}
 use Rattle.log_core.specs.worked_rows.Samples.{image_a, step_of, stepping}
 use Rattle.log_core.specs.worked_rows.Collecting.{head_put}
-use Rattle.log_core.specs.worked_rows.GivenBack.{given_from, overtaken_call}
+use Rattle.log_core.specs.worked_rows.GivenBack.{given_from, overtaken_from, overtaken_call}
 
 -- seat 1 begins a read of four bytes at 0, and pins the second generation
 abbrev pub asked_from : Core → Core
@@ -80,3 +82,28 @@ ReadsBySnapshot c =
 
 abbrev pub ReadAgainRuns : Type 0
 ReadAgainRuns = ReadsBySnapshot head_put
+
+-- then seat 1 begins a write, and takes the block that was given back as its log block
+abbrev pub taken_from : Core → Core
+taken_from c = stepping image_a (told_from c) 1 (SetBits (Map 0) 8) 3 (Begins (Pwrite 0) (187 ∷ []) ∷ []) []
+
+-- the same where the block is still kept
+abbrev pub early_from : Core → Core
+early_from c = stepping image_a (overtaken_from c) 1 (SetBits (Map 0) 8) 2 (Begins (Pwrite 0) (187 ∷ []) ∷ []) []
+
+-- so the block is used again, and its content is begun anew; while it was kept, the same setting of its bit takes nothing
+abbrev pub UsedAgain : Core → Type 0
+UsedAgain c =
+    IsReached image_a (taken_from c)
+    × Invariant image_a (taken_from c)
+    × ((view_of (taken_from c).views 1).seat.blocks.owned ≡ record { block = 3; area = Log; filled = false; fenced = false } ∷ [])
+    × ((view_of (taken_from c).views 1).seat.blocks.contents ≡ replicate 8 0)
+    × (map (taken_from c).owner (0 ∷ 1 ∷ 2 ∷ 3 ∷ 4 ∷ 5 ∷ 6 ∷ []) ≡ Header ∷ InChain ∷ Free ∷ OwnedBy 1 ∷ InChain ∷ InChain ∷ Free ∷ [])
+    × ((taken_from c).memory.now.taken ≡ 59 ∷ [])
+    × IsReached image_a (early_from c)
+    × Invariant image_a (early_from c)
+    × ((view_of (early_from c).views 1).seat.blocks.owned ≡ [])
+    × ((early_from c).owner 3 ≡ LeftTo 0)
+
+abbrev pub UsedAgainRuns : Type 0
+UsedAgainRuns = UsedAgain head_put
