@@ -38,3 +38,4 @@ pub mod RowsHeadPut
 pub mod RowsGivenBack
 pub mod RowsOvertaken
 pub mod RowsFilled
+pub mod RowsReadAgain

@@ -14,3 +14,4 @@ pub mod Joined
 pub mod TwoWriters
 pub mod Collecting
 pub mod GivenBack
+pub mod ReadAgain

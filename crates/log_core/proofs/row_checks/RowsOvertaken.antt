@@ -71,7 +71,7 @@ emptied_reached : IsReached image_a (emptied_from put_core)
 emptied_reached = step_reached image_a (lost_from put_core) 1 1 (ClearBits (Map 0) 64) [] lost_reached (omega arith) (one_part 1) tt refl
     (record { inside = omega arith; small = omega arith; given = OfOwned (all_among 64 (λ block. is_listed (owned_numbers (view_of (lost_from put_core).views 1).seat.blocks.owned) block) refl) })
 
-overtaken_reached : IsReached image_a (overtaken_from put_core)
+pub overtaken_reached : IsReached image_a (overtaken_from put_core)
 overtaken_reached = enters_reached image_a (emptied_from put_core) 1 1 (Store (Pin 1) 0) [] [] (overtaken_call ∷ []) emptied_reached (omega arith) (one_part 1) tt refl
     (record { value_is = inl refl; no_marks = λ sync. refl }) tt refl
     (record { at_tail = refl; position = refl; seat = refl; number = refl; op = refl; fits = (refl, refl, ((λ same. omega (arith, same)), omega arith, refl)) })
@@ -90,7 +90,7 @@ each_clear zero less = inl refl
 each_clear (suc zero) less = inl refl
 each_clear (suc (suc seat)) less = absurd (omega (arith, less))
 
-given_reached : IsReached image_a (given_from put_core)
+pub given_reached : IsReached image_a (given_from put_core)
 given_reached = step_reached image_a (clear_from put_core) 0 3 (ClearBits (Map 0) 8) [] clear_reached (omega arith) (one_part 0) tt refl
     (record { inside = omega arith; small = omega arith; given = OfLimbo (all_among 8 (λ block. is_listed (view_of (clear_from put_core).views 0).seat.giving.limbo block) refl) (record { whole = refl; each = each_clear }) })
 

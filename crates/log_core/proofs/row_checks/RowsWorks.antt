@@ -35,7 +35,7 @@ entry_taken_in = (
 )
 
 -- the first byte that a read from byte 0 on may lay
-first_laid : (s : Seat) (bytes : List ℕ) (byte : ℕ) → slice_index bytes 0 ≡ byte → 0 < length bytes → offset_of s.calling.job ≡ 0 → MayLay s bytes → IsByteAt s (0 + length s.calling.bytes + 0) byte
+pub first_laid : (s : Seat) (bytes : List ℕ) (byte : ℕ) → slice_index bytes 0 ≡ byte → 0 < length bytes → offset_of s.calling.job ≡ 0 → MayLay s bytes → IsByteAt s (0 + length s.calling.bytes + 0) byte
 first_laid s bytes byte same some from may =
     subst (λ (b : ℕ). IsByteAt s (0 + length s.calling.bytes + 0) b) same
     (subst (λ (o : ℕ). IsByteAt s (o + length s.calling.bytes + 0) (slice_index bytes 0)) (sym (ap offset_of may.job) ∙ from) (may.each 0 some))

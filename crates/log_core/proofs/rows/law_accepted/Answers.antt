@@ -16,6 +16,7 @@ use Rattle.log_core.proofs.row_checks.RowsTwoWriters.{two_at_one_tail}
 use Rattle.log_core.proofs.row_checks.RowsBothPut.{second_loses, two_writers_run}
 use Rattle.log_core.proofs.row_checks.RowsCollecting.{two_collect}
 use Rattle.log_core.proofs.row_checks.RowsOvertaken.{collection_runs, overtaken_runs}
+use Rattle.log_core.proofs.row_checks.RowsReadAgain.{read_again_runs, used_again_runs}
 use Rattle.log_core.proofs.row_checks.RowsEnded.{calls_end}
 use Rattle.log_core.proofs.row_checks.RowsJoined.{sync_runs, no_mark_outside_of_syncs, seats_are_joined}
 use Rattle.log_core.proofs.rows.law_accepted.Goals as goal
@@ -39,6 +40,8 @@ returns c = record {
   two_collect = two_collect;
   collection_runs = collection_runs;
   overtaken_runs = overtaken_runs;
+  read_again_runs = read_again_runs;
+  used_again_runs = used_again_runs;
   calls_end = calls_end;
   sync_runs = sync_runs;
   no_mark_outside_of_syncs = no_mark_outside_of_syncs;
