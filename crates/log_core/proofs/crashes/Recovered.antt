@@ -36,7 +36,7 @@ use Rattle.log_core.proofs.ChainPlaces.{head_inside}
 use Rattle.log_core.proofs.starts.StartFacts.{same_shape}
 use Rattle.log_core.proofs.starts.StartMeets.{start_meets}
 use Rattle.log_core.proofs.kinds.RunHolds.{run_from}
-use Rattle.log_core.proofs.crashes.LeftWords.{certain_left}
+use Rattle.log_core.proofs.crashes.LeftWords.{certain_left, words_small}
 use Rattle.log_core.proofs.crashes.LeftBlocks.{possible, long}
 use Rattle.log_core.proofs.crashes.LeftChains.{chain, position, to_end, from_synced}
 use Rattle.log_core.proofs.crashes.LeftFiles.{stands}
@@ -147,6 +147,7 @@ module _ (o : Origin) (c : Core) (start : IsStart o) (inv : Invariant o c) (word
     writes = many;
     to_end = (let upto = to_end o c inv place kept words left head_left.above in omega (arith, upto));
     synced = (let low = enough in let is = there_is in omega (arith, low, is));
+    small = words_small o c.memory (length c.views) inv.sizes.words words left;
     stands = as_said words stands_by;
     cleared = λ other others of_words cleared. as_said others (cleared_by other others of_words cleared);
     recovered = λ begun found elsewhere is. (let one = one_recovered begun found elsewhere is in (one.0 ∙ file_is, one.1 ∙ there_is));
