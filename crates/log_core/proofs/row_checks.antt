@@ -37,3 +37,4 @@ pub mod RowsCollecting
 pub mod RowsHeadPut
 pub mod RowsGivenBack
 pub mod RowsOvertaken
+pub mod RowsCrashed
