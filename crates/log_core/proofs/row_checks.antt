@@ -39,3 +39,4 @@ pub mod RowsGivenBack
 pub mod RowsOvertaken
 pub mod RowsFilled
 pub mod RowsReadAgain
+pub mod RowsCrashed

@@ -1,5 +1,5 @@
 -- What every crash leaves of a run.
-use Rattle.std.specs.Prelude.{ℕ, ◌+◌, ◌≤◌, ◌≡◌, List, length, take}
+use Rattle.std.specs.Prelude.{ℕ, ◌+◌, ◌^◌, ◌<◌, ◌≤◌, ◌≡◌, List, length, take}
 use Rattle.std.specs.List.{AllByRecursion}
 use Rattle.log_entry.specs.declared.calls.Reply.TheVariants.{Synced}
 use Rattle.log_entry.specs.declared.calls.Call.{Call}
@@ -23,13 +23,14 @@ abbrev pub file_after_first : Origin → Core → ℕ → List ℕ
 file_after_first o c writes = file_after_writes o.file (take writes c.history)
 
 -- words that a crash left of a core: they have the first writes of the history, all up to one, among them all up to the synced position, and
--- no other. They stand for the file after those, at its position, so no condition of opening refuses them. So do the words that are cleared
--- after their tail; and each start that is recovered from them is of that file and that position. No sync of any view was answered with a
+-- no other. Each has 64 bits, and they stand for the file after those writes, at its position, so no condition of opening refuses them. So do
+-- the words that are cleared after their tail; and each start that is recovered from them is of that file and that position. No sync of any view was answered with a
 -- position past the synced one
 pub record IsRecovered (o : Origin) (c : Core) (words : List ℕ) : Type 0 where
   pub writes : ℕ
   pub to_end : writes ≤ length c.history
   pub synced : c.synced ≤ first_position o + writes
+  pub small : AllByRecursion (λ (word : ℕ). word < 2 ^ 64) words
   pub stands : Stands words (file_after_first o c writes) (first_position o + writes)
   pub cleared : (chain others : List ℕ) → IsChain words (shape_of words) chain → IsCleared (shape_of words) (tail_of words (shape_of words) chain) words others →
       Stands others (file_after_first o c writes) (first_position o + writes)

@@ -19,6 +19,7 @@ use Rattle.log_core.specs.Cores.{Core, nth_log, data_names, entries_used}
 use Rattle.log_core.specs.May.{is_log_entry_by}
 use Rattle.log_core.specs.Order.{nth_generation}
 use Rattle.log_core.specs.Invariant.{Invariant, KeptIn}
+use Rattle.log_core.proofs.Each.{each_place}
 use Rattle.log_core.proofs.LogTails.{log_to_end}
 use Rattle.log_core.proofs.SameContents.{same_form}
 use Rattle.log_core.proofs.kinds.TakesEntry.{among_names, same_meaning}
@@ -42,11 +43,6 @@ entry_slot (slot ∷ slots) k inside = go (slot == EMPTY) (slot == SEAL) refl re
     go false false e s zero inside rest = record { same = rw (e, s) refl; inside = omega arith; other = eqb-false slot SEAL s }
     go false false e s (suc k) inside rest = (let here : IsSlot slots k = rest k (let more : length (entry_words (slot ∷ slots)) ≡ suc (length (entry_words slots)) = rw (e, s) refl in omega (arith, inside, more)) in
         let within = here.inside in record { same = rw (e, s) here.same; inside = omega (arith, within); other = here.other })
-
--- what holds at each place of a list holds of each
-pub each_place : (P : LogEntry → Type 0) (es : List LogEntry) → ((k : ℕ) → k < length es → P (slice_index_or es k no_entry)) → AllByRecursion P es
-each_place P [] at = tt
-each_place P (e ∷ es) at = (at 0 (omega arith), each_place P es (λ k inside. at (suc k) (omega (arith, inside))))
 
 -- the two tests of an entry's word are one
 one_test : (direct indirect area runs form : Bool) → ((if direct then true else (indirect && area && runs)) && form) ≡ true → ((direct || (indirect && (area && runs))) && form) ≡ true
@@ -195,7 +191,7 @@ module _ (o : Origin) (c : Core) (inv : Invariant o c) where
               (listed_first (field INDIRECT_BLOCK (slice_index_or es k no_entry).word) _)))))
 
       says_first : (count : ℕ) → AllByRecursion SaysSame (take count (drop from es))
-      says_first count = each_place SaysSame (take count (drop from es)) (λ k small. (let low = short k small in
+      says_first count = each_place SaysSame (take count (drop from es)) no_entry (λ k small. (let low = short k small in
           subst (λ (e : LogEntry). SaysSame e) (sym (get_or-take count (drop from es) k no_entry low.0 ∙ get_or-drop from es k no_entry)) (says (from + k) (omega arith) low.1)))
         where
           short : (k : ℕ) → k < length (take count (drop from es)) → (k < count) × (from + k < length es)

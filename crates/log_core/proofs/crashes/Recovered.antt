@@ -4,8 +4,6 @@ use Rattle.log_entry.specs.Fields.{field}
 use Rattle.log_entry.specs.Words.{head_word}
 use Rattle.log_entry.specs.Geometry.{shape_refusal}
 use Rattle.log_entry.specs.declared.layouts.TheConstants.{HEAD_GENERATION, HEAD_UNNAMED}
-use Rattle.log_entry.specs.declared.calls.Reply.TheVariants.{Synced}
-use Rattle.log_entry.specs.declared.calls.Call.{Call}
 use Rattle.log_image.specs.Image.{Shape, words_in, total}
 use Rattle.log_image.specs.Header.{shape_of, head_block, HasHeader}
 use Rattle.log_image.specs.declared.header.TheConstants.{HEADER_VERSION, HEADER_BLOCK_POWER, HEADER_UNNAMED, HEADER_DATA, HEADER_LOG}
@@ -19,7 +17,6 @@ use Rattle.log_image.proofs.ClearedImages.{clearing_keeps}
 use Rattle.persistence.specs.Memory.{cell}
 use Rattle.persistence.specs.Survivors.{IsPossible, Survives}
 use Rattle.log_core.specs.Entries.{head_place}
-use Rattle.log_core.specs.Views.{view_of}
 use Rattle.log_core.specs.Origin.{Origin, shape, first_position, first_generation}
 use Rattle.log_core.specs.Files.{file_at}
 use Rattle.log_core.specs.Cores.{Core}
@@ -28,7 +25,6 @@ use Rattle.log_core.specs.Starts.{IsStart}
 use Rattle.log_core.specs.Runs.{end}
 use Rattle.log_core.specs.Invariant.{Invariant, KeptIn}
 use Rattle.log_core.specs.Crashes.{file_after_first, IsRecovered, CrashesAreRecovered}
-use Rattle.log_core.proofs.Each.{each_weaker}
 use Rattle.log_core.proofs.HistoryFiles.{late_file}
 use Rattle.log_core.proofs.Heads.{generation_field}
 use Rattle.log_core.proofs.Fronts.{head_front}
@@ -36,7 +32,7 @@ use Rattle.log_core.proofs.ChainPlaces.{head_inside}
 use Rattle.log_core.proofs.starts.StartFacts.{same_shape}
 use Rattle.log_core.proofs.starts.StartMeets.{start_meets}
 use Rattle.log_core.proofs.kinds.RunHolds.{run_from}
-use Rattle.log_core.proofs.crashes.LeftWords.{certain_left}
+use Rattle.log_core.proofs.crashes.LeftWords.{certain_left, words_small}
 use Rattle.log_core.proofs.crashes.LeftBlocks.{possible, long}
 use Rattle.log_core.proofs.crashes.LeftChains.{chain, position, to_end, from_synced}
 use Rattle.log_core.proofs.crashes.LeftFiles.{stands}
@@ -147,6 +143,7 @@ module _ (o : Origin) (c : Core) (start : IsStart o) (inv : Invariant o c) (word
     writes = many;
     to_end = (let upto = to_end o c inv place kept words left head_left.above in omega (arith, upto));
     synced = (let low = enough in let is = there_is in omega (arith, low, is));
+    small = words_small o c.memory (length c.views) inv.sizes.words words left;
     stands = as_said words stands_by;
     cleared = λ other others of_words cleared. as_said others (cleared_by other others of_words cleared);
     recovered = λ begun found elsewhere is. (let one = one_recovered begun found elsewhere is in (one.0 ∙ file_is, one.1 ∙ there_is));
