@@ -10,7 +10,7 @@ ghost use Rattle.log_core.specs.worked_rows.GivenBack.{CollectionRuns, Overtaken
 ghost use Rattle.log_core.specs.worked_rows.ReadAgain.{ReadAgainRuns, UsedAgainRuns};
 ghost use Rattle.log_core.specs.worked_rows.Ended.{CallsEnd, WriteNotPut, SizeBeforeTail, KeptTooEarly};
 ghost use Rattle.log_core.specs.worked_rows.Joined.{SyncRuns, NoMarkOutsideOfSyncs, SeatsAreJoined};
-ghost use Rattle.log_core.specs.worked_rows.Crashed.{WriteMayBeLost, LaterWriteAlone, SyncedWriteStays};
+ghost use Rattle.log_core.specs.worked_rows.Crashed.{WriteMayBeLost, LaterWriteAlone, SyncedWriteStays, EitherHeadStands};
 ghost use Rattle.log_core.specs.worked_rows.Refused.{OtherEntryPossible, HeadSkips, LogHasMore, BitWithoutOwner, BlockOnTwoLists, ChainBlockFree, OtherContentPossible, PinOfAnother, ViewOfAnother, StoredNotPresent, ReplacedStillNamed, RecordOfNoWrite, SyncedMayBeLost, NamedTwice, SnapshotNamesMore, WriteOfNoSeat};
 ghost use Rattle.log_core.specs.worked_rows.Gaps.{BitPastTheWord, MarkOfOwnedBlock, FloorAhead, SpentViewHolds};
 ghost use Rattle.log_core.specs.worked_rows.CallGaps.{TableOfAnother, BaseFromBefore, BasesDropped, BaseLeftOver, FirstBaseShort, TailNotWalked, HeadOfNoCollection, SyncOfNoSync, CallOfNoNumber};
@@ -148,4 +148,5 @@ pub fn law_left()
     ensures write_may_be_lost { WriteMayBeLost }
     ensures later_write_alone { LaterWriteAlone }
     ensures synced_write_stays { SyncedWriteStays }
+    ensures either_head_stands { EitherHeadStands }
 {}

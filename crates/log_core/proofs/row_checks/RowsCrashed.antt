@@ -26,7 +26,8 @@ use Rattle.log_core.specs.worked_rows.Samples.{image_a}
 use Rattle.log_core.specs.worked_rows.Refused.{seat_zero}
 use Rattle.log_core.specs.worked_rows.Written.{own_put}
 use Rattle.log_core.specs.worked_rows.TwoWriters.{both_put}
-use Rattle.log_core.specs.worked_rows.Crashed.{without_slot, own_syncing, own_head_marked, own_entry_marked, own_synced, WriteMayBeLost, LaterWriteAlone, SyncedWriteStays}
+use Rattle.log_core.specs.worked_rows.Collecting.{head_put}
+use Rattle.log_core.specs.worked_rows.Crashed.{without_slot, with_old_head, EitherHeadStands, own_syncing, own_head_marked, own_entry_marked, own_synced, WriteMayBeLost, LaterWriteAlone, SyncedWriteStays}
 use Rattle.log_core.proofs.Trails.{is_on}
 use Rattle.log_core.proofs.Heads.{last_value}
 use Rattle.log_core.proofs.clauses.OneView.{same_or_other}
@@ -37,6 +38,7 @@ use Rattle.log_core.proofs.row_checks.RowsStart.{image_starts}
 use Rattle.log_core.proofs.row_checks.RowsReached.{reached_holds}
 use Rattle.log_core.proofs.row_checks.RowsWritten.{put_reached}
 use Rattle.log_core.proofs.row_checks.RowsBothPut.{both_reached}
+use Rattle.log_core.proofs.row_checks.RowsHeadPut.{head_reached}
 
 -- a crash may leave the present words
 present_left : (memory : Memory) → Survives memory memory.now.words
@@ -130,3 +132,29 @@ not_lost left = (let is : IsRecovered image_a own_synced (without_slot own_synce
 
 pub synced_write_stays : SyncedWriteStays
 synced_write_stays = (synced_reached, refl, refl, marked_lost, not_lost)
+
+-- where a collection's head is not fenced yet
+entry_lost : Survives head_put.memory (without_slot head_put 27)
+entry_lost = set_left head_put.memory head_put.memory.now.words 27 0 (present_left head_put.memory) (omega arith) (record { index = 0; above = omega arith; inside = omega arith; same = refl })
+
+head_lost : (words : List ℕ) → Survives head_put.memory words → 3 < length words → Survives head_put.memory (with_old_head words)
+head_lost words left inside = set_left head_put.memory words 3 4294967299 left inside (record { index = 0; above = omega arith; inside = omega arith; same = refl })
+
+old_left : Survives head_put.memory (with_old_head head_put.memory.now.words)
+old_left = head_lost head_put.memory.now.words (present_left head_put.memory) (omega arith)
+
+both_lost : Survives head_put.memory (with_old_head (without_slot head_put 27))
+both_lost = head_lost (without_slot head_put 27) entry_lost (omega arith)
+
+pub either_head_stands : EitherHeadStands
+either_head_stands = (
+  head_reached,
+  present_left head_put.memory,
+  stands_after image_a head_put head_put.memory.now.words (left_after head_put head_put.memory.now.words head_reached (present_left head_put.memory)) (5 ∷ 4 ∷ []) 1 (refl, (refl, refl, refl)) refl,
+  old_left,
+  stands_after image_a head_put (with_old_head head_put.memory.now.words) (left_after head_put (with_old_head head_put.memory.now.words) head_reached old_left) (3 ∷ 4 ∷ []) 1 (refl, (refl, refl, refl)) refl,
+  entry_lost,
+  stands_after image_a head_put (without_slot head_put 27) (left_after head_put (without_slot head_put 27) head_reached entry_lost) (5 ∷ 4 ∷ []) 1 (refl, (refl, refl, refl)) refl,
+  both_lost,
+  stands_after image_a head_put (with_old_head (without_slot head_put 27)) (left_after head_put (with_old_head (without_slot head_put 27)) head_reached both_lost) (3 ∷ []) 0 (refl, refl) refl,
+)

@@ -108,7 +108,7 @@ may_put = record {
   replaced = λ block. ap (λ (blocks : List ℕ). is_listed blocks block) collector_replaces ∙ left_over block;
 }
 
-head_reached : IsReached image_a head_put
+pub head_reached : IsReached image_a head_put
 head_reached = step_reached image_a other_fenced 0 2 (Exchange (Image 3) 4294967299 8589934597) (NotesNamed (26 ∷ []) ∷ []) other_fenced_reached (omega arith) (one_part 0) (refl, tt) refl may_put
 
 -- the core after it, with these blocks as those that it replaced

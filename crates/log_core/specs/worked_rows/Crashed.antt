@@ -14,6 +14,7 @@ use Rattle.log_core.specs.worked_rows.Samples.{image_a, stepping}
 use Rattle.log_core.specs.worked_rows.Refused.{seat_zero}
 use Rattle.log_core.specs.worked_rows.Written.{own_put}
 use Rattle.log_core.specs.worked_rows.TwoWriters.{both_put}
+use Rattle.log_core.specs.worked_rows.Collecting.{head_put}
 
 -- the words of a core's image, but for a slot that is empty
 abbrev pub without_slot : Core → ℕ → List ℕ
@@ -58,3 +59,20 @@ SyncedWriteStays =
     × ((seat_zero own_synced).calling.sync_to ≡ Some 1)
     × Survives own_entry_marked.memory (without_slot own_entry_marked 27)
     × (Survives own_synced.memory (without_slot own_synced 27) → ⊥)
+
+-- a head that was put in place and not fenced: the crash may leave the one before it
+abbrev pub with_old_head : List ℕ → List ℕ
+with_old_head words = set words 3 4294967299
+
+-- whether the old chain is left or the new one, the words stand for the file. What the old one's slot may lose is in the new one's snapshot
+abbrev pub EitherHeadStands : Type 0
+EitherHeadStands =
+    IsReached image_a head_put
+    × Survives head_put.memory head_put.memory.now.words
+    × Stands head_put.memory.now.words (170 ∷ []) 1
+    × Survives head_put.memory (with_old_head head_put.memory.now.words)
+    × Stands (with_old_head head_put.memory.now.words) (170 ∷ []) 1
+    × Survives head_put.memory (without_slot head_put 27)
+    × Stands (without_slot head_put 27) (170 ∷ []) 1
+    × Survives head_put.memory (with_old_head (without_slot head_put 27))
+    × Stands (with_old_head (without_slot head_put 27)) [] 0
