@@ -12,7 +12,7 @@ use Rattle.log_image.specs.declared.starts.Start.{Start}
 use Rattle.persistence.specs.Survivors.{Survives}
 use Rattle.log_core.specs.Views.{view_of}
 use Rattle.log_core.specs.Origin.{Origin, first_position}
-use Rattle.log_core.specs.Files.{file_after_writes}
+use Rattle.log_core.specs.Files.{file_after_writes, end_of}
 use Rattle.log_core.specs.Cores.{Core}
 use Rattle.log_core.specs.Steps.{Step}
 use Rattle.log_core.specs.Runs.{IsRun, end}
@@ -24,8 +24,8 @@ file_after_first o c writes = file_after_writes o.file (take writes c.history)
 
 -- words that a crash left of a core: they have the first writes of the history, all up to one, among them all up to the synced position, and
 -- no other. Each has 64 bits, and they stand for the file after those writes, at its position, so no condition of opening refuses them. So do
--- the words that are cleared after their tail; and each start that is recovered from them is of that file and that position. No sync of any view was answered with a
--- position past the synced one
+-- the words that are cleared after their tail; and each start that is recovered from them is of that file and that position. No sync of any
+-- view was answered with a position past the synced one
 pub record IsRecovered (o : Origin) (c : Core) (words : List ℕ) : Type 0 where
   pub writes : ℕ
   pub to_end : writes ≤ length c.history
@@ -40,3 +40,8 @@ pub record IsRecovered (o : Origin) (c : Core) (words : List ℕ) : Type 0 where
 -- so it is of all words that any crash may leave, after every run
 abbrev pub CrashesAreRecovered : Type 0
 CrashesAreRecovered = (o : Origin) (steps : List Step) (words : List ℕ) → IsStart o → IsRun o steps → Survives (end o steps).memory words → IsRecovered o (end o steps) words
+
+-- after every run the present words stand for the file after all writes of the history
+abbrev pub PresentWordsHaveAll : Type 0
+PresentWordsHaveAll = (o : Origin) (steps : List Step) → IsStart o → IsRun o steps →
+    Stands (end o steps).memory.now.words (file_after_first o (end o steps) (length (end o steps).history)) (end_of o (end o steps).history)

@@ -3,7 +3,7 @@
 ghost use Rattle.log_core.specs.Laws.{StartMeets, StepKeeps, RunKeeps};
 ghost use Rattle.log_core.specs.Following.{NoneReused, RunsAreLegal, RecordsAreSeen};
 ghost use Rattle.log_core.specs.Causes.{RecordsHaveCauses};
-ghost use Rattle.log_core.specs.Crashes.{CrashesAreRecovered};
+ghost use Rattle.log_core.specs.Crashes.{CrashesAreRecovered, PresentWordsHaveAll};
 
 /// The core that a run starts with meets the invariant.
 pub fn law_start()
@@ -37,7 +37,8 @@ pub fn law_legal()
 
 /// Whatever a crash leaves after any run: the words stand for the file after the first writes of the history, among them all up to the synced
 /// position, and no other. So opening refuses none, clearing keeps it, and each start that is recovered is of that file and its position. No
-/// sync was answered with a position past the synced one.
+/// sync was answered with a position past the synced one. And where each word has its present value, no write is lost.
 pub fn law_crash()
-    ensures { CrashesAreRecovered }
+    ensures each_crash { CrashesAreRecovered }
+    ensures none_lost { PresentWordsHaveAll }
 {}

@@ -3,7 +3,7 @@ use Rattle.std.proofs.Common.{◌≡◌, ◌≢◌, ◌<◌, ◌≤◌, ◌+◌,
 use Rattle.std.proofs.lemmas.Bool.{eqb-true}
 use Rattle.std.proofs.lemmas.List.{get_or-drop, ext_get_or}
 use Rattle.log_image.specs.Image.{Shape, words_in, total, block_words}
-use Rattle.log_image.specs.Blocks.{slots_of}
+use Rattle.log_image.specs.Blocks.{link_of, slots_of}
 use Rattle.log_image.specs.Chains.{is_listed}
 use Rattle.log_image.proofs.ImageLemmas.{in_block, length_range}
 use Rattle.log_image.proofs.BlockLemmas.{block_inside}
@@ -11,7 +11,7 @@ use Rattle.persistence.specs.Memory.{cell}
 use Rattle.persistence.specs.Survivors.{IsPossible, Survives}
 use Rattle.log_core.specs.Entries.{place_in, LogEntry}
 use Rattle.log_core.specs.Origin.{Origin, shape, Owner, Free, InChain, LeftTo, LogBlock, Generation}
-use Rattle.log_core.specs.Files.{entries}
+use Rattle.log_core.specs.Files.{entries, end_of}
 use Rattle.log_core.specs.Cores.{Core, nth_log, is_named, data_names, head_floor, is_sealed, is_full, entries_used}
 use Rattle.log_core.specs.Contents.{IsStillTaken}
 use Rattle.log_core.specs.Order.{nth_generation, LogStands}
@@ -53,6 +53,11 @@ by_numbers words image synced log (next ∷ logs) each = (let here = each 0 (ome
     last = λ end. there.last (omega (arith, end));
   })),
 ))
+
+-- the slots of a log block before a position are as they were used, and so is its link where the next one begins before it
+pub record StaysTo (words : List ℕ) (image : Shape) (upto : ℕ) (log next : LogBlock) : Type 0 where
+  pub slots : (k : ℕ) → k < length log.slots → log.base + k < upto → slice_index (slots_of (block_words words image log.block)) k ≡ slice_index log.slots k
+  pub link : next.block ≢ 0 → next.base < upto → link_of (block_words words image log.block) ≡ next.block
 
 module _ (o : Origin) (c : Core) (inv : Invariant o c) (words : List ℕ) (left : Survives c.memory words) where
   abbrev q : ℕ
@@ -100,7 +105,7 @@ module _ (o : Origin) (c : Core) (inv : Invariant o c) (words : List ℕ) (left 
         named : is_named o c.logs es g block ≡ true
         named = data_is_named o c.logs es g block listed
 
-    module _ (floor : head_floor c.memory ≤ place) (number : ℕ) (late : g.cut ≤ number) (there : number < length c.logs) where
+    module _ (number : ℕ) (late : g.cut ≤ number) (there : number < length c.logs) where
       abbrev log : LogBlock
       log = nth_log c.logs number
 
@@ -112,9 +117,6 @@ module _ (o : Origin) (c : Core) (inv : Invariant o c) (words : List ℕ) (left 
 
       stands : LogStands (shape o) (λ word. cell c.memory word) log next.block
       stands = inv.order.chains place kept number late there
-
-      synced : IsSyncedIn (shape o) (λ word. cell c.memory word) c.synced log next
-      synced = inv.syncs.words place number floor kept.inside late there
 
       named : is_named o c.logs es g log.block ≡ true
       named = log_is_named o c.logs g number es late there
@@ -134,9 +136,29 @@ module _ (o : Origin) (c : Core) (inv : Invariant o c) (words : List ℕ) (left 
       fits : length log.slots + 3 ≤ q
       fits = inv.order.log.inside number there
 
+      -- before the synced position each stays
+      synced_stay : head_floor c.memory ≤ place → StaysTo words (shape o) c.synced log next
+      synced_stay floor = by (inv.syncs.words place number floor kept.inside late there)
+        where
+          by : IsSyncedIn (shape o) (λ word. cell c.memory word) c.synced log next → StaysTo words (shape o) c.synced log next
+          by synced = record {
+            slots = λ k used low. certain_left _ _ _ (synced.slots k used low) (slot_of k (omega (arith, used, fits)));
+            link = λ some low. certain_left _ _ _ (synced.link some low) (word_of log.block 0 named (omega (arith, wide)));
+          }
+
+      -- and where each word has its present value all do
+      present_stay : words ≡ c.memory.now.words → (upto : ℕ) → StaysTo words (shape o) upto log next
+      present_stay present upto = record {
+        slots = λ k used low. slot_is k ∙ (word_now (k + 3) (omega (arith, used, fits)) ∙ (stands.slots k (omega (arith, used, fits)) (λ sealed. omega (arith, used))).present);
+        link = λ some low. word_now 0 (omega (arith, wide)) ∙ stands.link.present;
+      }
+        where
+          word_now : (k : ℕ) → k < q → slice_index (block_words words (shape o) log.block) k ≡ slice_index c.memory.now.words (place_in (shape o) log.block k)
+          word_now k small = in_block words (shape o) log.block k small ∙ ap (λ (l : List ℕ). slice_index l (place_in (shape o) log.block k)) present
+
       -- a log block of the chain
-      log_left : LogLeft words (shape o) c.synced log next
-      log_left = record {
+      log_left : (upto : ℕ) → StaysTo words (shape o) upto log next → LogLeft words (shape o) upto log next
+      log_left upto stays = record {
         base = certain_left _ _ _ stands.base (word_of log.block 1 named (omega (arith, wide)));
         small = (let to_end = log_to_end o c inv number there in let limit = inv.order.log.limit in omega (arith, to_end, limit));
         third = certain_left _ _ _ stands.zero (word_of log.block 2 named (omega (arith, wide)));
@@ -148,8 +170,8 @@ module _ (o : Origin) (c : Core) (inv : Invariant o c) (words : List ℕ) (left 
           seal_last = λ k seal. (inv.order.log.seal_last number k seal).0;
         };
         later = λ seal. (let later = (inv.order.log.seal_last number 0 seal).1 in omega (arith, later));
-        sure = λ k used low. certain_left _ _ _ (synced.slots k used low) (slot_of k (omega (arith, used, fits)));
-        sure_link = λ some low. certain_left _ _ _ (synced.link some low) (word_of log.block 0 named (omega (arith, wide)));
+        sure = stays.slots;
+        sure_link = stays.link;
       }
 
       full_or : is_full (shape o) log.slots ≡ true → (is_sealed log.slots ≡ true) ⊎ (length log.slots ≡ length (slots_of block))
@@ -161,29 +183,27 @@ module _ (o : Origin) (c : Core) (inv : Invariant o c) (words : List ℕ) (left 
           by false false is full = cc
 
     -- the log blocks of the chain, of which the first is the one that begins where the snapshot ends
-    pub logs_left : head_floor c.memory ≤ place → LogsLeft words (shape o) c.synced (nth_log c.logs g.cut) (drop (suc g.cut) c.logs)
-    logs_left floor = by_numbers words (shape o) c.synced (nth_log c.logs g.cut) (drop (suc g.cut) c.logs) (λ number inside. at number (omega (arith, inside, many)))
+    all_left : (upto : ℕ) → upto ≤ end_of o c.history → ((number : ℕ) → g.cut ≤ number → number < length c.logs → StaysTo words (shape o) upto (nth_log c.logs number) (nth_log c.logs (number + 1))) →
+        LogsLeft words (shape o) upto (nth_log c.logs g.cut) (drop (suc g.cut) c.logs)
+    all_left upto to_end stay = by_numbers words (shape o) upto (nth_log c.logs g.cut) (drop (suc g.cut) c.logs) (λ number inside. at number (omega (arith, inside, many)))
       where
-        chain : List LogBlock
-        chain = nth_log c.logs g.cut ∷ drop (suc g.cut) c.logs
-
         many : length (nth_log c.logs g.cut ∷ drop (suc g.cut) c.logs) ≡ length c.logs - g.cut
         many = (let dropped = length-drop (suc g.cut) c.logs in let cut = inv.order.generations_rise.cut_inside place kept.inside in omega (arith, dropped, cut))
 
         nth_is : (number : ℕ) → nth_log (nth_log c.logs g.cut ∷ drop (suc g.cut) c.logs) number ≡ nth_log c.logs (g.cut + number)
         nth_is number = ap (λ (l : List LogBlock). nth_log l number) (sym (split_drop c.logs g.cut (inv.order.generations_rise.cut_inside place kept.inside))) ∙ drop_log c.logs g.cut number
 
-        at : (number : ℕ) → number < length c.logs - g.cut → LeftAt words (shape o) c.synced (nth_log c.logs g.cut ∷ drop (suc g.cut) c.logs) number
+        at : (number : ℕ) → number < length c.logs - g.cut → LeftAt words (shape o) upto (nth_log c.logs g.cut ∷ drop (suc g.cut) c.logs) number
         at number inside = record {
-          log = subst (λ (l : LogBlock). LogLeft words (shape o) c.synced l (nth_log (nth_log c.logs g.cut ∷ drop (suc g.cut) c.logs) (suc number))) (sym here)
-              (subst (λ (l : LogBlock). LogLeft words (shape o) c.synced (nth_log c.logs (g.cut + number)) l) (sym there) (log_left floor (g.cut + number) (omega arith) (omega (arith, inside))));
+          log = subst (λ (l : LogBlock). LogLeft words (shape o) upto l (nth_log (nth_log c.logs g.cut ∷ drop (suc g.cut) c.logs) (suc number))) (sym here)
+              (subst (λ (l : LogBlock). LogLeft words (shape o) upto (nth_log c.logs (g.cut + number)) l) (sym there) (log_left (g.cut + number) (omega arith) (omega (arith, inside)) upto (stay (g.cut + number) (omega arith) (omega (arith, inside)))));
           some = λ more. subst (λ (l : LogBlock). l.block ≢ 0) (sym there) (some_block o c inv place (g.cut + number + 1) kept (omega arith) (omega (arith, more, many)));
           next = λ more. ap (λ (l : LogBlock). l.base) there ∙ (inv.order.log.next (g.cut + number) (omega (arith, more, many)) ∙ sym (ap (λ (l : LogBlock). l.base + entries_used l) here));
           full = λ more. subst (λ (l : LogBlock). (is_sealed l.slots ≡ true) ⊎ (length l.slots ≡ length (slots_of (block_words words (shape o) l.block)))) (sym here)
-              (full_or floor (g.cut + number) (omega arith) (omega (arith, inside)) (inv.order.log.full (g.cut + number) (omega (arith, more, many))));
-          last = λ ends. subst (λ (l : LogBlock). c.synced ≤ l.base + entries_used l) (sym here)
+              (full_or (g.cut + number) (omega arith) (omega (arith, inside)) (inv.order.log.full (g.cut + number) (omega (arith, more, many))));
+          last = λ ends. subst (λ (l : LogBlock). upto ≤ l.base + entries_used l) (sym here)
               (let last_one : g.cut + number ≡ length c.logs - 1 = omega (arith, ends, many, inside) in
-              subst (λ (k : ℕ). c.synced ≤ (nth_log c.logs k).base + entries_used (nth_log c.logs k)) (sym last_one) (let to_end = inv.syncs.to_end in let last = inv.order.log.last in omega (arith, to_end, last)));
+              subst (λ (k : ℕ). upto ≤ (nth_log c.logs k).base + entries_used (nth_log c.logs k)) (sym last_one) (let last = inv.order.log.last in omega (arith, to_end, last)));
         }
           where
             here : nth_log (nth_log c.logs g.cut ∷ drop (suc g.cut) c.logs) number ≡ nth_log c.logs (g.cut + number)
@@ -191,3 +211,9 @@ module _ (o : Origin) (c : Core) (inv : Invariant o c) (words : List ℕ) (left 
 
             there : nth_log (nth_log c.logs g.cut ∷ drop (suc g.cut) c.logs) (suc number) ≡ nth_log c.logs (g.cut + number + 1)
             there = nth_is (suc number) ∙ ap (λ (k : ℕ). nth_log c.logs k) (omega arith)
+
+    pub logs_left : head_floor c.memory ≤ place → LogsLeft words (shape o) c.synced (nth_log c.logs g.cut) (drop (suc g.cut) c.logs)
+    logs_left floor = all_left c.synced inv.syncs.to_end (λ number late there. synced_stay number late there floor)
+
+    pub present_logs : words ≡ c.memory.now.words → LogsLeft words (shape o) (end_of o c.history) (nth_log c.logs g.cut) (drop (suc g.cut) c.logs)
+    present_logs present = all_left (end_of o c.history) (omega arith) (λ number late there. present_stay number late there present (end_of o c.history))

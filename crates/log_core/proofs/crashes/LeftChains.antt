@@ -9,6 +9,7 @@ use Rattle.log_image.specs.Blocks.{slots_of, entry_words, is_snapshot}
 use Rattle.log_image.specs.Chains.{IsChain, IsLinked, AreLogsFrom, HaveOneBase, is_listed, all_different, snapshots_of, logs_of, snapshot_base, snapshot_size}
 use Rattle.log_image.specs.Positions.{snapshot_entries, log_words, log_entries, entries_of, position_of}
 use Rattle.log_image.specs.Format.{HasFormat, is_kind_word, is_log_block, is_log_entry}
+use Rattle.log_image.proofs.OneChain.{one_way}
 use Rattle.log_image.proofs.NameLemmas.{each_in}
 use Rattle.log_image.proofs.ListLemmas.{all_join, all_front, all_back}
 use Rattle.log_image.proofs.EntrySteps.{good_block}
@@ -28,7 +29,7 @@ use Rattle.log_core.proofs.ChainEntries.{chain_entries, chain_data}
 use Rattle.log_core.proofs.SameContents.{same_meanings, same_snapshot_blocks}
 use Rattle.log_core.proofs.clauses.Apart.{has_left}
 use Rattle.log_core.proofs.crashes.LeftLogs.{LogsStay, logs_stay, HasLogForm, left_words, used_words}
-use Rattle.log_core.proofs.crashes.LeftBlocks.{split_drop, fixed, logs_left}
+use Rattle.log_core.proofs.crashes.LeftBlocks.{split_drop, fixed, logs_left, present_logs}
 use Rattle.log_core.proofs.crashes.LeftEntries.{first_words, chain_long, left_meanings, left_forms}
 use Rattle.log_core.proofs.crashes.LeftSnapshots.{snapshots_are, logs_are, all_snapshots, one_base, snapshot_kinds, snapshot_forms, base_said, size_said, linked}
 
@@ -83,6 +84,17 @@ module _ (o : Origin) (c : Core) (inv : Invariant o c) (place : ℕ) (kept : Kep
 
   pub from_base : g.base ≤ position
   from_base = omega arith
+
+  -- where each word has its present value, it comes to the end
+  pub from_end : words ≡ c.memory.now.words → end_of o c.history ≤ position
+  from_end present = (let enough = whole.enough in let base = inv.order.generations_rise.cut_base place kept.inside in let long = ap (λ (l : List ℕ). length (left_words words (shape o) (first.block ∷ l))) same in
+      omega (arith, enough, base, long))
+    where
+      whole : LogsStay words (shape o) (end_of o c.history) first logs
+      whole = logs_stay words (shape o) (end_of o c.history) first logs (present_logs o c inv words left place kept present)
+
+      same : stay.rest ≡ whole.rest
+      same = one_way words (shape o) first.block stay.rest whole.rest stay.leads whole.leads
 
   base_small : g.base < 2 ^ 40
   base_small = (let base = inv.order.generations_rise.to_end place kept.inside in let limit = inv.order.log.limit in omega (arith, base, limit))

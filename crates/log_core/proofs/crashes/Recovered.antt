@@ -1,5 +1,5 @@
 -- Every crash leaves words that stand for a file of the history, and so do they when they are cleared.
-use Rattle.std.proofs.Common.{◌≡◌, ◌<◌, ◌≤◌, ◌+◌, ◌-◌, ◌*◌, ◌^◌, inl, ℕ, List, length, None, sym, ◌∙◌, ap, subst, arith, slice_index}
+use Rattle.std.proofs.Common.{◌≡◌, ◌<◌, ◌≤◌, ◌+◌, ◌-◌, ◌*◌, ◌^◌, inl, ℕ, List, length, None, sym, ◌∙◌, ap, subst, arith, slice_index, refl}
 use Rattle.log_entry.specs.Fields.{field}
 use Rattle.log_entry.specs.Words.{head_word}
 use Rattle.log_entry.specs.Geometry.{shape_refusal}
@@ -14,19 +14,20 @@ use Rattle.log_image.specs.Recovered.{Recovered}
 use Rattle.log_image.specs.declared.starts.Start.{Start}
 use Rattle.log_image.proofs.OneChain.{one_chain, one_meaning}
 use Rattle.log_image.proofs.ClearedImages.{clearing_keeps}
-use Rattle.persistence.specs.Memory.{cell}
+use Rattle.persistence.specs.Memory.{Memory, cell}
+use Rattle.persistence.proofs.ValueLemmas.{index_at-most}
 use Rattle.persistence.specs.Survivors.{IsPossible, Survives}
 use Rattle.log_core.specs.Entries.{head_place}
 use Rattle.log_core.specs.Origin.{Origin, shape, first_position, first_generation}
-use Rattle.log_core.specs.Files.{file_at}
+use Rattle.log_core.specs.Files.{file_at, end_of}
 use Rattle.log_core.specs.Cores.{Core}
 use Rattle.log_core.specs.Order.{nth_generation, front_of}
 use Rattle.log_core.specs.Starts.{IsStart}
 use Rattle.log_core.specs.Runs.{end}
 use Rattle.log_core.specs.Invariant.{Invariant, KeptIn}
-use Rattle.log_core.specs.Crashes.{file_after_first, IsRecovered, CrashesAreRecovered}
+use Rattle.log_core.specs.Crashes.{file_after_first, IsRecovered, CrashesAreRecovered, PresentWordsHaveAll}
 use Rattle.log_core.proofs.HistoryFiles.{late_file}
-use Rattle.log_core.proofs.Heads.{generation_field}
+use Rattle.log_core.proofs.Heads.{generation_field, last_value}
 use Rattle.log_core.proofs.Fronts.{head_front}
 use Rattle.log_core.proofs.ChainPlaces.{head_inside}
 use Rattle.log_core.proofs.starts.StartFacts.{same_shape}
@@ -34,7 +35,7 @@ use Rattle.log_core.proofs.starts.StartMeets.{start_meets}
 use Rattle.log_core.proofs.kinds.RunHolds.{run_from}
 use Rattle.log_core.proofs.crashes.LeftWords.{certain_left, words_small}
 use Rattle.log_core.proofs.crashes.LeftBlocks.{possible, long}
-use Rattle.log_core.proofs.crashes.LeftChains.{chain, position, to_end, from_synced}
+use Rattle.log_core.proofs.crashes.LeftChains.{chain, position, to_end, from_synced, from_end}
 use Rattle.log_core.proofs.crashes.LeftFiles.{stands}
 
 -- the shape that two words of a header say
@@ -150,5 +151,23 @@ module _ (o : Origin) (c : Core) (start : IsStart o) (inv : Invariant o c) (word
     answered = λ seat. (inv.syncs.views_hold seat).answered;
   }
 
+  -- with each present value all writes are left
+  pub all_writes : words ≡ c.memory.now.words → Stands words (file_after_first o c (length c.history)) (end_of o c.history)
+  all_writes present = subst (λ (writes : ℕ). Stands words (file_after_first o c writes) (first_position o + writes)) many_is (as_said words stands_by)
+    where
+      many_is : many ≡ length c.history
+      many_is = (let all = from_end o c inv place kept words left head_left.above present in let upto = to_end o c inv place kept words left head_left.above in omega (arith, all, upto))
+
 pub crashes_are_recovered : CrashesAreRecovered
 crashes_are_recovered o steps words start run left = recovered o (end o steps) start (run_from o steps (start_meets o start) run) words left
+
+-- the present words are among those that a crash may leave
+pub present_left : (memory : Memory) → Survives memory memory.now.words
+present_left memory = record {
+  same_length = refl;
+  each = λ word inside. record { index = length (cell memory word).past; above = index_at-most memory.past (slice_index memory.floors word) word; inside = omega arith; same = last_value (cell memory word) };
+}
+
+pub present_words_have_all : PresentWordsHaveAll
+present_words_have_all o steps start run =
+    all_writes o (end o steps) start (run_from o steps (start_meets o start) run) (end o steps).memory.now.words (present_left (end o steps).memory) refl

@@ -13,7 +13,6 @@ use Rattle.log_image.specs.Stands.{Stands}
 use Rattle.log_image.proofs.OneChain.{one_linked}
 use Rattle.persistence.specs.Memory.{Memory, cell}
 use Rattle.persistence.specs.Survivors.{IsPossible, Survives}
-use Rattle.persistence.proofs.ValueLemmas.{index_at-most}
 use Rattle.log_core.specs.Views.{view_of, op_of}
 use Rattle.log_core.specs.Origin.{Origin, first_position}
 use Rattle.log_core.specs.Cores.{Core}
@@ -29,9 +28,8 @@ use Rattle.log_core.specs.worked_rows.TwoWriters.{both_put}
 use Rattle.log_core.specs.worked_rows.Collecting.{head_put}
 use Rattle.log_core.specs.worked_rows.Crashed.{without_slot, with_old_head, EitherHeadStands, own_syncing, own_head_marked, own_entry_marked, own_synced, WriteMayBeLost, LaterWriteAlone, SyncedWriteStays}
 use Rattle.log_core.proofs.Trails.{is_on}
-use Rattle.log_core.proofs.Heads.{last_value}
 use Rattle.log_core.proofs.clauses.OneView.{same_or_other}
-use Rattle.log_core.proofs.crashes.Recovered.{recovered}
+use Rattle.log_core.proofs.crashes.Recovered.{recovered, present_left}
 use Rattle.log_core.proofs.row_checks.RowsWrong.{one_part}
 use Rattle.log_core.proofs.row_checks.RowsAllowed.{step_reached}
 use Rattle.log_core.proofs.row_checks.RowsStart.{image_starts}
@@ -40,14 +38,7 @@ use Rattle.log_core.proofs.row_checks.RowsWritten.{put_reached}
 use Rattle.log_core.proofs.row_checks.RowsBothPut.{both_reached}
 use Rattle.log_core.proofs.row_checks.RowsHeadPut.{head_reached}
 
--- a crash may leave the present words
-present_left : (memory : Memory) → Survives memory memory.now.words
-present_left memory = record {
-  same_length = refl;
-  each = λ word inside. record { index = length (cell memory word).past; above = index_at-most memory.past (slice_index memory.floors word) word; inside = omega arith; same = last_value (cell memory word) };
-}
-
--- and with one that a word may be
+-- words that a crash may leave, and with one that a word may be
 set_left : (memory : Memory) (words : List ℕ) (word value : ℕ) → Survives memory words → word < length words → IsPossible (cell memory word) value → Survives memory (set words word value)
 set_left memory words word value left inside possible = record {
   same_length = length-set words word value ∙ left.same_length;

@@ -1,5 +1,5 @@
-use Rattle.log_core.proofs.crashes.Recovered.{crashes_are_recovered}
+use Rattle.log_core.proofs.crashes.Recovered.{crashes_are_recovered, present_words_have_all}
 use Rattle.log_core.proofs.laws.law_crash.Goals as goal
 
 pub returns : goal.returns
-returns c = crashes_are_recovered
+returns c = record { each_crash = crashes_are_recovered; none_lost = present_words_have_all }
