@@ -3,6 +3,7 @@ use Rattle.std.specs.Prelude.{ℕ, ◌+◌, ◌≡◌, ◌==◌, ◌&&◌, not, 
 use Rattle.std.specs.List.{range_with_len}
 use Rattle.log_entry.specs.declared.layouts.TheConstants.{SEAL}
 use Rattle.log_entry.specs.declared.shapes.Geometry.{Geometry}
+use Rattle.log_image.specs.Stands.{Stands}
 use Rattle.pmem_words.specs.Seats.{Seat, new_seat, q_of}
 use Rattle.pmem_words.specs.Scripts.{After, Script}
 use Rattle.asks.specs.declared.ask.Ask.{Ask}
@@ -16,7 +17,7 @@ use Rattle.log_core.specs.Steps.{Note, Does, Kind, ExchangesSlot, Fences, kind_o
 use Rattle.log_core.specs.After.{after, synced_to}
 use Rattle.log_core.specs.Runs.{Allowed, IsReached}
 use Rattle.log_core.specs.Starts.{IsStart}
-use Rattle.log_core.specs.Crashes.{IsRecovered}
+use Rattle.log_core.specs.Crashes.{IsRecovered, file_after_first}
 
 -- the shape of the image; the memory with its room; the states of the seats, a seat's number being its place; the position that the
 -- log has come to; and the one up to which no crash loses an entry
@@ -104,6 +105,10 @@ StandsForSome w = ∥ ((o : Origin) × (c : Core) × StandsForCore w o c) ∥₁
 -- them all up to the synced position
 abbrev pub AreRecovered : WorldNow → List ℕ → Type 0
 AreRecovered w words = (o : Origin) (c : Core) → StandsForCore w o c → IsRecovered o c words
+
+-- words that stand for the file after all writes of the run that the world stands for, at its position
+abbrev pub HaveAllWrites : WorldNow → List ℕ → Type 0
+HaveAllWrites w words = (o : Origin) (c : Core) → StandsForCore w o c → Stands words (file_after_first o c (length c.history)) w.position
 
 -- a turn of a seat with a machine: what its ask finds, and the world after the machine was told
 abbrev pub answer_in : {M Out : Type 0} → Script M Out → WorldNow → ℕ → M → ℕ
