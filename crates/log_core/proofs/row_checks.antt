@@ -39,3 +39,5 @@ pub mod RowsGivenBack
 pub mod RowsOvertaken
 pub mod RowsFilled
 pub mod RowsReadAgain
+pub mod RowsNewHead
+pub mod RowsOldPins

@@ -15,3 +15,4 @@ pub mod TwoWriters
 pub mod Collecting
 pub mod GivenBack
 pub mod ReadAgain
+pub mod OldPins
