@@ -12,7 +12,7 @@ use Rattle.log_core.specs.Steps.{MarksWord, ghost_after, is_head_marked}
 use Rattle.log_core.specs.May.{OfOwned}
 use Rattle.log_core.specs.Answers.{Enters}
 use Rattle.log_core.specs.Within.{no_record, adds_at, Lawful}
-use Rattle.log_core.proofs.machines.Entering.{none_at, enters_same, enters_works}
+use Rattle.log_core.proofs.machines.Entering.{enters_same, enters_works}
 use Rattle.block_bitmap.specs.declared.fill.Fill.TheVariants.{Mark}
 use Rattle.block_bitmap.specs.OwnedWords.{owned_block_at, image_word, content_at, with_filled_block}
 use Rattle.block_bitmap.specs.Filling.{fill_script, block_next, marked_after}
@@ -127,7 +127,6 @@ module _ (o : Origin) (seat first count : ℕ) (start : Seat) where
     may = λ c pin began inv unspent knows. OfOwned (mine first count place left word s g stands.here) stands.here.calm.no_sync;
     admitted = λ c pin began inv unspent knows. has_blocks first count place left word s g stands.here (few_owned o seat c s g pin began inv knows);
     enters = λ f found admits. enters_marked place left word s g stands f (nat_lt (word + 1) (q_of s.geometry)) refl;
-    none_added = λ f found admits. none_at (fill_script.after (Mark place left word) s f).seat (fill_script.after (Mark place left word) s f).turn;
     goes = λ f found admits go. goes_marked place left word s g stands f (owns_no_header o found.core seat s g found.pin found.began place found.holds found.knows (inside first count place left word s g stands.here)) (nat_lt (word + 1) (q_of s.geometry)) refl;
     ends = λ f out found admits done. absurd (never_done place left word s g stands f (nat_lt (word + 1) (q_of s.geometry)) out done);
   }

@@ -36,7 +36,6 @@ module _ (o : Origin) (seat first count : ℕ) (start : Seat) where
     may = λ c pin began inv unspent knows. record { in_sync = λ sync at_tail none. absurd (stands.calm.no_sync sync) };
     admitted = λ c pin began inv unspent knows. tt;
     enters = λ f found admits. enters_same _ _ (all_fenced s) (fences s g f stands.calm);
-    none_added = λ f found admits. refl;
     goes = λ f found admits go. cc;
     ends = λ f out found admits done. record {
       seat = ap all_fenced stands.seat;

@@ -79,7 +79,6 @@ module _ (o : Origin) (seat first count : ℕ) (start : Seat) where
     may = λ c pin began inv unspent knows. record { owned = mine first count place left word s g stands.here; small = stands.here.calm.small (place * q_of s.geometry + word) };
     admitted = λ c pin began inv unspent knows. has_blocks first count place left word s g stands.here (few_owned o seat c s g pin began inv knows);
     enters = λ f found admits. enters_same _ _ (unfilled s place) (stores first count place left word s g stands.here f found.knows.owns.owned.once);
-    none_added = λ f found admits. refl;
     goes = λ f found admits go. stores_on place left word s g stands f (nat_lt (word + 1) (q_of s.geometry)) refl;
     ends = λ f out found admits done. cc;
   }

@@ -18,7 +18,7 @@ use Rattle.log_core.specs.May.{OfOwned}
 use Rattle.log_core.specs.Invariant.{Invariant}
 use Rattle.log_core.specs.Knows.{Knows}
 use Rattle.log_core.specs.Within.{no_record, Serves}
-use Rattle.log_core.proofs.machines.Entering.{none_at, enters_turn}
+use Rattle.log_core.proofs.machines.Entering.{enters_turn}
 use Rattle.block_bitmap.specs.declared.give.Give.{Give}
 use Rattle.block_bitmap.specs.BitsIn.{has_block, among_in, least_is}
 use Rattle.block_bitmap.specs.Giving.{next_word, next_bits, given_seat, given_count, give_turn, give_script}
@@ -117,7 +117,6 @@ module _ (o : Origin) (seat : ℕ) (start : Seat) where
       few = (let all = stands.count in let low = few_all m s g stands (few_owned o seat c s g pin began inv knows) stands.few in omega (arith, all, low));
     };
     enters = λ f found admits. enters_turn (next m s g stands f) (effect g.marks s (ClearsBits (next_word s) (next_bits s)) f) (given_seat s) (turn m s g stands) (effect_is s g f);
-    none_added = λ f found admits. none_at (given_seat s) (turn m s g stands);
     goes = λ f found admits go. goes_on m s g stands (length (given_seat s).blocks.owned == 0) refl (next m s g stands f) (few_owned o seat found.core s g found.pin found.began found.holds found.knows) go;
     ends = λ f out found admits done. ends_so m s g stands (length (given_seat s).blocks.owned == 0) refl (next m s g stands f) out done;
   }

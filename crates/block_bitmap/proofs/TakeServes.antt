@@ -26,7 +26,7 @@ use Rattle.log_core.specs.Within.{no_record, IsFound, Lawful, Serves}
 use Rattle.log_core.specs.Knows.{Knows}
 use Rattle.log_core.proofs.BlockLists.{has_filter, among_range}
 use Rattle.log_core.proofs.kinds.SetsBits.{sets_facts}
-use Rattle.log_core.proofs.machines.Entering.{none_at, enters_turn}
+use Rattle.log_core.proofs.machines.Entering.{enters_turn}
 use Rattle.block_bitmap.specs.declared.take.Take.{Take}
 use Rattle.block_bitmap.specs.declared.take.Taken.{Taken}
 use Rattle.block_bitmap.specs.declared.take.Taken.TheVariants.{Taken as HasTaken, NoSpace}
@@ -83,7 +83,6 @@ module _ (o : Origin) (seat : ℕ) (area : Area) (total_count : ℕ) (first : Se
     may = λ c pin began inv unspent knows. record { inside = inside_by stands.to c pin began unspent knows; area = area; lacks = (let some = stands.may.some in let lacks = stands.may.lacks in omega (arith, some, lacks)) };
     admitted = λ c pin began inv unspent knows. record { to = stands.to; inside = inside_by stands.to c pin began unspent knows; room = stands.may.room };
     enters = λ f found admits. enters_turn (ghost_after g s (with_found word f s) (LoadsBitmapWord word) f) (with_found word f s) (settled (at None) (with_found word f s) f).seat (settled (at None) (with_found word f s) f).turn (sym (settled_seat (at None) (with_found word f s) f));
-    none_added = λ f found admits. none_at (settled (at None) (with_found word f s) f).seat (settled (at None) (with_found word f s) f).turn;
     goes = λ f found admits go. settles area total_count first count passed (with_found word f s) f g (after_load stands f admits.inside) (load_known stands f admits.inside) (open_at (at None) (with_found word f s) f) refl None (ghost_after g s (with_found word f s) (LoadsBitmapWord word) f) go;
     ends = λ f out found admits done. settles_so area total_count first count passed (with_found word f s) f g (after_load stands f admits.inside) (load_known stands f admits.inside) (open_at (at None) (with_found word f s) f) refl None (ghost_after g s (with_found word f s) (LoadsBitmapWord word) f) out
         found.knows.owns.owned.once (has_lacked g.call.lacked (with_found word f s) area) done;
@@ -178,7 +177,6 @@ module _ (o : Origin) (seat : ℕ) (area : Area) (total_count : ℕ) (first : Se
       admitted = λ c pin began inv unspent knows. record { to = stands.to; inside = inside_by stands.to c pin began unspent knows; room = stands.may.room };
       enters = λ f found admits. enters_turn (ghost_after g s (effect g.marks s (SetsBits word bits) f) (SetsBits word bits) f) (effect g.marks s (SetsBits word bits) f) (take_script.after (at (Some known)) s f).seat (take_script.after (at (Some known)) s f).turn
           (effect_is (at (Some known)) s known g.marks f ∙ sym (ended_seat (count - length (gained f admits.inside) == 0) (left f admits.inside (Some known)) (set f admits.inside) (known_set (at (Some known)) s known f)));
-      none_added = λ f found admits. none_at (take_script.after (at (Some known)) s f).seat (take_script.after (at (Some known)) s f).turn;
       goes = λ f found admits go. goes_by f admits.inside (count - length (gained f admits.inside) == 0) refl (ghost_after g s (effect g.marks s (SetsBits word bits) f) (SetsBits word bits) f) go;
       ends = λ f out found admits done. ends_by f admits.inside (count - length (gained f admits.inside) == 0) refl (ghost_after g s (effect g.marks s (SetsBits word bits) f) (SetsBits word bits) f) out
           (set_once f admits.inside found) (set_lacked f admits.inside) done;

@@ -1,3 +1,4 @@
 pub mod Standing
+pub mod Surviving
 pub mod Leading
 pub mod Resting

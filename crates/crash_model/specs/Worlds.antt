@@ -16,6 +16,7 @@ use Rattle.log_core.specs.Steps.{Note, Does, Kind, ExchangesSlot, Fences, kind_o
 use Rattle.log_core.specs.After.{after, synced_to}
 use Rattle.log_core.specs.Runs.{Allowed, IsReached}
 use Rattle.log_core.specs.Starts.{IsStart}
+use Rattle.log_core.specs.Crashes.{IsRecovered}
 
 -- the shape of the image; the memory with its room; the states of the seats, a seat's number being its place; the position that the
 -- log has come to; and the one up to which no crash loses an entry
@@ -98,6 +99,11 @@ StandsAfter w seat ask answered later =
 -- a run from some start reaches a core state that the world stands for
 abbrev pub StandsForSome : WorldNow → Type 0
 StandsForSome w = ∥ ((o : Origin) × (c : Core) × StandsForCore w o c) ∥₁
+
+-- words that a crash left of the world are recovered, of whichever run it stands for: they stand for the file after its first writes, among
+-- them all up to the synced position
+abbrev pub AreRecovered : WorldNow → List ℕ → Type 0
+AreRecovered w words = (o : Origin) (c : Core) → StandsForCore w o c → IsRecovered o c words
 
 -- a turn of a seat with a machine: what its ask finds, and the world after the machine was told
 abbrev pub answer_in : {M Out : Type 0} → Script M Out → WorldNow → ℕ → M → ℕ

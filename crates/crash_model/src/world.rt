@@ -44,7 +44,7 @@ impl World {
     ghost use Rattle.pmem_words.specs.declared.TheConstants.{SEATS};
     ghost use Rattle.std.specs.Borrow.{sem};
     ghost use Rattle.persistence.specs.Memory.{found_answer};
-    ghost use Rattle.crash_model.specs.Worlds.{new_world, world_after, HasFitting, StandsAfter, seat_of, set_seat, answer_in, told_in, turned};
+    ghost use Rattle.crash_model.specs.Worlds.{new_world, world_after, HasFitting, StandsAfter, seat_of, set_seat, answer_in, told_in, turned, AreRecovered};
     ghost use Rattle.crash_model.specs.Led.{IsResting};
     ghost use Rattle.crash_model.specs.Lending.{LendsSeat};
 
@@ -70,10 +70,12 @@ impl World {
         self.cells.reserve(steps)
     }
 
-    /// The words of the image as one crash may leave them, by a choice of the value of each word. Only want of memory refuses it.
+    /// The words of the image as one crash may leave them, by a choice of the value of each word. They stand for the file after the first
+    /// writes of the run, among them all up to the synced position. Only want of memory refuses it.
     pub fn survivors(&self, alloc: Global, choice: Choice) -> Result<Vec<u64>, AllocError>
         ensures chosen { IfOk result (λ words. words.items ≡ chosen choice self.now.cells.memory) }
         ensures survives { IfOk result (λ words. Survives self.now.cells.memory words.items) }
+        ensures recovered { IfOk result (λ words. AreRecovered self.now words.items) }
     {
         self.cells.survivors(alloc, choice)
     }

@@ -15,7 +15,7 @@ use Rattle.log_core.specs.Invariant.{Invariant}
 use Rattle.log_core.specs.Knows.{Knows}
 
 -- a block of an area is in the image, and not the header
-area_inside : (image : Shape) (area : Area) (block : ℕ) → is_in_area image area block ≡ true → (0 < block) × (block < total image)
+pub area_inside : (image : Shape) (area : Area) (block : ℕ) → is_in_area image area block ≡ true → (0 < block) × (block < total image)
 area_inside image Data block is =
     let parts : (nat_le 1 block ≡ true) × (nat_le block image.data_blocks ≡ true) = and_parts (nat_le 1 block) (nat_le block image.data_blocks) is in
     (omega (arith, leb-true 1 block parts.0), omega (arith, leb-true block image.data_blocks parts.1))

@@ -48,7 +48,7 @@ module _ (o : Origin) (c : Core) (inv : Invariant o c) (place : ℕ) (kept : Kep
     count_is : position - start_base o ≡ from + (position - g.base)
     count_is = (let first = inv.order.generations_rise.from_first place kept.inside in omega (arith, first, low))
 
-    split : take (position - start_base o) es ≡ take from es ++ later
+    pub split : take (position - start_base o) es ≡ take from es ++ later
     split = ap (λ (count : ℕ). take count es) count_is ∙ take-add from (position - g.base) es
 
     pub chain_map : (virt : ℕ) → map_of chain_entries virt ≡ history_map_at o es position virt

@@ -68,3 +68,8 @@ map_same {X} {Y} f g (x ∷ xs) same = ap (λ (y : Y). y ∷ map f xs) same.0 �
 pub any_map : {X Y : Type 0} (f : X → Y) (p : Y → Bool) (xs : List X) → list_any p (map f xs) ≡ list_any (λ (x : X). p (f x)) xs
 any_map f p [] = refl
 any_map f p (x ∷ xs) = ap (λ (b : Bool). p (f x) || b) (any_map f p xs)
+
+-- what holds at each place of a list holds of each
+pub each_place : {X : Type 0} (P : X → Type 0) (xs : List X) (d : X) → ((n : ℕ) → n < length xs → P (get_or xs n d)) → AllByRecursion P xs
+each_place P [] d at = tt
+each_place P (x ∷ xs) d at = (at 0 (omega arith), each_place P xs d (λ n inside. at (suc n) (omega (arith, inside))))

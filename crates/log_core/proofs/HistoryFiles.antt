@@ -25,7 +25,7 @@ one_more file (w ∷ history) zero inside = refl
 one_more file (w ∷ history) (suc count) inside = one_more (file_after file w.op (accepted_reply w.op w.at)) history count (omega (arith, inside))
 
 -- the file at a position that is not before the start's
-late_file : (o : Origin) (history : List Write) (position : ℕ) → first_position o ≤ position →
+pub late_file : (o : Origin) (history : List Write) (position : ℕ) → first_position o ≤ position →
     file_at o history position ≡ file_after_writes o.file (take (position - first_position o) history)
 late_file o history position late = ap (λ (early : Bool). if early then early_file o position else file_after_writes o.file (take (position - first_position o) history)) (le-ltb position (first_position o) late)
 

@@ -30,3 +30,4 @@ pub mod machines
 pub mod starts
 pub mod row_checks
 pub mod following
+pub mod crashes

@@ -17,4 +17,9 @@ pub mod SeatOrder
 pub mod NumbersRise
 pub mod CountedCalls
 pub mod CallsInTime
+pub mod Causes
+pub mod FoundAtSteps
+pub mod CausesOfReplies
+pub mod FoundWorks
+pub mod CausedCalls
 pub mod LegalRuns

@@ -41,3 +41,4 @@ pub mod RowsFilled
 pub mod RowsReadAgain
 pub mod RowsNewHead
 pub mod RowsOldPins
+pub mod RowsCrashed

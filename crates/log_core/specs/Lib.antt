@@ -28,6 +28,8 @@ pub mod Starts
 pub mod Histories
 pub mod Laws
 pub mod Following
+pub mod Causes
+pub mod Crashes
 pub mod Knows
 pub mod Within
 pub mod Promising

@@ -1,5 +1,5 @@
 -- A machine within a core, at one seat, whatever other seats do between its steps; and what it owes there.
-use Rattle.std.specs.Prelude.{ℕ, ◌<◌, ◌≤◌, ◌≡◌, ◌≢◌, List, [], length, slice_index}
+use Rattle.std.specs.Prelude.{ℕ, ◌<◌, ◌≤◌, ◌≡◌, ◌≢◌, List, [], ◌++◌, length, slice_index}
 use Rattle.log_entry.specs.declared.calls.Call.{Call}
 use Rattle.pmem_words.specs.Seats.{Seat}
 use Rattle.pmem_words.specs.Scripts.{Script}
@@ -14,7 +14,7 @@ use Rattle.log_core.specs.Views.{View, Ghost, view_of, op_in}
 use Rattle.log_core.specs.Origin.{Origin, q_of_origin}
 use Rattle.log_core.specs.Cores.{Core}
 use Rattle.log_core.specs.Works.{Computes}
-use Rattle.log_core.specs.Steps.{Note, Does, kind_of_ask, effect, is_begun, ghost_begun, ghost_after, view_after}
+use Rattle.log_core.specs.Steps.{Note, Does, kind_of_ask, effect, is_begun, ghost_begun, ghost_after, ghost_ended, view_after}
 use Rattle.log_core.specs.May.{May}
 use Rattle.log_core.specs.Answers.{Enters}
 use Rattle.log_core.specs.Runs.{MayNumber, Allowed, IsReached}
@@ -79,18 +79,17 @@ pub record IsFound (o : Origin) (seat : ℕ) (s : Seat) (g : Ghost) (ask : Ask) 
 
 -- what a machine owes at one machine, seat and ghost part, whoever drives it: its ask may be made, in each core that knows the seat
 -- so; it admits what may be found there; what it makes of the seat is what the step does, and what a call may compute after it;
--- and it goes on to what holds on the way, or ends in what holds at the end
+-- and it goes on to what holds on the way, or ends, with its record, in what holds at the end
 pub record Lawful {M Out : Type 0} (o : Origin) (seat : ℕ) (script : Script M Out) (rec : Out → Seat → List Call)
     (P : M → Seat → Ghost → Type 0) (R : Out → Seat → Ghost → Type 0) (m : M) (s : Seat) (g : Ghost) : Type 0 where
   pub may : (c : Core) (pin began : ℕ) → Invariant o c → (view_of c.views seat).parts ≢ [] → Knows o c seat s g pin began → May o c g s (kind_of_ask (q_of_origin o) seat (script.asks m s))
   pub admitted : (c : Core) (pin began : ℕ) → Invariant o c → (view_of c.views seat).parts ≢ [] → Knows o c seat s g pin began → script.admits m s (found_answer c.memory (script.asks m s))
   pub enters : (f : ℕ) → IsFound o seat s g (script.asks m s) f → script.admits m s f →
       Enters (ghost_found o seat (script.asks m s) s g f) (seat_found o seat (script.asks m s) s g f) (script.after m s f).seat (adds_at rec (script.after m s f).seat (script.after m s f).turn)
-  pub none_added : (f : ℕ) → IsFound o seat s g (script.asks m s) f → script.admits m s f → adds_at rec (script.after m s f).seat (script.after m s f).turn ≡ []
   pub goes : (f : ℕ) → IsFound o seat s g (script.asks m s) f → script.admits m s f → (script.after m s f).turn ≡ Go →
       P (script.after m s f).machine (script.after m s f).seat (ghost_found o seat (script.asks m s) s g f)
   pub ends : (f : ℕ) (out : Out) → IsFound o seat s g (script.asks m s) f → script.admits m s f → (script.after m s f).turn ≡ Done out →
-      R out (script.after m s f).seat (ghost_found o seat (script.asks m s) s g f)
+      R out (script.after m s f).seat (ghost_ended (rec out (script.after m s f).seat) (ghost_found o seat (script.asks m s) s g f))
 
 -- wherever P holds the machine is lawful
 abbrev pub Serves : {M Out : Type 0} → Origin → ℕ → Script M Out → (Out → Seat → List Call) → (M → Seat → Ghost → Type 0) → (Out → Seat → Ghost → Type 0) → Type 0
@@ -108,13 +107,13 @@ pub record IsLinkedToView (number : ℕ) (rest : List Call) (P : Seat → Ghost 
 pub record IsLeft {Out : Type 0} (rest : List Call) (rec : Out → Seat → List Call) (R : Out → Seat → Ghost → Type 0) (out : Out) (t : Seat) (w : View) : Type 0 where
   pub unspent : w.parts ≢ []
   pub seat : w.seat ≡ t
-  pub done : w.done ≡ rest
+  pub done : w.done ≡ rest ++ rec out t
   pub fits : R out t w.ghost
 
 -- where a part of a machine has ended: the whole computes and goes into its next part, or ends with its record
 abbrev pub FitsNext : {C Out : Type 0} → (Out → Seat → List Call) → (C → Seat → Ghost → Type 0) → (Out → Seat → Ghost → Type 0) → Seat → Ghost → Next C Out → Type 0
 FitsNext rec P R t g (Into m s) = Enters g t s [] × P m s g
-FitsNext rec P R t g (End out s) = Enters g t s (rec out s) × (rec out s ≡ []) × R out s g
+FitsNext rec P R t g (End out s) = Enters g t s (rec out s) × R out s (ghost_ended (rec out s) g)
 
 -- a memory of one caller has the words of a core's: the pin words of the seats that there are, and perhaps more
 pub record Agrees (p : SharedWords) (memory : Memory) : Type 0 where

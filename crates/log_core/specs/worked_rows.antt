@@ -11,6 +11,7 @@ pub mod Written
 pub mod Ended
 pub mod Accepted
 pub mod Joined
+pub mod Crashed
 pub mod TwoWriters
 pub mod Collecting
 pub mod GivenBack

@@ -2,6 +2,8 @@
 
 ghost use Rattle.log_core.specs.Laws.{StartMeets, StepKeeps, RunKeeps};
 ghost use Rattle.log_core.specs.Following.{NoneReused, RunsAreLegal, RecordsAreSeen};
+ghost use Rattle.log_core.specs.Causes.{RecordsHaveCauses};
+ghost use Rattle.log_core.specs.Crashes.{CrashesAreRecovered};
 
 /// The core that a run starts with meets the invariant.
 pub fn law_start()
@@ -24,8 +26,18 @@ pub fn law_reuse()
 
 /// The calls of each run that ends with no call running, in the order of a report, are one legal history from the start's file and
 /// position to the end of the writes, with each seat's calls by their numbers, and their collections put each generation in place, in turn.
-/// And each record of each run is of a position that was the end at a step of its own call, which put it in where it is an accepted write.
+/// Each record of each run is of a position that was the end at a step of its own call, which put it in where it is an accepted write. And
+/// what a record says that its call found, the call found at its own steps: each block of an area that it found full, the generation that
+/// overtook it, and a held pin, which is another seat's.
 pub fn law_legal()
     ensures one_history { RunsAreLegal }
     ensures each_seen { RecordsAreSeen }
+    ensures causes { RecordsHaveCauses }
+{}
+
+/// Whatever a crash leaves after any run: the words stand for the file after the first writes of the history, among them all up to the synced
+/// position, and no other. So opening refuses none, clearing keeps it, and each start that is recovered is of that file and its position. No
+/// sync was answered with a position past the synced one.
+pub fn law_crash()
+    ensures { CrashesAreRecovered }
 {}

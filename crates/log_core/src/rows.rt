@@ -11,6 +11,7 @@ ghost use Rattle.log_core.specs.worked_rows.ReadAgain.{ReadAgainRuns, UsedAgainR
 ghost use Rattle.log_core.specs.worked_rows.OldPins.{OldPinRuns};
 ghost use Rattle.log_core.specs.worked_rows.Ended.{CallsEnd, WriteNotPut, SizeBeforeTail, KeptTooEarly};
 ghost use Rattle.log_core.specs.worked_rows.Joined.{SyncRuns, NoMarkOutsideOfSyncs, SeatsAreJoined};
+ghost use Rattle.log_core.specs.worked_rows.Crashed.{WriteMayBeLost, LaterWriteAlone, SyncedWriteStays};
 ghost use Rattle.log_core.specs.worked_rows.Refused.{OtherEntryPossible, HeadSkips, LogHasMore, BitWithoutOwner, BlockOnTwoLists, ChainBlockFree, OtherContentPossible, PinOfAnother, ViewOfAnother, StoredNotPresent, ReplacedStillNamed, RecordOfNoWrite, SyncedMayBeLost, NamedTwice, SnapshotNamesMore, WriteOfNoSeat};
 ghost use Rattle.log_core.specs.worked_rows.Gaps.{BitPastTheWord, MarkOfOwnedBlock, FloorAhead, SpentViewHolds};
 ghost use Rattle.log_core.specs.worked_rows.CallGaps.{TableOfAnother, BaseFromBefore, BasesDropped, BaseLeftOver, FirstBaseShort, TailNotWalked, HeadOfNoCollection, SyncOfNoSync, CallOfNoNumber};
@@ -142,4 +143,11 @@ pub fn law_accepted()
     ensures late_walk { LateWalk }
     ensures runs_may_be_put { RunsMayBePut }
     ensures collections_in_turn { CollectionsInTurn }
+{}
+
+/// What crashes may leave of worked runs, and what it stands for.
+pub fn law_left()
+    ensures write_may_be_lost { WriteMayBeLost }
+    ensures later_write_alone { LaterWriteAlone }
+    ensures synced_write_stays { SyncedWriteStays }
 {}

@@ -20,7 +20,7 @@ use Rattle.log_core.specs.Knows.{Knows}
 use Rattle.log_core.specs.Answers.{Enters}
 use Rattle.log_core.specs.Within.{no_record, IsFound, Lawful, Serves}
 use Rattle.log_core.proofs.Heads.{head_generation, was_low}
-use Rattle.log_core.proofs.machines.Entering.{none_at, enters_same, enters_turn}
+use Rattle.log_core.proofs.machines.Entering.{enters_same, enters_turn}
 use Rattle.log_core.proofs.machines.Framing.{serves_as}
 use Rattle.log_core.proofs.machines.MachineLaws.{Law, IsUnmoved, promised}
 use Rattle.log_core.proofs.machines.OneStep.{HasStepped, one_step, serves_once}
@@ -148,7 +148,6 @@ module _ (o : Origin) (seat : ℕ) where
       may = λ c pin began inv unspent knows. tt;
       admitted = λ c pin began inv unspent knows. tt;
       enters = λ f found admits. enters_same g (effect g.marks s LoadsHead f) (head_found s f) (loaded s g f);
-      none_added = λ f found admits. refl;
       goes = λ f found admits go. record {
         alike = λ word later. alike_if (s.hold.pin == generation_in f) s f word refl (low_found s g f found) later ∙ ap (λ (t : Seat). pinned t word) from.seat;
         ghost = from.ghost;
@@ -161,7 +160,6 @@ module _ (o : Origin) (seat : ℕ) where
       may = λ c pin began inv unspent knows. subst (λ (k : Kind). May o c g s k) (sym is) (store_may s g here);
       admitted = λ c pin began inv unspent knows. tt;
       enters = λ f found admits. stored_enters s g (generation_in s.hold.head) (kind_of_ask (q_of_origin o) seat (pin_script.asks Publish s)) is f;
-      none_added = λ f found admits. refl;
       goes = λ f found admits go. subst (λ (h : Ghost). IsConfirming (pin_stored s (generation_in s.hold.head)) h) (sym (ghost_stored s g (generation_in s.hold.head) (kind_of_ask (q_of_origin o) seat (pin_script.asks Publish s)) is f))
           (record { pinning = record { alike = λ word later. at.alike word later; ghost = at.ghost }; stored = refl; none_kept = refl });
       ends = λ f out found admits done. cc;
@@ -200,7 +198,6 @@ module _ (o : Origin) (seat : ℕ) where
       may = λ c pin began inv unspent knows. tt;
       admitted = λ c pin began inv unspent knows. not_before (s.hold.head == 0) c pin began s g refl at.stored inv knows;
       enters = λ f found admits. enters_turn g (effect g.marks s LoadsHead f) (head_found s f) (confirm_turn (s.hold.pin == generation_in f) f) (loaded s g f);
-      none_added = λ f found admits. none_at (head_found s f) (confirm_turn (s.hold.pin == generation_in f) f);
       goes = λ f found admits go. goes_by (s.hold.pin == generation_in f) s g f at admits go;
       ends = λ f out found admits done. ends_by (s.hold.pin == generation_in f) s g f out refl at done;
     }

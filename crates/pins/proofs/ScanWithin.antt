@@ -10,7 +10,7 @@ use Rattle.log_core.specs.Views.{Ghost}
 use Rattle.log_core.specs.Origin.{Origin}
 use Rattle.log_core.specs.Within.{no_record, Serves}
 use Rattle.log_core.proofs.clauses.OneView.{same_or_other}
-use Rattle.log_core.proofs.machines.Entering.{none_at, enters_turn}
+use Rattle.log_core.proofs.machines.Entering.{enters_turn}
 use Rattle.log_core.proofs.machines.MachineLaws.{Law, promised}
 use Rattle.pins.specs.declared.scan.Scan.{Scan}
 use Rattle.pins.specs.declared.scan.Scanned.{Scanned}
@@ -108,7 +108,6 @@ module _ (o : Origin) (seat generation : ℕ) (s0 : Seat) (g0 : Ghost) where
       };
       admitted = λ c pin began inv unspent knows. record { left = stands.left; few = subst (λ (n : ℕ). n ≤ SEATS) (sym (ap (λ (t : Seat). t.seats) stands.others)) may.few; seen = stands.seen };
       enters = λ f found admits. enters_turn g (pin_found s m.next f) (pin_found s m.next f) (scan_turn (needs m.generation f) m s f) refl;
-      none_added = λ f found admits. none_at (pin_found s m.next f) (scan_turn (needs m.generation f) m s f);
       goes = λ f found admits go. goes_by m s g stands f (needs m.generation f) (nat_lt (m.next + 1) s.seats) refl refl go;
       ends = λ f out found admits done. subst (λ (i : ℕ). HasScanned i o seat s0 g0 out (pin_found s m.next f) g) stands.generation_is
           (ends_by m s g stands f (needs m.generation f) (nat_lt (m.next + 1) s.seats) out refl refl done);

@@ -50,7 +50,7 @@ some_or_none None = inl refl
 some_or_none (Some op) = inr (λ e. cc)
 
 -- going on leaves what a call asks
-op_going : (g : Ghost) (s : Seat) (works : List Work) → list_all is_going_on works ≡ true → MayWorkAll g s works → op_in (state_after_all_work s works) ≡ op_in s
+pub op_going : (g : Ghost) (s : Seat) (works : List Work) → list_all is_going_on works ≡ true → MayWorkAll g s works → op_in (state_after_all_work s works) ≡ op_in s
 op_going g s [] going may = refl
 op_going g s (work ∷ works) going may = (let parts = and_parts (is_going_on work) (list_all is_going_on works) going in
     op_going g (state_after_work s work) works parts.1 may.1 ∙ op_stays g s work parts.0 may.0)

@@ -211,7 +211,7 @@ module _ (o : Origin) (steps : List Step) (inv : Invariant o (end o steps)) (see
   seen_step (Joins seat other) allowed = seen_joins seat other allowed
 
 -- a fact of a view of a list, or of a spent one
-view_or_spent : (P : View → Type 0) (views : List View) (k : ℕ) → P spent_view → AllByRecursion P views → P (view_of views k)
+pub view_or_spent : (P : View → Type 0) (views : List View) (k : ℕ) → P spent_view → AllByRecursion P views → P (view_of views k)
 view_or_spent P [] k spent all = spent
 view_or_spent P (v ∷ views) zero spent all = all.0
 view_or_spent P (v ∷ views) (suc k) spent all = view_or_spent P views k spent all.1

@@ -39,7 +39,6 @@ module _ {M Out : Type 0} (o : Origin) (seat : ℕ) (script : Script M Out) (P :
     enters = λ f found admits. subst (λ (r : After M Out). Enters (ghost_found o seat (script.asks m s) s g f) (seat_found o seat (script.asks m s) s g f) r.seat (adds_at no_record r.seat r.turn)) (sym (after f))
         (subst (λ (k : Kind). Enters (ghost_after g s (effect g.marks s k f) k f) (effect g.marks s k f) (effect g.marks s kind f) []) (sym is)
         (enters_same (ghost_after g s (effect g.marks s kind f) kind f) (effect g.marks s kind f) (effect g.marks s kind f) refl));
-    none_added = λ f found admits. subst (λ (r : After M Out). adds_at no_record r.seat r.turn ≡ []) (sym (after f)) refl;
     goes = λ f found admits go. absurd (never (outcome f) (sym (ap (λ (r : After M Out). r.turn) (after f)) ∙ go));
     ends = λ f out found admits done. record {
       found = f;

@@ -12,7 +12,7 @@ use Rattle.persistence.specs.Memory.{found_answer}
 use Rattle.log_core.specs.Views.{Ghost}
 use Rattle.log_core.specs.Origin.{Origin, q_of_origin}
 use Rattle.log_core.specs.Works.{Work, MayWorkAll, state_after_work, state_after_all_work, is_going_on}
-use Rattle.log_core.specs.Steps.{kind_of_ask}
+use Rattle.log_core.specs.Steps.{kind_of_ask, ghost_ended}
 use Rattle.log_core.specs.May.{May}
 use Rattle.log_core.specs.Answers.{Enters}
 use Rattle.log_core.specs.Within.{no_record, adds_at, seat_found, ghost_found, IsFound, Lawful, Serves, FitsNext}
@@ -63,33 +63,26 @@ module _ {A C OutA Out : Type 0} (o : Origin) (seat : ℕ) (part : Script A OutA
   moved_enters g e t m (Into c u) first fits = enters_more g e t u [] first fits.0
   moved_enters g e t m (End out u) first fits = enters_more g e t u (rec out u) first fits.0
 
-  moved_none : (g : Ghost) (t : Seat) (m : C) (n : Next C Out) → FitsNext rec PC RC t g n → adds_at rec (moved m n).seat (moved m n).turn ≡ []
-  moved_none g t m (Into c u) fits = refl
-  moved_none g t m (End out u) fits = fits.1
-
   moved_goes : (g : Ghost) (t : Seat) (m : C) (n : Next C Out) → FitsNext rec PC RC t g n → (moved m n).turn ≡ Go → PC (moved m n).machine (moved m n).seat g
   moved_goes g t m (Into c u) fits go = fits.1
   moved_goes g t m (End out u) fits go = cc
 
-  moved_ends : (g : Ghost) (t : Seat) (m : C) (n : Next C Out) (out : Out) → FitsNext rec PC RC t g n → (moved m n).turn ≡ Done out → RC out (moved m n).seat g
+  moved_ends : (g : Ghost) (t : Seat) (m : C) (n : Next C Out) (out : Out) → FitsNext rec PC RC t g n → (moved m n).turn ≡ Done out → RC out (moved m n).seat (ghost_ended (rec out (moved m n).seat) g)
   moved_ends g t m (Into c u) out fits done = cc
-  moved_ends g t m (End end u) out fits done = (let same : end ≡ out = cc in subst (λ (x : Out). RC x u g) same fits.2)
+  moved_ends g t m (End end u) out fits done = (let same : end ≡ out = cc in subst (λ (x : Out). RC x u (ghost_ended (rec x u) g)) same fits.1)
 
   at_enters : (g : Ghost) (e t : Seat) (m : A) (turn : Turn OutA) → Enters g e t [] → ((out : OutA) → turn ≡ Done out → R out t g) →
       Enters g e (onward_at inject next m t turn).seat (adds_at rec (onward_at inject next m t turn).seat (onward_at inject next m t turn).turn)
   at_enters g e t m Go first ends = first
   at_enters g e t m (Done out) first ends = moved_enters g e t (inject m) (next out t) first (on_next out t g (ends out refl))
 
-  at_none : (g : Ghost) (t : Seat) (m : A) (turn : Turn OutA) → ((out : OutA) → turn ≡ Done out → R out t g) → adds_at rec (onward_at inject next m t turn).seat (onward_at inject next m t turn).turn ≡ []
-  at_none g t m Go ends = refl
-  at_none g t m (Done out) ends = moved_none g t (inject m) (next out t) (on_next out t g (ends out refl))
-
   at_goes : (g : Ghost) (t : Seat) (m : A) (turn : Turn OutA) → (turn ≡ Go → P m t g) → ((out : OutA) → turn ≡ Done out → R out t g) → (onward_at inject next m t turn).turn ≡ Go →
       PC (onward_at inject next m t turn).machine (onward_at inject next m t turn).seat g
   at_goes g t m Go goes ends go = on_part m t g (goes refl)
   at_goes g t m (Done out) goes ends go = moved_goes g t (inject m) (next out t) (on_next out t g (ends out refl)) go
 
-  at_ends : (g : Ghost) (t : Seat) (m : A) (turn : Turn OutA) (out : Out) → ((end : OutA) → turn ≡ Done end → R end t g) → (onward_at inject next m t turn).turn ≡ Done out → RC out (onward_at inject next m t turn).seat g
+  at_ends : (g : Ghost) (t : Seat) (m : A) (turn : Turn OutA) (out : Out) → ((end : OutA) → turn ≡ Done end → R end t g) → (onward_at inject next m t turn).turn ≡ Done out →
+      RC out (onward_at inject next m t turn).seat (ghost_ended (rec out (onward_at inject next m t turn).seat) g)
   at_ends g t m Go out ends done = cc
   at_ends g t m (Done end) out ends done = moved_ends g t (inject m) (next end t) out (on_next end t g (ends end refl)) done
 
@@ -123,12 +116,10 @@ module _ {A C OutA Out : Type 0} (o : Origin) (seat : ℕ) (part : Script A OutA
         enters = λ f is may. subst (λ (ask : Ask). Enters (ghost_found o seat ask s g f) (seat_found o seat ask s g f) (whole.after (inject m) s f).seat (adds_at rec (whole.after (inject m) s f).seat (whole.after (inject m) s f).turn)) asks
             (subst (λ (r : After C Out). Enters (ghost_found o seat (part.asks m s) s g f) (seat_found o seat (part.asks m s) s g f) r.seat (adds_at rec r.seat r.turn)) (same f)
             (at_enters (ghost_found o seat (part.asks m s) s g f) (seat_found o seat (part.asks m s) s g f) (part.after m s f).seat (part.after m s f).machine (part.after m s f).turn (first f (found f is) (leaves m s f may)) (ends_so f is may)));
-        none_added = λ f is may. subst (λ (r : After C Out). adds_at rec r.seat r.turn ≡ []) (same f)
-            (at_none (ghost_found o seat (part.asks m s) s g f) (part.after m s f).seat (part.after m s f).machine (part.after m s f).turn (ends_so f is may));
         goes = λ f is may go. subst (λ (ask : Ask). PC (whole.after (inject m) s f).machine (whole.after (inject m) s f).seat (ghost_found o seat ask s g f)) asks
             (subst (λ (r : After C Out). r.turn ≡ Go → PC r.machine r.seat (ghost_found o seat (part.asks m s) s g f)) (same f)
             (at_goes (ghost_found o seat (part.asks m s) s g f) (part.after m s f).seat (part.after m s f).machine (part.after m s f).turn (laws.goes f (found f is) (leaves m s f may)) (ends_so f is may)) go);
-        ends = λ f out is may done. subst (λ (ask : Ask). RC out (whole.after (inject m) s f).seat (ghost_found o seat ask s g f)) asks
-            (subst (λ (r : After C Out). r.turn ≡ Done out → RC out r.seat (ghost_found o seat (part.asks m s) s g f)) (same f)
+        ends = λ f out is may done. subst (λ (ask : Ask). RC out (whole.after (inject m) s f).seat (ghost_ended (rec out (whole.after (inject m) s f).seat) (ghost_found o seat ask s g f))) asks
+            (subst (λ (r : After C Out). r.turn ≡ Done out → RC out r.seat (ghost_ended (rec out r.seat) (ghost_found o seat (part.asks m s) s g f))) (same f)
             (at_ends (ghost_found o seat (part.asks m s) s g f) (part.after m s f).seat (part.after m s f).machine (part.after m s f).turn out (ends_so f is may)) done);
       }

@@ -6,6 +6,7 @@ use Rattle.log_entry.specs.declared.calls.Call.{Call}
 use Rattle.pmem_words.specs.Seats.{Seat}
 use Rattle.pmem_words.specs.Scripts.{Script, Lowers}
 use Rattle.pmem_words.specs.Leads.{Leads, Keeps}
+use Rattle.pmem_words.specs.declared.machine.Turn.{Turn}
 use Rattle.pmem_words.specs.declared.machine.Turn.TheVariants.{Go, Done}
 use Rattle.pmem_words.proofs.LeadsLemmas.{leads_by}
 use Rattle.persistence.specs.Memory.{found_answer}
@@ -19,7 +20,7 @@ use Rattle.log_core.specs.Files.{end_of}
 use Rattle.log_core.specs.Runs.{MayNumber, Allowed, IsReached}
 use Rattle.log_core.specs.Invariant.{Invariant}
 use Rattle.log_core.specs.Knows.{Knows}
-use Rattle.log_core.specs.Within.{note_of, Did, within, IsFound, Lawful, Serves, IsLinkedToView, IsLeft}
+use Rattle.log_core.specs.Within.{adds_at, note_of, Did, within, IsFound, Lawful, Serves, IsLinkedToView, IsLeft}
 use Rattle.log_core.proofs.Facts.{facts_of}
 use Rattle.log_core.proofs.kinds.Worked.{works_hold}
 use Rattle.log_core.proofs.kinds.RunHolds.{run_from}
@@ -118,14 +119,21 @@ module _ (o : Origin) (start : Invariant o (first_core o)) (seat number : ℕ) w
         (subst (λ (x : ℕ). IsFound o seat s (ghost_begun (view_of did.core.views seat).ghost (view_of did.core.views seat).seat s number) (script.asks m s) x) did.answer
         (found_at m s did.core (reached_keeps o start did.core did.reached) did.made (linked_to m s v did.core did.at linked)))
 
-    -- the ghost part after a step that adds no record
-    ghost_of : (m : M) (s : Seat) (v : View) (f : ℕ) → IsFound o seat s (ghost_begun v.ghost v.seat s number) (script.asks m s) f → script.admits m s f → IsLinkedToView number rest (P m) s v →
-        (view_after v (kind m s) (note_of script rec number m s f) f).ghost ≡ ghost_next m s (ghost_begun v.ghost v.seat s number) f
-    ghost_of m s v f is admits linked = ap (λ (adds : List Call). ghost_ended adds (ghost_next m s (ghost_begun v.ghost v.seat s number) f))
-        ((serves m s (ghost_begun v.ghost v.seat s number) linked.fits).none_added f is admits)
+    -- what a step adds: no record where the machine goes on, and its record where it ends
+    adds_going : (turn : Turn Out) (t : Seat) → turn ≡ Go → adds_at rec t turn ≡ []
+    adds_going turn t go = rw go refl
 
-    done_of : (m : M) (s : Seat) (v : View) (f : ℕ) → IsFound o seat s (ghost_begun v.ghost v.seat s number) (script.asks m s) f → script.admits m s f → IsLinkedToView number rest (P m) s v → (view_after v (kind m s) (note_of script rec number m s f) f).done ≡ rest
-    done_of m s v f is admits linked = ap (λ (adds : List Call). v.done ++ adds) ((serves m s (ghost_begun v.ghost v.seat s number) linked.fits).none_added f is admits) ∙ (append-nil v.done ∙ linked.done)
+    adds_ending : (turn : Turn Out) (t : Seat) (out : Out) → turn ≡ Done out → adds_at rec t turn ≡ rec out t
+    adds_ending turn t out done = rw done refl
+
+    -- so the ghost part after a step of these records
+    ghost_of : (m : M) (s : Seat) (v : View) (f : ℕ) (adds : List Call) → adds_at rec (script.after m s f).seat (script.after m s f).turn ≡ adds →
+        (view_after v (kind m s) (note_of script rec number m s f) f).ghost ≡ ghost_ended adds (ghost_next m s (ghost_begun v.ghost v.seat s number) f)
+    ghost_of m s v f adds is = ap (λ (a : List Call). ghost_ended a (ghost_next m s (ghost_begun v.ghost v.seat s number) f)) is
+
+    done_of : (m : M) (s : Seat) (v : View) (f : ℕ) (adds : List Call) → adds_at rec (script.after m s f).seat (script.after m s f).turn ≡ adds → IsLinkedToView number rest (P m) s v →
+        (view_after v (kind m s) (note_of script rec number m s f) f).done ≡ rest ++ adds
+    done_of m s v f adds is linked = ap (λ (a : List Call). v.done ++ a) is ∙ ap (λ (calls : List Call). calls ++ adds) linked.done
 
     keeps : (m : M) (s : Seat) (v : View) → IsLinkedToView number rest (P m) s v → Keeps script (within o seat number script rec) (λ n t w. IsLinkedToView number rest (P n) t w) (IsLeft rest rec R) m s v
     keeps m s v linked = record {
@@ -149,9 +157,9 @@ module _ (o : Origin) (start : Invariant o (first_core o)) (seat number : ℕ) w
               begins = record { works = []; may = tt; gives = refl };
               number_is = number_stays (op_in (script.after m s f).seat) u.ghost.call.number number
                   (number_after (is_begun (op_in v.seat) (op_in s)) v.ghost.call number linked.number_is);
-              done = done_of m s v f is admits linked;
+              done = done_of m s v f [] (adds_going (script.after m s f).turn (script.after m s f).seat go) linked ∙ append-nil rest;
               fits = subst (λ (g : Ghost). P (script.after m s f).machine (script.after m s f).seat g)
-                  (sym (ghost_of m s v f is admits linked) ∙ sym (begun_self u.ghost (script.after m s f).seat number)) (laws.goes f is admits go);
+                  (sym (ghost_of m s v f [] (adds_going (script.after m s f).turn (script.after m s f).seat go)) ∙ sym (begun_self u.ghost (script.after m s f).seat number)) (laws.goes f is admits go);
             }))
 
         ends_so : (f : ℕ) (w : View) (out : Out) → Did o seat v (script.asks m s) (note_of script rec number m s) f w → (script.after m s f).turn ≡ Done out → IsLeft rest rec R out (script.after m s f).seat w
@@ -162,8 +170,8 @@ module _ (o : Origin) (start : Invariant o (first_core o)) (seat number : ℕ) w
             (record {
               unspent = linked.unspent;
               seat = refl;
-              done = done_of m s v f is admits linked;
-              fits = subst (λ (g : Ghost). R out (script.after m s f).seat g) (sym (ghost_of m s v f is admits linked)) (laws.ends f out is admits stop);
+              done = done_of m s v f (rec out (script.after m s f).seat) (adds_ending (script.after m s f).turn (script.after m s f).seat out stop) linked;
+              fits = subst (λ (g : Ghost). R out (script.after m s f).seat g) (sym (ghost_of m s v f (rec out (script.after m s f).seat) (adds_ending (script.after m s f).turn (script.after m s f).seat out stop))) (laws.ends f out is admits stop);
             }))
 
     -- a lawful machine leads to its end within a core, for every interleaving

@@ -84,7 +84,7 @@ may_put_next = record {
   rest = rest_over;
 }
 
-both_reached : IsReached image_a both_put
+pub both_reached : IsReached image_a both_put
 both_reached = enters_reached image_a next_found 1 1 (Exchange (Image 28) 0 to_second) [] [] (second_call ∷ []) found_reached (omega arith) (one_part 1) tt refl
     (λ seal. absurd (omega (arith, seal)), λ entry. may_put_next) tt refl (record { at_tail = refl; position = refl; seat = refl; number = refl; op = refl; fits = refl })
 

@@ -1,6 +1,5 @@
 -- A start with a snapshot, runs in a block, a seal and a link, and all seats made.
 use Rattle.std.proofs.Common.{◌≡◌, ◌⊎◌, ◌≤◌, ◌<◌, ◌+◌, ◌==◌, ◌&&◌, nat_lt, if◌then◌else◌, ℕ, zero, suc, true, List, [], ◌∷◌, length, slice_index, refl, ap, ◌∙◌, inl, inr, arith, Option, None}
-use Rattle.std.specs.Prelude.{replicate}
 use Rattle.std.specs.List.{slice_get, AllByRecursion}
 use Rattle.std.specs.Option.{option_or}
 use Rattle.std.proofs.lemmas.Bool.{and_parts, or_cases, eqb-true, ltb-true}
@@ -11,7 +10,6 @@ use Rattle.log_image.specs.Stands.{StandsBy}
 use Rattle.log_image.specs.Tails.{tail_of, is_after}
 use Rattle.log_image.specs.Taken.{bit_of, is_taken}
 use Rattle.log_image.proofs.HoldingLemmas.{names_none, holds_by}
-use Rattle.log_core.specs.Cores.{first_core}
 use Rattle.log_core.specs.Starts.{IsStart}
 use Rattle.log_core.specs.worked_rows.Starting.{image_c, EachKindStarts}
 use Rattle.log_core.proofs.row_checks.RowChecks.{below_same, below_implied}

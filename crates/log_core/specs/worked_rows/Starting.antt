@@ -1,11 +1,9 @@
 -- A start of every kind at once: a snapshot, an entry whose runs stand in a block of their own, a sealed and linked log block; and three
 -- seats, all made.
-use Rattle.std.specs.Prelude.{◌≡◌, ◌≢◌, [], ◌∷◌, length, map, replicate}
+use Rattle.std.specs.Prelude.{◌≡◌, [], ◌∷◌, length, map, replicate}
 use Rattle.log_image.specs.Rows.{with_words, with_runs}
-use Rattle.log_core.specs.Views.{view_of}
 use Rattle.log_core.specs.Origin.{Origin, Header, Free, InChain, first_position, first_generation}
 use Rattle.log_core.specs.Cores.{first_core}
-use Rattle.log_core.specs.Files.{end_of}
 use Rattle.log_core.specs.Starts.{IsStart, origin_of}
 use Rattle.log_core.specs.Invariant.{Invariant}
 use Rattle.log_core.specs.worked_rows.Samples.{wide}

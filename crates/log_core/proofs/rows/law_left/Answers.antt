@@ -1,0 +1,5 @@
+use Rattle.log_core.proofs.row_checks.RowsCrashed.{write_may_be_lost, later_write_alone, synced_write_stays}
+use Rattle.log_core.proofs.rows.law_left.Goals as goal
+
+pub returns : goal.returns
+returns c = record { write_may_be_lost = write_may_be_lost; later_write_alone = later_write_alone; synced_write_stays = synced_write_stays }

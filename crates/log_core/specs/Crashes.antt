@@ -1,0 +1,42 @@
+-- What every crash leaves of a run.
+use Rattle.std.specs.Prelude.{ℕ, ◌+◌, ◌^◌, ◌<◌, ◌≤◌, ◌≡◌, List, length, take}
+use Rattle.std.specs.List.{AllByRecursion}
+use Rattle.log_entry.specs.declared.calls.Reply.TheVariants.{Synced}
+use Rattle.log_entry.specs.declared.calls.Call.{Call}
+use Rattle.log_image.specs.Header.{shape_of}
+use Rattle.log_image.specs.Chains.{IsChain}
+use Rattle.log_image.specs.Stands.{Stands}
+use Rattle.log_image.specs.Tails.{tail_of, IsCleared}
+use Rattle.log_image.specs.Recovered.{Recovered}
+use Rattle.log_image.specs.declared.starts.Start.{Start}
+use Rattle.persistence.specs.Survivors.{Survives}
+use Rattle.log_core.specs.Views.{view_of}
+use Rattle.log_core.specs.Origin.{Origin, first_position}
+use Rattle.log_core.specs.Files.{file_after_writes}
+use Rattle.log_core.specs.Cores.{Core}
+use Rattle.log_core.specs.Steps.{Step}
+use Rattle.log_core.specs.Runs.{IsRun, end}
+use Rattle.log_core.specs.Starts.{IsStart}
+
+-- the file after the first writes of a history, as many as this
+abbrev pub file_after_first : Origin → Core → ℕ → List ℕ
+file_after_first o c writes = file_after_writes o.file (take writes c.history)
+
+-- words that a crash left of a core: they have the first writes of the history, all up to one, among them all up to the synced position, and
+-- no other. Each has 64 bits, and they stand for the file after those writes, at its position, so no condition of opening refuses them. So do
+-- the words that are cleared after their tail; and each start that is recovered from them is of that file and that position. No sync of any view was answered with a
+-- position past the synced one
+pub record IsRecovered (o : Origin) (c : Core) (words : List ℕ) : Type 0 where
+  pub writes : ℕ
+  pub to_end : writes ≤ length c.history
+  pub synced : c.synced ≤ first_position o + writes
+  pub small : AllByRecursion (λ (word : ℕ). word < 2 ^ 64) words
+  pub stands : Stands words (file_after_first o c writes) (first_position o + writes)
+  pub cleared : (chain others : List ℕ) → IsChain words (shape_of words) chain → IsCleared (shape_of words) (tail_of words (shape_of words) chain) words others →
+      Stands others (file_after_first o c writes) (first_position o + writes)
+  pub recovered : (start : Start) (file : List ℕ) (position : ℕ) → Recovered words start file position → (file ≡ file_after_first o c writes) × (position ≡ first_position o + writes)
+  pub answered : (seat : ℕ) → AllByRecursion (λ (call : Call). (position : ℕ) → call.reply ≡ Synced position → position ≤ c.synced) (view_of c.views seat).done
+
+-- so it is of all words that any crash may leave, after every run
+abbrev pub CrashesAreRecovered : Type 0
+CrashesAreRecovered = (o : Origin) (steps : List Step) (words : List ℕ) → IsStart o → IsRun o steps → Survives (end o steps).memory words → IsRecovered o (end o steps) words
