@@ -42,3 +42,4 @@ pub mod RowsReadAgain
 pub mod RowsNewHead
 pub mod RowsOldPins
 pub mod RowsCrashed
+pub mod RowsNothingLeft

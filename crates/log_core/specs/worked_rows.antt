@@ -17,3 +17,4 @@ pub mod Collecting
 pub mod GivenBack
 pub mod ReadAgain
 pub mod OldPins
+pub mod NothingLeft
