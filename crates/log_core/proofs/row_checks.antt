@@ -39,4 +39,7 @@ pub mod RowsGivenBack
 pub mod RowsOvertaken
 pub mod RowsFilled
 pub mod RowsReadAgain
+pub mod RowsNewHead
+pub mod RowsOldPins
 pub mod RowsCrashed
+pub mod RowsNothingLeft

@@ -16,3 +16,5 @@ pub mod TwoWriters
 pub mod Collecting
 pub mod GivenBack
 pub mod ReadAgain
+pub mod OldPins
+pub mod NothingLeft

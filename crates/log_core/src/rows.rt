@@ -8,6 +8,8 @@ ghost use Rattle.log_core.specs.worked_rows.TwoWriters.{TwoAtOneTail, SecondLose
 ghost use Rattle.log_core.specs.worked_rows.Collecting.{TwoCollect};
 ghost use Rattle.log_core.specs.worked_rows.GivenBack.{CollectionRuns, OvertakenRuns};
 ghost use Rattle.log_core.specs.worked_rows.ReadAgain.{ReadAgainRuns, UsedAgainRuns};
+ghost use Rattle.log_core.specs.worked_rows.OldPins.{OldPinRuns};
+ghost use Rattle.log_core.specs.worked_rows.NothingLeft.{NothingLeftRuns};
 ghost use Rattle.log_core.specs.worked_rows.Ended.{CallsEnd, WriteNotPut, SizeBeforeTail, KeptTooEarly};
 ghost use Rattle.log_core.specs.worked_rows.Joined.{SyncRuns, NoMarkOutsideOfSyncs, SeatsAreJoined};
 ghost use Rattle.log_core.specs.worked_rows.Crashed.{WriteMayBeLost, LaterWriteAlone, SyncedWriteStays, EitherHeadStands};
@@ -117,8 +119,10 @@ pub fn law_accepted()
     ensures two_collect { TwoCollect }
     ensures collection_runs { CollectionRuns }
     ensures overtaken_runs { OvertakenRuns }
+    ensures nothing_left_runs { NothingLeftRuns }
     ensures read_again_runs { ReadAgainRuns }
     ensures used_again_runs { UsedAgainRuns }
+    ensures old_pin_runs { OldPinRuns }
     ensures calls_end { CallsEnd }
     ensures sync_runs { SyncRuns }
     ensures no_mark_outside_of_syncs { NoMarkOutsideOfSyncs }

@@ -27,7 +27,7 @@ use Rattle.log_core.proofs.row_checks.RowsLate.{bytes_held, rest_held as rest_ov
 use Rattle.log_core.proofs.row_checks.RowsStepped.{enters_reached}
 use Rattle.log_core.proofs.row_checks.RowsTwoWriters.{fenced_reached}
 
-one_put_reached : IsReached image_a one_put
+pub one_put_reached : IsReached image_a one_put
 one_put_reached = enters_reached image_a two_fenced 0 1 (Exchange (Image 27) 0 to_first) [] [] (first_call ∷ []) fenced_reached (omega arith) (one_part 0) tt refl
     (λ seal. absurd (omega (arith, seal)), λ entry. may_put) tt refl (record { at_tail = refl; position = refl; seat = refl; number = refl; op = refl; fits = refl })
 
@@ -37,7 +37,7 @@ none_before zero at none inside = absurd (some_not_none 2 none)
 none_before (suc virt) at none inside = sym (get_or_past (187 ∷ []) (suc virt * 64 + at) 0 (omega arith))
 
 -- seat 1 does not yet know of the entry that it finds
-may_put_there : MayCommit image_a one_put.history (view_of one_put.views 1).seat 27 to_second
+pub may_put_there : MayCommit image_a one_put.history (view_of one_put.views 1).seat 27 to_second
 may_put_there = record {
   at_tail = record { valid = refl; ready = refl; not_won = refl; at_tail = refl };
   slot = refl;

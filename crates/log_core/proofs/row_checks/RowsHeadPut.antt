@@ -82,7 +82,7 @@ collector_replaces : replaced_by collector ≡ 3 ∷ []
 collector_replaces = one_left (is_mapped own_map 1) (is_mapped own_map 3) (is_mapped own_map 4) first_mapped (others_unmapped 3 refl) (others_unmapped 4 refl)
 
 -- what the first generation names and the second does not
-left_over : (block : ℕ) → ((3 == block) || false) ≡ (((3 == block) || ((4 == block) || ((1 == block) || false))) && not ((5 == block) || ((4 == block) || ((1 == block) || false))))
+pub left_over : (block : ℕ) → ((3 == block) || false) ≡ (((3 == block) || ((4 == block) || ((1 == block) || false))) && not ((5 == block) || ((4 == block) || ((1 == block) || false))))
 left_over block = grind (arith, nat_tests)
 
 may_put : MayExchangeHead image_a other_fenced (view_of other_fenced.views 0).ghost collector 4294967299 8589934597
@@ -111,21 +111,21 @@ may_put = record {
 pub head_reached : IsReached image_a head_put
 head_reached = step_reached image_a other_fenced 0 2 (Exchange (Image 3) 4294967299 8589934597) (NotesNamed (26 ∷ []) ∷ []) other_fenced_reached (omega arith) (one_part 0) (refl, tt) refl may_put
 
--- the core after it, with these blocks as those that it replaced
-abbrev pub put_with : List ℕ → Core
-put_with blocks = record head_put {
-  views = slice_set other_fenced.views 0 (record (view_of head_put.views 0) {
-    seat = record ((view_of head_put.views 0).seat) { giving = record ((view_of head_put.views 0).seat.giving) { replaced = blocks } };
-    ghost = record ((view_of head_put.views 0).ghost) { call = record ((view_of head_put.views 0).ghost.call) { put = Some (record { generation = 2; base = 1; replaced = length blocks; limbo = 0 }) } };
+-- a core after an exchange of the head by seat 0, for a snapshot in block 5, with these blocks as those that it replaced
+abbrev pub with_replaced : (before after : Core) → List ℕ → Core
+with_replaced before after blocks = record after {
+  views = slice_set before.views 0 (record (view_of after.views 0) {
+    seat = record ((view_of after.views 0).seat) { giving = record ((view_of after.views 0).seat.giving) { replaced = blocks } };
+    ghost = record ((view_of after.views 0).ghost) { call = record ((view_of after.views 0).ghost.call) { put = Some (record { generation = 2; base = 1; replaced = length blocks; limbo = 0 }) } };
   });
-  owner = λ block. owner_if true (5 ∷ []) InChain (owner_if true blocks (LeftTo 0) (other_fenced.owner block) block) block;
+  owner = λ block. owner_if true (5 ∷ []) InChain (owner_if true blocks (LeftTo 0) (before.owner block) block) block;
 }
 
 abbrev pub put_core : Core
-put_core = put_with (3 ∷ [])
+put_core = with_replaced other_fenced head_put (3 ∷ [])
 
 pub head_put_is : head_put ≡ put_core
-head_put_is = ap put_with collector_replaces
+head_put_is = ap (λ (blocks : List ℕ). with_replaced other_fenced head_put blocks) collector_replaces
 
 pub put_core_reached : IsReached image_a put_core
 put_core_reached = subst (λ (c : Core). IsReached image_a c) head_put_is head_reached

@@ -17,6 +17,8 @@ use Rattle.log_core.proofs.row_checks.RowsBothPut.{second_loses, two_writers_run
 use Rattle.log_core.proofs.row_checks.RowsCollecting.{two_collect}
 use Rattle.log_core.proofs.row_checks.RowsOvertaken.{collection_runs, overtaken_runs}
 use Rattle.log_core.proofs.row_checks.RowsReadAgain.{read_again_runs, used_again_runs}
+use Rattle.log_core.proofs.row_checks.RowsOldPins.{old_pin_runs}
+use Rattle.log_core.proofs.row_checks.RowsNothingLeft.{nothing_left_runs}
 use Rattle.log_core.proofs.row_checks.RowsEnded.{calls_end}
 use Rattle.log_core.proofs.row_checks.RowsJoined.{sync_runs, no_mark_outside_of_syncs, seats_are_joined}
 use Rattle.log_core.proofs.rows.law_accepted.Goals as goal
@@ -40,8 +42,10 @@ returns c = record {
   two_collect = two_collect;
   collection_runs = collection_runs;
   overtaken_runs = overtaken_runs;
+  nothing_left_runs = nothing_left_runs;
   read_again_runs = read_again_runs;
   used_again_runs = used_again_runs;
+  old_pin_runs = old_pin_runs;
   calls_end = calls_end;
   sync_runs = sync_runs;
   no_mark_outside_of_syncs = no_mark_outside_of_syncs;
