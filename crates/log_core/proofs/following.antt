@@ -22,4 +22,5 @@ pub mod FoundAtSteps
 pub mod CausesOfReplies
 pub mod FoundWorks
 pub mod CausedCalls
+pub mod StoppedRuns
 pub mod LegalRuns

@@ -1,8 +1,9 @@
 -- What follows of every run from the invariant. A run without its newest steps is a run, so what is said of the newest step is said of each.
-use Rattle.std.specs.Prelude.{ℕ, ◌%◌, ◌<◌, ◌≡◌, Bool, true, false, List, ◌∷◌, ◌++◌, Some, None}
+use Rattle.std.specs.Prelude.{ℕ, ◌%◌, ◌<◌, ◌≡◌, Bool, true, false, List, ◌∷◌, ◌++◌, IsPermutation, Some, None}
 use Rattle.std.specs.Int.{bit_at}
 use Rattle.std.specs.List.{AllByRecursion}
 use Rattle.log_entry.specs.Legal.{Legal, is_write, last_file, last_position_of}
+use Rattle.log_entry.specs.Order.{IsInOrder}
 use Rattle.log_entry.specs.declared.calls.Op.{Op}
 use Rattle.log_entry.specs.declared.calls.Call.{Call}
 use Rattle.pmem_words.specs.Owned.{is_among}
@@ -20,7 +21,7 @@ use Rattle.log_core.specs.Records.{NeverFall}
 use Rattle.log_core.specs.Invariant.{KeptIn}
 use Rattle.log_core.specs.Runs.{IsRun, end}
 use Rattle.log_core.specs.Starts.{IsStart}
-use Rattle.log_core.specs.Histories.{recorded_calls, Ran, HasCollections}
+use Rattle.log_core.specs.Histories.{recorded_calls, running_writes, Ran, HasCollections}
 
 -- a block that a kept generation names
 pub record IsNeeded (o : Origin) (c : Core) (block : ℕ) : Type 0 where
@@ -54,6 +55,17 @@ pub record IsOneHistory (o : Origin) (c : Core) (calls : List Call) : Type 0 whe
 -- so are the calls of each run that ends with no call running
 abbrev pub RunsAreLegal : Type 0
 RunsAreLegal = (o : Origin) (calls : List Call) (c : Core) → IsStart o → Ran o calls c → NoCallRuns c → IsOneHistory o c calls
+
+-- the calls are one legal history, from the start's file and position to the end of the writes and the file there
+pub record IsWholeHistory (o : Origin) (c : Core) (calls : List Call) : Type 0 where
+  pub legal : Legal o.geometry.block_bytes o.file (first_position o) calls
+  pub to_end : last_position_of (first_position o) calls ≡ end_of o c.history
+  pub to_file : last_file o.file calls ≡ file_at o c.history (end_of o c.history)
+
+-- so are the calls of each run wherever it stops, with the writes that running calls have put in, in the order of a report
+abbrev pub StoppedRunsAreLegal : Type 0
+StoppedRunsAreLegal = (o : Origin) (calls whole : List Call) (c : Core) → IsStart o → Ran o calls c →
+    IsPermutation (calls ++ running_writes o c) whole → IsInOrder whole → IsWholeHistory o c whole
 
 -- a seat made a step of its call of this number, asking this, and behind it the position was the end: there a view finds its tail empty.
 -- An accepted write was put in by that step: the end was a smaller one before it

@@ -1,15 +1,16 @@
 -- The calls of a run as one history: with the calls that make no step, in the order of a report; and its collections.
-use Rattle.std.specs.Prelude.{ℕ, ◌+◌, ◌^◌, ◌<◌, ◌≤◌, ◌≡◌, ◌≢◌, ◌⊎◌, ◌==◌, ◌-◌, max, true, List, [], ◌∷◌, ◌++◌, length, map, IsPermutation, None}
+use Rattle.std.specs.Prelude.{ℕ, ◌+◌, ◌^◌, ◌<◌, ◌≤◌, ◌≡◌, ◌≢◌, ◌⊎◌, ◌==◌, ◌-◌, max, Bool, true, List, [], ◌∷◌, ◌++◌, length, map, IsPermutation, Option, Some, None}
 use Rattle.std.specs.List.{AllByRecursion, flat_map, list_any}
 use Rattle.log_entry.specs.Legal.{Answers}
 use Rattle.log_entry.specs.Order.{IsInOrder}
+use Rattle.log_entry.specs.declared.calls.Op.{Op}
 use Rattle.log_entry.specs.declared.calls.CollectRefusal.TheVariants.{Nothing, Overtaken, GenerationLimit}
 use Rattle.log_entry.specs.declared.calls.Reply.{Reply}
 use Rattle.log_entry.specs.declared.calls.Reply.TheVariants.{Collected, NotCollected}
 use Rattle.log_entry.specs.declared.calls.Call.{Call}
 use Rattle.log_core.specs.Views.{View, view_of, op_in}
 use Rattle.log_core.specs.Origin.{Origin}
-use Rattle.log_core.specs.Files.{file_at}
+use Rattle.log_core.specs.Files.{Write, accepted_reply, file_at}
 use Rattle.log_core.specs.Cores.{Core}
 use Rattle.log_core.specs.Works.{is_quiet}
 use Rattle.log_core.specs.Steps.{Step}
@@ -18,6 +19,22 @@ use Rattle.log_core.specs.Runs.{IsRun, end}
 -- the records of all views
 abbrev pub recorded_calls : List View → List Call
 recorded_calls views = flat_map (λ (v : View). v.done) views
+
+-- a write that a running call has put in, whose record is not added yet, as the call that it will be: at its position, with the reply of
+-- an accepted write
+abbrev pub running_write : Origin → List Write → View → Bool → Option Op → List Call
+running_write o history v true (Some op) = record {
+  position = v.seat.walk.position;
+  seat = v.seat.number;
+  number = v.ghost.call.number;
+  op = op;
+  reply = accepted_reply op (length (file_at o history (v.seat.walk.position - 1)));
+} ∷ []
+running_write o history v _ _ = []
+
+-- those of all views
+abbrev pub running_writes : Origin → Core → List Call
+running_writes o c = flat_map (λ (v : View). running_write o c.history v v.seat.calling.won (op_in v.seat)) c.views
 
 -- the greatest position of some calls, or a first one
 abbrev pub greatest_position : ℕ → List Call → ℕ

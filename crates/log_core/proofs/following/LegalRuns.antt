@@ -1,43 +1,32 @@
 -- The calls of a run that ends with no call running are one legal history.
-use Rattle.std.proofs.Common.{◌≡◌, ◌<◌, ◌≤◌, ◌+◌, ◌-◌, ◌==◌, ◌&&◌, ℕ, Bool, true, false, not, if◌then◌else◌, List, [], ◌∷◌, ◌++◌, take, IsPermutation, refl, sym, ◌∙◌, ap, subst, arith, sum_by}
+use Rattle.std.proofs.Common.{◌≡◌, ℕ, List, [], ◌∷◌, ◌++◌, IsPermutation, refl, sym, ◌∙◌, ap, subst, arith, sum_by, append-nil}
 use Rattle.std.specs.List.{AllByRecursion}
-use Rattle.std.proofs.lemmas.List.Sorted.{sum_by-IsPermutation}
+use Rattle.std.proofs.lemmas.List.Sorted.{sum_by-IsPermutation, IsPermutation-refl}
 use Rattle.std.proofs.lemmas.List.Sums.{sum_by-cons}
-use Rattle.std.proofs.lemmas.Bool.{le-ltb}
-use Rattle.log_entry.specs.Legal.{is_write}
 use Rattle.log_entry.specs.Order.{IsInOrder}
 use Rattle.log_entry.specs.declared.calls.Call.{Call}
-use Rattle.log_image.proofs.ListLemmas.{each_join}
-use Rattle.log_core.specs.Origin.{Origin, first_position, first_generation, Generation}
-use Rattle.log_core.specs.Files.{end_of, file_at, file_after_writes, early_file}
+use Rattle.log_core.specs.Origin.{Origin, first_generation, Generation}
 use Rattle.log_core.specs.Cores.{Core}
 use Rattle.log_core.specs.Steps.{Step}
-use Rattle.log_core.specs.Records.{one_if, writes_at, collects, collected_in, SaysOfGenerations}
+use Rattle.log_core.specs.Records.{collects, collected_in, SaysOfGenerations}
 use Rattle.log_core.specs.Runs.{IsRun, end}
 use Rattle.log_core.specs.Starts.{IsStart}
 use Rattle.log_core.specs.Invariant.{Invariant}
-use Rattle.log_core.specs.Histories.{recorded_calls, IsQuietCall, AreQuiet}
+use Rattle.log_core.specs.Histories.{recorded_calls, running_writes, IsQuietCall, AreQuiet}
 use Rattle.log_core.specs.Following.{NoCallRuns, IsOneHistory, RunsAreLegal}
 use Rattle.log_core.proofs.Each.{each_weaker}
-use Rattle.log_core.proofs.clauses.JoinedParts.{writes_join, collected_join}
+use Rattle.log_core.proofs.clauses.JoinedParts.{collected_join}
 use Rattle.log_core.proofs.starts.StartMeets.{start_meets}
 use Rattle.log_core.proofs.kinds.RunHolds.{run_from}
-use Rattle.log_core.proofs.following.Rising.{place_number, AllFrom, Rises, rises_in_order}
-use Rattle.log_core.proofs.following.Stands.{Stands, LeadsTo, legal_from}
+use Rattle.log_core.proofs.following.Rising.{Rises, rises_in_order}
+use Rattle.log_core.proofs.following.Stands.{Stands}
 use Rattle.log_core.proofs.following.InTurn.{PutOnce}
 use Rattle.log_core.proofs.following.CollectedCalls.{has_collections}
 use Rattle.log_core.proofs.following.Moments.{first_stays}
-use Rattle.log_core.proofs.following.RecordedCalls.{records_stand, written_once, put_once}
-use Rattle.log_core.proofs.following.CallsInTime.{each_quiet, each_permuted, calls_never_fall}
-use Rattle.log_core.proofs.following.QuietCalls.{no_write_quiet, no_collection_quiet, quiet_stands}
-
--- the counts of the same calls in another order are the same
-writes_sum : (position : ℕ) (calls : List Call) → writes_at position calls ≡ sum_by (λ (call : Call). one_if (is_write call.op call.reply && (call.position == position))) calls
-writes_sum position [] = refl
-writes_sum position (call ∷ calls) = (let rest = writes_sum position calls in let cons = sum_by-cons (λ (c : Call). one_if (is_write c.op c.reply && (c.position == position))) call calls in omega (arith, rest, cons))
-
-writes_permuted : (position : ℕ) (calls others : List Call) → IsPermutation calls others → writes_at position others ≡ writes_at position calls
-writes_permuted position calls others same = writes_sum position others ∙ (sum_by-IsPermutation (λ (c : Call). one_if (is_write c.op c.reply && (c.position == position))) calls others same ∙ sym (writes_sum position calls))
+use Rattle.log_core.proofs.following.RecordedCalls.{none_running, put_once}
+use Rattle.log_core.proofs.following.StoppedRuns.{calls_stand, whole_history}
+use Rattle.log_core.proofs.following.CallsInTime.{each_quiet, calls_never_fall}
+use Rattle.log_core.proofs.following.QuietCalls.{no_collection_quiet}
 
 collected_sum : (generation : ℕ) (calls : List Call) → collected_in generation calls ≡ sum_by (λ (call : Call). collects generation call.reply) calls
 collected_sum generation [] = refl
@@ -46,18 +35,9 @@ collected_sum generation (call ∷ calls) = (let rest = collected_sum generation
 collected_permuted : (generation : ℕ) (calls others : List Call) → IsPermutation calls others → collected_in generation others ≡ collected_in generation calls
 collected_permuted generation calls others same = collected_sum generation others ∙ (sum_by-IsPermutation (λ (c : Call). collects generation c.reply) calls others same ∙ sym (collected_sum generation calls))
 
-no_writes : (position : ℕ) (calls : List Call) → AllByRecursion (λ (call : Call). is_write call.op call.reply ≡ false) calls → writes_at position calls ≡ 0
-no_writes position [] none = refl
-no_writes position (call ∷ calls) none = (let rest = no_writes position calls none.1 in let here = ap (λ (b : Bool). one_if (b && (call.position == position))) none.0 in omega (arith, rest, here))
-
 no_collections : (generation : ℕ) (calls : List Call) → AllByRecursion (λ (call : Call). collects generation call.reply ≡ 0) calls → collected_in generation calls ≡ 0
 no_collections generation [] none = refl
 no_collections generation (call ∷ calls) none = (let rest = no_collections generation calls none.1 in let here = none.0 in omega (arith, rest, here))
-
--- the file at the start's position
-start_file : (o : Origin) (c : Core) → file_at o c.history (first_position o) ≡ o.file
-start_file o c = ap (λ (early : Bool). if early then early_file o (first_position o) else file_after_writes o.file (take (first_position o - first_position o) c.history)) (le-ltb (first_position o) (first_position o) (omega arith))
-    ∙ (let none : first_position o - first_position o ≡ 0 = omega arith in ap (λ (count : ℕ). file_after_writes o.file (take count c.history)) none)
 
 module _ (o : Origin) (start : IsStart o) (steps : List Step) (run : IsRun o steps) (idle : NoCallRuns (end o steps)) (quiet calls : List Call)
     (are : AreQuiet o (end o steps) steps quiet) (same : IsPermutation (recorded_calls (end o steps).views ++ quiet) calls) (order : IsInOrder calls) where
@@ -74,17 +54,7 @@ module _ (o : Origin) (start : IsStart o) (steps : List Step) (run : IsRun o ste
   inv = run_from o steps (start_meets o start) run
 
   stand : AllByRecursion (Stands o c.history c.generations) calls
-  stand = each_permuted (Stands o c.history c.generations) (recorded_calls c.views ++ quiet) calls same
-      (each_join (Stands o c.history c.generations) (recorded_calls c.views) quiet (records_stand o c inv idle)
-      (each_weaker (IsQuietCall o steps c) (Stands o c.history c.generations) quiet (λ call is. quiet_stands o steps start run c.generations call is) are_quiet))
-
-  writes_once : (position : ℕ) → first_position o < position → position ≤ end_of o c.history → writes_at position calls ≡ 1
-  writes_once position late upto =
-      (let permuted = writes_permuted position (recorded_calls c.views ++ quiet) calls same in
-      let both = writes_join position (recorded_calls c.views) quiet in
-      let once = written_once o c inv idle position late upto in
-      let none = no_writes position quiet (each_weaker (IsQuietCall o steps c) (λ (call : Call). is_write call.op call.reply ≡ false) quiet (λ call is. no_write_quiet o steps start run c.generations call is) are_quiet) in
-      omega (arith, permuted, both, once, none))
+  stand = calls_stand o start steps run quiet calls are same
 
   puts_once : PutOnce o c.generations (first_generation o) calls
   puts_once generation low below =
@@ -94,30 +64,15 @@ module _ (o : Origin) (start : IsStart o) (steps : List Step) (run : IsRun o ste
       let none = no_collections generation quiet (each_weaker (IsQuietCall o steps c) (λ (call : Call). collects generation call.reply ≡ 0) quiet (λ call is. no_collection_quiet o steps start run c.generations call is generation) are_quiet) in
       omega (arith, permuted, both, once, none))
 
-  -- each stands at or behind the start's position, and where it is a write behind it
-  after_start : AllFrom (first_position o + first_position o + 1) calls
-  after_start = each_weaker (Stands o c.history c.generations) (λ (call : Call). first_position o + first_position o + 1 ≤ place_number call) calls (λ call stands. go call (is_write call.op call.reply) stands.holds.write_after stands.holds.from_first) stand
-    where
-      go : (call : Call) (write : Bool) → (write ≡ true → first_position o < call.position) → first_position o ≤ call.position →
-          first_position o + first_position o + 1 ≤ call.position + call.position + one_if (not write)
-      go call true after low = (let less = after refl in omega (arith, less))
-      go call false after low = omega (arith, low)
-
-  leads : LeadsTo o.geometry.block_bytes (file_at o c.history (first_position o)) (first_position o) calls (file_at o c.history (end_of o c.history)) (end_of o c.history)
-  leads = legal_from o c.history c.generations (first_position o) calls (record {
-    from_first = omega arith;
-    to_end = omega arith;
-    all = stand;
-    rises = rises;
-    behind = after_start;
-    once = writes_once;
-  })
+  -- no write is put in, so the calls are the whole
+  none_put_in : IsPermutation (calls ++ running_writes o c) calls
+  none_put_in = subst (λ (all : List Call). IsPermutation all calls) (sym (ap (λ (others : List Call). calls ++ others) (none_running o c inv idle) ∙ append-nil calls)) (IsPermutation-refl calls)
 
   one_history : IsOneHistory o c calls
-  one_history = (let there = subst (λ (file : List ℕ). LeadsTo o.geometry.block_bytes file (first_position o) calls (file_at o c.history (end_of o c.history)) (end_of o c.history)) (start_file o c) leads in record {
+  one_history = (let there = whole_history o start steps run quiet calls are same calls none_put_in order in record {
     legal = there.legal;
-    to_end = there.end_is;
-    to_file = there.last_is;
+    to_end = there.to_end;
+    to_file = there.to_file;
     each_seat = calls_never_fall o steps start run quiet are calls same order;
     collected = has_collections o c.generations inv.order.generations_rise.rise (first_stays o steps).some (ap (λ (g : Generation). g.base) (first_stays o steps).same) calls
         (each_weaker (Stands o c.history c.generations) (λ (call : Call). SaysOfGenerations o c.generations call.position call.reply) calls (λ call stands. stands.holds.of_generations) stand)

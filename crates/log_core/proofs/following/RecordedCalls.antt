@@ -1,22 +1,26 @@
--- The records of all views of a core, once no call runs: each stands in the history, and each write and each generation is there once.
-use Rattle.std.proofs.Common.{◌≡◌, ◌≢◌, ◌⊎◌, inl, inr, ⊎_elim, ◌<◌, ◌≤◌, ◌+◌, ◌-◌, ◌==◌, ◌||◌, ℕ, suc, Bool, true, false, List, [], ◌∷◌, length, refl, sym, ◌∙◌, ap, arith, Option, Some, None}
-use Rattle.std.specs.List.{AllByRecursion}
+-- The records of all views of a core, with the writes that running calls have put in: each stands in the history, and each write is there once;
+-- and so is each generation, once no call runs.
+use Rattle.std.proofs.Common.{◌≡◌, ◌≢◌, ◌⊎◌, inl, inr, ⊎_elim, ◌<◌, ◌≤◌, ◌+◌, ◌-◌, ◌==◌, ◌||◌, ◌&&◌, if◌then◌else◌, ℕ, suc, Bool, true, false, List, [], ◌∷◌, ◌++◌, length, refl, sym, ◌∙◌, ap, subst, arith, Option, Some, None}
+use Rattle.std.specs.List.{AllByRecursion, flat_map}
 use Rattle.std.proofs.lemmas.Bool.{lt-ltb, false_from_ne_true}
-use Rattle.log_entry.specs.Legal.{is_write}
-use Rattle.log_entry.specs.declared.calls.Op.TheVariants.{Collect as CollectOp}
+use Rattle.log_entry.specs.Legal.{Answers, is_write}
+use Rattle.log_entry.specs.declared.calls.Op.{Op}
+use Rattle.log_entry.specs.declared.calls.Op.TheVariants.{Pwrite, Append, Pread, Size, Sync, Collect, Collect as CollectOp}
 use Rattle.log_entry.specs.declared.calls.Call.{Call}
 use Rattle.log_image.specs.Chains.{is_listed}
 use Rattle.log_image.proofs.ListLemmas.{each_join}
 use Rattle.pmem_words.specs.declared.keeps.Task.{Task}
 use Rattle.log_core.specs.Views.{View, HeadPut, view_of, op_in, op_of}
-use Rattle.log_core.specs.Origin.{Origin, first_position, first_generation}
-use Rattle.log_core.specs.Files.{Write, no_write, write_at, call_of, end_of}
+use Rattle.log_core.specs.Origin.{Origin, first_position, first_generation, Generation}
+use Rattle.log_core.specs.Files.{Write, no_write, write_at, call_of, accepted_reply, file_at, end_of}
 use Rattle.log_core.specs.Cores.{Core, current}
-use Rattle.log_core.specs.Records.{one_if, writes_at, count_in, parts_with, collected_in, collected_by, putting, RecordHolds}
-use Rattle.log_core.specs.Histories.{recorded_calls}
+use Rattle.log_core.specs.Records.{one_if, writes_at, count_in, parts_with, collected_in, collected_by, putting, running_at, SaysOfGenerations, RecordHolds}
+use Rattle.log_core.specs.Histories.{recorded_calls, running_write, running_writes}
 use Rattle.log_core.specs.Following.{NoCallRuns}
 use Rattle.log_core.specs.Invariant.{Invariant}
 use Rattle.log_core.proofs.Each.{each_weaker, each_both, each_at}
+use Rattle.log_core.proofs.HistoryFiles.{some_bytes, size_before, write_answers}
+use Rattle.log_core.proofs.clauses.GrowCore.{position_low}
 use Rattle.log_core.proofs.clauses.GrownRecords.{count_some, part_of}
 use Rattle.log_core.proofs.clauses.JoinedParts.{writes_join, collected_join}
 use Rattle.log_core.proofs.clauses.Others.{unspent_made}
@@ -28,16 +32,23 @@ pub each_view : (P : View → Type 0) (views : List View) → ((k : ℕ) → P (
 each_view P [] at = tt
 each_view P (v ∷ views) at = (at 0, each_view P views (λ k. at (suc k)))
 
+-- what holds of some calls of each view, holds of those of all
+each_of_views : (P : Call → Type 0) (calls : View → List Call) (views : List View) → AllByRecursion (λ (v : View). AllByRecursion P (calls v)) views → AllByRecursion P (flat_map calls views)
+each_of_views P calls [] all = tt
+each_of_views P calls (v ∷ views) all = each_join P (calls v) (flat_map calls views) all.0 (each_of_views P calls views all.1)
+
 -- what holds of each view's records, holds of all
 pub each_record : (P : Call → Type 0) (views : List View) → AllByRecursion (λ (v : View). AllByRecursion P v.done) views → AllByRecursion P (recorded_calls views)
-each_record P [] all = tt
-each_record P (v ∷ views) all = each_join P v.done (recorded_calls views) all.0 (each_record P views all.1)
+each_record P views all = each_of_views P (λ (v : View). v.done) views all
 
--- a position's writes in all views are as many as a seat is a part, where each view has it so
-writes_over : (position seat : ℕ) (views : List View) → AllByRecursion (λ (v : View). writes_at position v.done ≡ count_in v.parts seat) views → writes_at position (recorded_calls views) ≡ parts_with views seat
-writes_over position seat [] all = refl
-writes_over position seat (v ∷ views) all =
-    (let both = writes_join position v.done (recorded_calls views) in let rest = writes_over position seat views all.1 in let here = all.0 in omega (arith, both, rest, here))
+-- a position's writes in all views, with those of other calls of each, are as many as a seat is a part, where each view has it so
+writes_over : (position seat : ℕ) (others : View → List Call) (views : List View) →
+    AllByRecursion (λ (v : View). writes_at position v.done + writes_at position (others v) ≡ count_in v.parts seat) views →
+    writes_at position (recorded_calls views) + writes_at position (flat_map others views) ≡ parts_with views seat
+writes_over position seat others [] all = refl
+writes_over position seat others (v ∷ views) all =
+    (let both = writes_join position v.done (recorded_calls views) in let more = writes_join position (others v) (flat_map others views) in let rest = writes_over position seat others views all.1 in let here = all.0 in
+    omega (arith, both, more, rest, here))
 
 -- a generation is recorded as often as it was put in place, where no call has put one without a record
 collected_over : (generation : ℕ) (views : List View) → AllByRecursion (λ (v : View). v.ghost.call.put ≡ None) views → collected_in generation (recorded_calls views) ≡ collected_by generation views
@@ -69,7 +80,21 @@ none_put : (put : Option HeadPut) → (put ≢ None → ⊥) → put ≡ None
 none_put None never = refl
 none_put (Some head) never = absurd (never (λ e. cc))
 
-module _ (o : Origin) (c : Core) (inv : Invariant o c) (idle : NoCallRuns c) where
+-- where no view has calls, all have none
+none_of_views : (calls : View → List Call) (views : List View) → AllByRecursion (λ (v : View). calls v ≡ []) views → flat_map calls views ≡ []
+none_of_views calls [] all = refl
+none_of_views calls (v ∷ views) all = ap (λ (here : List Call). here ++ flat_map calls views) all.0 ∙ none_of_views calls views all.1
+
+-- an accepted write says nothing of generations
+write_says_nothing : (o : Origin) (generations : List Generation) (position : ℕ) (op : Op) (at : ℕ) → SaysOfGenerations o generations position (accepted_reply op at)
+write_says_nothing o generations position (Pwrite offset bytes) at = tt
+write_says_nothing o generations position (Append bytes) at = tt
+write_says_nothing o generations position (Pread offset count) at = tt
+write_says_nothing o generations position Size at = tt
+write_says_nothing o generations position Sync at = tt
+write_says_nothing o generations position Collect at = tt
+
+module _ (o : Origin) (c : Core) (inv : Invariant o c) where
   view_records : (k : ℕ) → AllByRecursion (Stands o c.history c.generations) (view_of c.views k).done
   view_records k = each_weaker (λ (call : Call). RecordHolds o c.history c.generations call × Fits call) (Stands o c.history c.generations) (view_of c.views k).done
       (λ call both. record { holds = both.0; written = λ write. (both.1 write).2 })
@@ -82,14 +107,85 @@ module _ (o : Origin) (c : Core) (inv : Invariant o c) (idle : NoCallRuns c) whe
   pub records_stand : AllByRecursion (Stands o c.history c.generations) (recorded_calls c.views)
   records_stand = each_record (Stands o c.history c.generations) c.views (each_view (λ (v : View). AllByRecursion (Stands o c.history c.generations) v.done) c.views view_records)
 
-  -- no view has put in an entry, or a head, that has no record
-  not_won : (k : ℕ) → (view_of c.views k).seat.calling.won ≡ false
-  not_won k = false_from_ne_true (view_of c.views k).seat.calling.won (λ won. (inv.records.calls k).task.won_runs won (idle k))
+  -- and so does each write of it
+  write_stands : (position : ℕ) → first_position o < position → position ≤ end_of o c.history → Stands o c.history c.generations (call_of position (write_at o c.history position))
+  write_stands position late upto = record {
+    holds = record {
+      to_end = upto;
+      from_first = omega (arith, late);
+      write_after = λ write. late;
+      answers = subst (λ (p : ℕ). Answers o.geometry.block_bytes p (file_at o c.history p) w.op (accepted_reply w.op w.at))
+          (sym (ap (λ (b : Bool). if b then position - 1 else position) (some_bytes o c inv position late upto))) (write_answers o c inv position late upto);
+      of_generations = write_says_nothing o c.generations position w.op w.at;
+    };
+    written = λ write. refl;
+  }
+    where
+      w : Write
+      w = write_at o c.history position
 
-  not_put : (k : ℕ) → (view_of c.views k).ghost.call.put ≡ None
-  not_put k = none_put (view_of c.views k).ghost.call.put (λ some.
-      (let runs : op_in (view_of c.views k).seat ≡ Some CollectOp = ap (λ (job : Task). op_of job (view_of c.views k).seat.calling.bytes) ((inv.records.calls k).task.put_collects some) in
-      let mixed : Some CollectOp ≡ None = sym runs ∙ idle k in cc))
+  -- the write that a view's running call has put in, if it has
+  abbrev put_in : View → List Call
+  put_in v = running_write o c.history v v.seat.calling.won (op_in v.seat)
+
+  module _ (k : ℕ) (won : (view_of c.views k).seat.calling.won ≡ true) where
+    abbrev v : View
+    v = view_of c.views k
+
+    abbrev at : ℕ
+    at = v.seat.walk.position
+
+    abbrev mine : Write
+    mine = write_at o c.history at
+
+    at_late : first_position o < at
+    at_late = ((inv.records.writes k).running won).0
+
+    at_upto : at ≤ end_of o c.history
+    at_upto = position_low o c inv k
+
+    -- it is the history's
+    put_in_is : put_in v ≡ call_of at mine ∷ []
+    put_in_is = ap (λ (b : Bool). running_write o c.history v b (op_in v.seat)) won
+        ∙ (ap (λ (op : Option Op). running_write o c.history v true op) ((inv.records.writes k).running won).3
+        ∙ (ap (λ (seat : ℕ). called seat v.ghost.call.number (length (file_at o c.history (at - 1)))) (sym ((inv.records.writes k).running won).1)
+        ∙ (ap (λ (number : ℕ). called mine.seat number (length (file_at o c.history (at - 1)))) (sym ((inv.records.writes k).running won).2)
+        ∙ ap (λ (size : ℕ). called mine.seat mine.number size) (sym (size_before o c inv at at_late at_upto)))))
+      where
+        called : ℕ → ℕ → ℕ → List Call
+        called seat number size = record { position = at; seat = seat; number = number; op = mine.op; reply = accepted_reply mine.op size } ∷ []
+
+    won_stands : AllByRecursion (Stands o c.history c.generations) (put_in v)
+    won_stands = subst (λ (calls : List Call). AllByRecursion (Stands o c.history c.generations) calls) (sym put_in_is) (write_stands at at_late at_upto, tt)
+
+    won_counted : (position : ℕ) → writes_at position (put_in v) ≡ running_at position v.seat
+    won_counted position =
+        (let same = ap (λ (calls : List Call). writes_at position calls) put_in_is in
+        let write = ap (λ (b : Bool). one_if (b && (at == position))) (some_bytes o c inv at at_late at_upto) in
+        let runs = ap (λ (b : Bool). one_if (b && (at == position))) won in
+        omega (arith, same, write, runs))
+
+  -- a view whose call has put in none has none
+  none_put_in : (v : View) → v.seat.calling.won ≡ false → put_in v ≡ []
+  none_put_in v none = ap (λ (b : Bool). running_write o c.history v b (op_in v.seat)) none
+
+  put_in_stands : (k : ℕ) → AllByRecursion (Stands o c.history c.generations) (put_in (view_of c.views k))
+  put_in_stands k = by (view_of c.views k).seat.calling.won refl
+    where
+      by : (b : Bool) → (view_of c.views k).seat.calling.won ≡ b → AllByRecursion (Stands o c.history c.generations) (put_in (view_of c.views k))
+      by true won = won_stands k won
+      by false none = subst (λ (calls : List Call). AllByRecursion (Stands o c.history c.generations) calls) (sym (none_put_in (view_of c.views k) none)) tt
+
+  put_in_counted : (k position : ℕ) → writes_at position (put_in (view_of c.views k)) ≡ running_at position (view_of c.views k).seat
+  put_in_counted k position = by (view_of c.views k).seat.calling.won refl
+    where
+      by : (b : Bool) → (view_of c.views k).seat.calling.won ≡ b → writes_at position (put_in (view_of c.views k)) ≡ running_at position (view_of c.views k).seat
+      by true won = won_counted k won position
+      by false none = ap (λ (calls : List Call). writes_at position calls) (none_put_in (view_of c.views k) none) ∙ sym (running_none position (view_of c.views k).seat none)
+
+  -- each write that a running call has put in stands in the history
+  pub running_stand : AllByRecursion (Stands o c.history c.generations) (running_writes o c)
+  running_stand = each_of_views (Stands o c.history c.generations) put_in c.views (each_view (λ (v : View). AllByRecursion (Stands o c.history c.generations) (put_in v)) c.views put_in_stands)
 
   module _ (position : ℕ) (late : first_position o < position) (upto : position ≤ end_of o c.history) where
     abbrev writer : ℕ
@@ -101,22 +197,36 @@ module _ (o : Origin) (c : Core) (inv : Invariant o c) (idle : NoCallRuns c) whe
     one_part : parts_with c.views writer ≡ 1
     one_part = inv.records.seats_once.once writer ∙ ap one_if (lt-ltb writer (length c.views) writer_made)
 
-    in_view : (k : ℕ) → writes_at position (view_of c.views k).done ≡ count_in (view_of c.views k).parts writer
+    in_view : (k : ℕ) → writes_at position (view_of c.views k).done + writes_at position (put_in (view_of c.views k)) ≡ count_in (view_of c.views k).parts writer
     in_view k = ⊎_elim
-        (λ (none : (view_of c.views k).parts ≡ []). (let spent = inv.sizes.spent k none in ap (λ (v : View). writes_at position v.done) spent ∙ sym (ap (λ (v : View). count_in v.parts writer) spent)))
+        (λ (none : (view_of c.views k).parts ≡ []). (let spent = inv.sizes.spent k none in
+        subst (λ (v : View). writes_at position v.done + writes_at position (put_in v) ≡ count_in v.parts writer) (sym spent) refl))
         (λ (some : (view_of c.views k).parts ≢ []).
         (let most = part_of c.views k writer (unspent_made c.views k some) in
         let one = one_part in
         let listed = count_listed (view_of c.views k).parts writer (omega (arith, most, one)) in
         let counted = inv.records.writes_once k some position late upto in
-        let none = running_none position (view_of c.views k).seat (not_won k) in
-        omega (arith, listed, counted, none)))
+        let running = put_in_counted k position in
+        omega (arith, listed, counted, running)))
         (no_parts (view_of c.views k).parts)
 
-    -- the write of each position is recorded once, by all views together
-    pub written_once : writes_at position (recorded_calls c.views) ≡ 1
-    written_once = writes_over position writer c.views (each_view (λ (v : View). writes_at position v.done ≡ count_in v.parts writer) c.views in_view) ∙ one_part
+    -- the write of each position is there once: recorded, or put in by a running call
+    pub written_once : writes_at position (recorded_calls c.views) + writes_at position (running_writes o c) ≡ 1
+    written_once = writes_over position writer put_in c.views (each_view (λ (v : View). writes_at position v.done + writes_at position (put_in v) ≡ count_in v.parts writer) c.views in_view) ∙ one_part
 
-  -- and each generation above the first
-  pub put_once : (generation : ℕ) → first_generation o < generation → generation ≤ current o c.generations → collected_in generation (recorded_calls c.views) ≡ 1
-  put_once generation low upto = collected_over generation c.views (each_view (λ (v : View). v.ghost.call.put ≡ None) c.views not_put) ∙ inv.records.collected_once generation low upto
+  module _ (idle : NoCallRuns c) where
+    -- no view has put in an entry, or a head, that has no record
+    not_won : (k : ℕ) → (view_of c.views k).seat.calling.won ≡ false
+    not_won k = false_from_ne_true (view_of c.views k).seat.calling.won (λ won. (inv.records.calls k).task.won_runs won (idle k))
+
+    not_put : (k : ℕ) → (view_of c.views k).ghost.call.put ≡ None
+    not_put k = none_put (view_of c.views k).ghost.call.put (λ some.
+        (let runs : op_in (view_of c.views k).seat ≡ Some CollectOp = ap (λ (job : Task). op_of job (view_of c.views k).seat.calling.bytes) ((inv.records.calls k).task.put_collects some) in
+        let mixed : Some CollectOp ≡ None = sym runs ∙ idle k in cc))
+
+    pub none_running : running_writes o c ≡ []
+    none_running = none_of_views put_in c.views (each_view (λ (v : View). put_in v ≡ []) c.views (λ k. none_put_in (view_of c.views k) (not_won k)))
+
+    -- and each generation above the first is recorded once
+    pub put_once : (generation : ℕ) → first_generation o < generation → generation ≤ current o c.generations → collected_in generation (recorded_calls c.views) ≡ 1
+    put_once generation low upto = collected_over generation c.views (each_view (λ (v : View). v.ghost.call.put ≡ None) c.views not_put) ∙ inv.records.collected_once generation low upto
