@@ -23,4 +23,5 @@ pub mod CausesOfReplies
 pub mod FoundWorks
 pub mod CausedCalls
 pub mod StoppedRuns
+pub mod StoppedSeats
 pub mod LegalRuns

@@ -67,6 +67,15 @@ abbrev pub StoppedRunsAreLegal : Type 0
 StoppedRunsAreLegal = (o : Origin) (calls whole : List Call) (c : Core) → IsStart o → Ran o calls c →
     IsPermutation (calls ++ running_writes o c) whole → IsInOrder whole → IsWholeHistory o c whole
 
+-- each of some calls has a smaller number than those of its seat among others
+abbrev pub ComeBefore : List Call → List Call → Type 0
+ComeBefore calls others = AllByRecursion (λ (call : Call). AllByRecursion (λ (other : Call). call.seat ≡ other.seat → call.number < other.number) others) calls
+
+-- and each seat's calls stand in it by their numbers, where a quiet call's number is below that of its seat's running call: that one began later
+abbrev pub StoppedSeatsInOrder : Type 0
+StoppedSeatsInOrder = (o : Origin) (calls whole : List Call) (c : Core) → IsStart o → (ran : Ran o calls c) → ComeBefore ran.quiet (running_writes o c) →
+    IsPermutation (calls ++ running_writes o c) whole → IsInOrder whole → (seat : ℕ) → NeverFall seat 0 0 whole
+
 -- a seat made a step of its call of this number, asking this, and behind it the position was the end: there a view finds its tail empty.
 -- An accepted write was put in by that step: the end was a smaller one before it
 pub record IsSeen (o : Origin) (steps : List Step) (seat number position : ℕ) (op : Op) (won : Bool) : Type 0 where

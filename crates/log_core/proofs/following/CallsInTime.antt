@@ -55,7 +55,7 @@ counted_sum : (seat number : ℕ) (calls : List Call) → count_calls seat numbe
 counted_sum seat number [] = refl
 counted_sum seat number (call ∷ calls) = (let rest = counted_sum seat number calls in let cons = sum_by-cons (λ (c : Call). one_if (is_call seat number c)) call calls in omega (arith, rest, cons))
 
-counted_permuted : (seat number : ℕ) (calls others : List Call) → IsPermutation calls others → count_calls seat number others ≡ count_calls seat number calls
+pub counted_permuted : (seat number : ℕ) (calls others : List Call) → IsPermutation calls others → count_calls seat number others ≡ count_calls seat number calls
 counted_permuted seat number calls others same = counted_sum seat number others ∙ (sum_by-IsPermutation (λ (c : Call). one_if (is_call seat number c)) calls others same ∙ sym (counted_sum seat number calls))
 
 module _ (o : Origin) (steps : List Step) (start : IsStart o) (run : IsRun o steps) where
@@ -120,14 +120,14 @@ module _ (o : Origin) (steps : List Step) (start : IsStart o) (run : IsRun o ste
         Either : Call → Type 0
         Either a = a.seat ≡ b.seat → (a.number ≤ number) ⊎ (b.number < a.number)
 
-    in_time : InTime all
+    pub in_time : InTime all
     in_time = each_join (λ (b : Call). AllByRecursion (λ (a : Call). AreInTime a b) all) recorded quiet
         (each_weaker (IsCallSeen o steps) (λ (b : Call). AllByRecursion (λ (a : Call). AreInTime a b) all) recorded (λ b seen_b. before_seen b seen_b) seen)
         (each_weaker (λ (b : Call). IsQuiet b × AllByRecursion (λ (a : Call). AreInTime a b) quiet) (λ (b : Call). AllByRecursion (λ (a : Call). AreInTime a b) all) quiet
         (λ b both. each_join (λ (a : Call). AreInTime a b) recorded quiet (records_before b both.0) both.1)
         (each_both IsQuiet (λ (b : Call). AllByRecursion (λ (a : Call). AreInTime a b) quiet) quiet each (quiet_in_time [] steps refl quiet are)))
 
-    some_numbers : AllByRecursion (λ (call : Call). 0 < call.number) all
+    pub some_numbers : AllByRecursion (λ (call : Call). 0 < call.number) all
     some_numbers = each_join (λ (call : Call). 0 < call.number) recorded quiet
         (each_record (λ (call : Call). 0 < call.number) c.views (each_view (λ (v : View). AllByRecursion (λ (call : Call). 0 < call.number) v.done) c.views
         (λ k. positive_numbers (view_of c.views k).done (λ seat. inv.records.never_fall k seat))))

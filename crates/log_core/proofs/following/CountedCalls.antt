@@ -1,6 +1,6 @@
 -- Each seat and number is that of one call at most, of all that are recorded and the quiet ones.
 use Rattle.std.proofs.Common.{◌≡◌, ◌≢◌, ◌⊎◌, inl, inr, ⊎_elim, ◌<◌, ◌≤◌, ◌+◌, ◌==◌, ◌&&◌, if◌then◌else◌, nat_lt, ℕ, Bool, true, false, List, [], ◌∷◌, ◌++◌, length, refl, sym, ◌∙◌, subst, arith}
-use Rattle.std.specs.List.{AllByRecursion}
+use Rattle.std.specs.List.{AllByRecursion, flat_map}
 use Rattle.std.proofs.lemmas.Bool.{false≢true, and_parts, eqb-true, eq-eqb, ne_eqb}
 use Rattle.log_entry.specs.declared.calls.Call.{Call}
 use Rattle.log_image.specs.Chains.{is_listed}
@@ -30,7 +30,7 @@ not_call seat number call other = go (call.seat == seat) (call.number == number)
     go true false a b = refl
     go false two a b = refl
 
-none_counted : (seat number : ℕ) (calls : List Call) → AllByRecursion (λ (call : Call). call.seat ≡ seat → call.number ≢ number) calls → count_calls seat number calls ≡ 0
+pub none_counted : (seat number : ℕ) (calls : List Call) → AllByRecursion (λ (call : Call). call.seat ≡ seat → call.number ≢ number) calls → count_calls seat number calls ≡ 0
 none_counted seat number [] all = refl
 none_counted seat number (call ∷ calls) all = (let here = not_call seat number call all.0 in let rest = none_counted seat number calls all.1 in omega (arith, here, rest))
 
@@ -76,11 +76,12 @@ each_seat P (call ∷ calls) all = ((all call.seat).0 refl, each_seat P calls (�
 pub positive_numbers : (calls : List Call) → ((seat : ℕ) → NeverFall seat 0 0 calls) → AllByRecursion (λ (call : Call). 0 < call.number) calls
 positive_numbers calls fall = each_seat (λ (call : Call). 0 < call.number) calls (λ seat. fall_each seat 0 0 calls (fall seat))
 
--- in all views a seat and number is counted as often as the seat is a part at most
-count_over : (seat number : ℕ) (views : List View) → AllByRecursion (λ (v : View). count_calls seat number v.done ≤ count_in v.parts seat) views → count_calls seat number (recorded_calls views) ≤ parts_with views seat
-count_over seat number [] all = omega arith
-count_over seat number (v ∷ views) all =
-    (let both = count_join seat number v.done (recorded_calls views) in let rest = count_over seat number views all.1 in let here = all.0 in omega (arith, both, rest, here))
+-- in some calls of all views a seat and number is counted as often as the seat is a part at most
+pub count_over : (seat number : ℕ) (calls : View → List Call) (views : List View) → AllByRecursion (λ (v : View). count_calls seat number (calls v) ≤ count_in v.parts seat) views →
+    count_calls seat number (flat_map calls views) ≤ parts_with views seat
+count_over seat number calls [] all = omega arith
+count_over seat number calls (v ∷ views) all =
+    (let both = count_join seat number (calls v) (flat_map calls views) in let rest = count_over seat number calls views all.1 in let here = all.0 in omega (arith, both, rest, here))
 
 count_in_view : (seat number : ℕ) (v : View) → AllByRecursion (λ (call : Call). is_listed v.parts call.seat ≡ true) v.done → NeverFall seat 0 0 v.done → count_calls seat number v.done ≤ count_in v.parts seat
 count_in_view seat number v own fall = by (is_listed v.parts seat) refl
@@ -92,7 +93,7 @@ count_in_view seat number v own fall = by (is_listed v.parts seat) refl
 
 pub records_counted : (o : Origin) (c : Core) → Invariant o c → (seat number : ℕ) → count_calls seat number (recorded_calls c.views) ≤ 1
 records_counted o c inv seat number =
-    (let over = count_over seat number c.views
+    (let over = count_over seat number (λ (v : View). v.done) c.views
     (each_weaker (λ (v : View). AllByRecursion (λ (call : Call). is_listed v.parts call.seat ≡ true) v.done × NeverFall seat 0 0 v.done) (λ (v : View). count_calls seat number v.done ≤ count_in v.parts seat) c.views
     (λ v both. count_in_view seat number v both.0 both.1)
     (each_both (λ (v : View). AllByRecursion (λ (call : Call). is_listed v.parts call.seat ≡ true) v.done) (λ (v : View). NeverFall seat 0 0 v.done) c.views inv.records.seats_once.records

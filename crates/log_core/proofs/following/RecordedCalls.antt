@@ -125,7 +125,7 @@ module _ (o : Origin) (c : Core) (inv : Invariant o c) where
       w = write_at o c.history position
 
   -- the write that a view's running call has put in, if it has
-  abbrev put_in : View → List Call
+  abbrev pub put_in : View → List Call
   put_in v = running_write o c.history v v.seat.calling.won (op_in v.seat)
 
   module _ (k : ℕ) (won : (view_of c.views k).seat.calling.won ≡ true) where
@@ -145,7 +145,7 @@ module _ (o : Origin) (c : Core) (inv : Invariant o c) where
     at_upto = position_low o c inv k
 
     -- it is the history's
-    put_in_is : put_in v ≡ call_of at mine ∷ []
+    pub put_in_is : put_in v ≡ call_of at mine ∷ []
     put_in_is = ap (λ (b : Bool). running_write o c.history v b (op_in v.seat)) won
         ∙ (ap (λ (op : Option Op). running_write o c.history v true op) ((inv.records.writes k).running won).3
         ∙ (ap (λ (seat : ℕ). called seat v.ghost.call.number (length (file_at o c.history (at - 1)))) (sym ((inv.records.writes k).running won).1)
@@ -155,9 +155,6 @@ module _ (o : Origin) (c : Core) (inv : Invariant o c) where
         called : ℕ → ℕ → ℕ → List Call
         called seat number size = record { position = at; seat = seat; number = number; op = mine.op; reply = accepted_reply mine.op size } ∷ []
 
-    won_stands : AllByRecursion (Stands o c.history c.generations) (put_in v)
-    won_stands = subst (λ (calls : List Call). AllByRecursion (Stands o c.history c.generations) calls) (sym put_in_is) (write_stands at at_late at_upto, tt)
-
     won_counted : (position : ℕ) → writes_at position (put_in v) ≡ running_at position v.seat
     won_counted position =
         (let same = ap (λ (calls : List Call). writes_at position calls) put_in_is in
@@ -166,15 +163,17 @@ module _ (o : Origin) (c : Core) (inv : Invariant o c) where
         omega (arith, same, write, runs))
 
   -- a view whose call has put in none has none
-  none_put_in : (v : View) → v.seat.calling.won ≡ false → put_in v ≡ []
+  pub none_put_in : (v : View) → v.seat.calling.won ≡ false → put_in v ≡ []
   none_put_in v none = ap (λ (b : Bool). running_write o c.history v b (op_in v.seat)) none
 
-  put_in_stands : (k : ℕ) → AllByRecursion (Stands o c.history c.generations) (put_in (view_of c.views k))
-  put_in_stands k = by (view_of c.views k).seat.calling.won refl
+  -- what holds of the write of each view whose running call has put one in, holds of them all
+  pub each_running : (P : Call → Type 0) → ((k : ℕ) → (view_of c.views k).seat.calling.won ≡ true →
+      P (call_of (view_of c.views k).seat.walk.position (write_at o c.history (view_of c.views k).seat.walk.position))) → AllByRecursion P (running_writes o c)
+  each_running P here = each_of_views P put_in c.views (each_view (λ (v : View). AllByRecursion P (put_in v)) c.views (λ k. by k (view_of c.views k).seat.calling.won refl))
     where
-      by : (b : Bool) → (view_of c.views k).seat.calling.won ≡ b → AllByRecursion (Stands o c.history c.generations) (put_in (view_of c.views k))
-      by true won = won_stands k won
-      by false none = subst (λ (calls : List Call). AllByRecursion (Stands o c.history c.generations) calls) (sym (none_put_in (view_of c.views k) none)) tt
+      by : (k : ℕ) (b : Bool) → (view_of c.views k).seat.calling.won ≡ b → AllByRecursion P (put_in (view_of c.views k))
+      by k true won = subst (λ (calls : List Call). AllByRecursion P calls) (sym (put_in_is k won)) (here k won, tt)
+      by k false none = subst (λ (calls : List Call). AllByRecursion P calls) (sym (none_put_in (view_of c.views k) none)) tt
 
   put_in_counted : (k position : ℕ) → writes_at position (put_in (view_of c.views k)) ≡ running_at position (view_of c.views k).seat
   put_in_counted k position = by (view_of c.views k).seat.calling.won refl
@@ -185,7 +184,7 @@ module _ (o : Origin) (c : Core) (inv : Invariant o c) where
 
   -- each write that a running call has put in stands in the history
   pub running_stand : AllByRecursion (Stands o c.history c.generations) (running_writes o c)
-  running_stand = each_of_views (Stands o c.history c.generations) put_in c.views (each_view (λ (v : View). AllByRecursion (Stands o c.history c.generations) (put_in v)) c.views put_in_stands)
+  running_stand = each_running (Stands o c.history c.generations) (λ k won. write_stands (view_of c.views k).seat.walk.position (at_late k won) (at_upto k won))
 
   module _ (position : ℕ) (late : first_position o < position) (upto : position ≤ end_of o c.history) where
     abbrev writer : ℕ
