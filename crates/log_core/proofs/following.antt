@@ -25,3 +25,4 @@ pub mod CausedCalls
 pub mod StoppedRuns
 pub mod StoppedSeats
 pub mod LegalRuns
+pub mod StoppedCollections

@@ -21,7 +21,7 @@ use Rattle.log_core.specs.Records.{NeverFall}
 use Rattle.log_core.specs.Invariant.{KeptIn}
 use Rattle.log_core.specs.Runs.{IsRun, end}
 use Rattle.log_core.specs.Starts.{IsStart}
-use Rattle.log_core.specs.Histories.{recorded_calls, running_writes, Ran, HasCollections}
+use Rattle.log_core.specs.Histories.{recorded_calls, running_writes, running_collections, Ran, HasCollections}
 
 -- a block that a kept generation names
 pub record IsNeeded (o : Origin) (c : Core) (block : ℕ) : Type 0 where
@@ -75,6 +75,12 @@ ComeBefore calls others = AllByRecursion (λ (call : Call). AllByRecursion (λ (
 abbrev pub StoppedSeatsInOrder : Type 0
 StoppedSeatsInOrder = (o : Origin) (calls whole : List Call) (c : Core) → IsStart o → (ran : Ran o calls c) → ComeBefore ran.quiet (running_writes o c) →
     IsPermutation (calls ++ running_writes o c) whole → IsInOrder whole → (seat : ℕ) → NeverFall seat 0 0 whole
+
+-- and with the collections put in, too, whose running calls have put their head in place, each generation was put in place by one call, in
+-- turn, and what the other collections say is so
+abbrev pub StoppedCollectionsInTurn : Type 0
+StoppedCollectionsInTurn = (o : Origin) (calls whole : List Call) (c : Core) → IsStart o → Ran o calls c →
+    IsPermutation (calls ++ (running_writes o c ++ running_collections c.views)) whole → IsInOrder whole → HasCollections (first_generation o) (start_base o) whole
 
 -- a seat made a step of its call of this number, asking this, and behind it the position was the end: there a view finds its tail empty.
 -- An accepted write was put in by that step: the end was a smaller one before it

@@ -4,11 +4,12 @@ use Rattle.std.specs.List.{AllByRecursion, flat_map, list_any}
 use Rattle.log_entry.specs.Legal.{Answers}
 use Rattle.log_entry.specs.Order.{IsInOrder}
 use Rattle.log_entry.specs.declared.calls.Op.{Op}
+use Rattle.log_entry.specs.declared.calls.Op.TheVariants.{Collect as CollectOp}
 use Rattle.log_entry.specs.declared.calls.CollectRefusal.TheVariants.{Nothing, Overtaken, GenerationLimit}
 use Rattle.log_entry.specs.declared.calls.Reply.{Reply}
 use Rattle.log_entry.specs.declared.calls.Reply.TheVariants.{Collected, NotCollected}
 use Rattle.log_entry.specs.declared.calls.Call.{Call}
-use Rattle.log_core.specs.Views.{View, view_of, op_in}
+use Rattle.log_core.specs.Views.{View, HeadPut, view_of, op_in}
 use Rattle.log_core.specs.Origin.{Origin}
 use Rattle.log_core.specs.Files.{Write, accepted_reply, file_at}
 use Rattle.log_core.specs.Cores.{Core}
@@ -35,6 +36,22 @@ running_write o history v _ _ = []
 -- those of all views
 abbrev pub running_writes : Origin → Core → List Call
 running_writes o c = flat_map (λ (v : View). running_write o c.history v v.seat.calling.won (op_in v.seat)) c.views
+
+-- a collection whose running call has put its head in place, and whose record is not added yet: at its snapshot's position, as if each
+-- block that it replaced were given back
+abbrev pub running_collection : View → Option HeadPut → List Call
+running_collection v (Some put) = record {
+  position = put.base;
+  seat = v.seat.number;
+  number = v.ghost.call.number;
+  op = CollectOp;
+  reply = Collected (record { generation = put.generation; freed = put.replaced; kept = 0; held = None });
+} ∷ []
+running_collection v None = []
+
+-- those of all views
+abbrev pub running_collections : List View → List Call
+running_collections views = flat_map (λ (v : View). running_collection v v.ghost.call.put) views
 
 -- the greatest position of some calls, or a first one
 abbrev pub greatest_position : ℕ → List Call → ℕ

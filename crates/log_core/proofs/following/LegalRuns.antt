@@ -32,10 +32,10 @@ collected_sum : (generation : ℕ) (calls : List Call) → collected_in generati
 collected_sum generation [] = refl
 collected_sum generation (call ∷ calls) = (let rest = collected_sum generation calls in let cons = sum_by-cons (λ (c : Call). collects generation c.reply) call calls in omega (arith, rest, cons))
 
-collected_permuted : (generation : ℕ) (calls others : List Call) → IsPermutation calls others → collected_in generation others ≡ collected_in generation calls
+pub collected_permuted : (generation : ℕ) (calls others : List Call) → IsPermutation calls others → collected_in generation others ≡ collected_in generation calls
 collected_permuted generation calls others same = collected_sum generation others ∙ (sum_by-IsPermutation (λ (c : Call). collects generation c.reply) calls others same ∙ sym (collected_sum generation calls))
 
-no_collections : (generation : ℕ) (calls : List Call) → AllByRecursion (λ (call : Call). collects generation call.reply ≡ 0) calls → collected_in generation calls ≡ 0
+pub no_collections : (generation : ℕ) (calls : List Call) → AllByRecursion (λ (call : Call). collects generation call.reply ≡ 0) calls → collected_in generation calls ≡ 0
 no_collections generation [] none = refl
 no_collections generation (call ∷ calls) none = (let rest = no_collections generation calls none.1 in let here = none.0 in omega (arith, rest, here))
 

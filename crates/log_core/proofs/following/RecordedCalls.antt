@@ -15,7 +15,7 @@ use Rattle.log_core.specs.Origin.{Origin, first_position, first_generation, Gene
 use Rattle.log_core.specs.Files.{Write, no_write, write_at, call_of, accepted_reply, file_at, end_of}
 use Rattle.log_core.specs.Cores.{Core, current}
 use Rattle.log_core.specs.Records.{one_if, writes_at, count_in, parts_with, collected_in, collected_by, putting, running_at, SaysOfGenerations, RecordHolds}
-use Rattle.log_core.specs.Histories.{recorded_calls, running_write, running_writes}
+use Rattle.log_core.specs.Histories.{recorded_calls, running_write, running_writes, running_collection, running_collections}
 use Rattle.log_core.specs.Following.{NoCallRuns}
 use Rattle.log_core.specs.Invariant.{Invariant}
 use Rattle.log_core.proofs.Each.{each_weaker, each_both, each_at}
@@ -33,7 +33,7 @@ each_view P [] at = tt
 each_view P (v ∷ views) at = (at 0, each_view P views (λ k. at (suc k)))
 
 -- what holds of some calls of each view, holds of those of all
-each_of_views : (P : Call → Type 0) (calls : View → List Call) (views : List View) → AllByRecursion (λ (v : View). AllByRecursion P (calls v)) views → AllByRecursion P (flat_map calls views)
+pub each_of_views : (P : Call → Type 0) (calls : View → List Call) (views : List View) → AllByRecursion (λ (v : View). AllByRecursion P (calls v)) views → AllByRecursion P (flat_map calls views)
 each_of_views P calls [] all = tt
 each_of_views P calls (v ∷ views) all = each_join P (calls v) (flat_map calls views) all.0 (each_of_views P calls views all.1)
 
@@ -50,11 +50,16 @@ writes_over position seat others (v ∷ views) all =
     (let both = writes_join position v.done (recorded_calls views) in let more = writes_join position (others v) (flat_map others views) in let rest = writes_over position seat others views all.1 in let here = all.0 in
     omega (arith, both, more, rest, here))
 
--- a generation is recorded as often as it was put in place, where no call has put one without a record
-collected_over : (generation : ℕ) (views : List View) → AllByRecursion (λ (v : View). v.ghost.call.put ≡ None) views → collected_in generation (recorded_calls views) ≡ collected_by generation views
-collected_over generation [] all = refl
-collected_over generation (v ∷ views) all =
-    (let both = collected_join generation v.done (recorded_calls views) in let rest = collected_over generation views all.1 in let none = ap (λ (put : Option HeadPut). putting generation put) all.0 in omega (arith, both, rest, none))
+-- a generation is put in place as often as it is recorded, or put by a running collection
+pub put_counted : (generation : ℕ) (v : View) (put : Option HeadPut) → collected_in generation (running_collection v put) ≡ putting generation put
+put_counted generation v None = refl
+put_counted generation v (Some head) = omega arith
+
+pub collected_over : (generation : ℕ) (views : List View) → collected_in generation (recorded_calls views) + collected_in generation (running_collections views) ≡ collected_by generation views
+collected_over generation [] = refl
+collected_over generation (v ∷ views) =
+    (let both = collected_join generation v.done (recorded_calls views) in let more = collected_join generation (running_collection v v.ghost.call.put) (running_collections views) in
+    let rest = collected_over generation views in let here = put_counted generation v v.ghost.call.put in omega (arith, both, more, rest, here))
 
 -- a list that has a seat once at most counts it where it is listed
 count_listed : (parts : List ℕ) (seat : ℕ) → count_in parts seat ≤ 1 → one_if (is_listed parts seat) ≡ count_in parts seat
@@ -228,4 +233,9 @@ module _ (o : Origin) (c : Core) (inv : Invariant o c) where
 
     -- and each generation above the first is recorded once
     pub put_once : (generation : ℕ) → first_generation o < generation → generation ≤ current o c.generations → collected_in generation (recorded_calls c.views) ≡ 1
-    put_once generation low upto = collected_over generation c.views (each_view (λ (v : View). v.ghost.call.put ≡ None) c.views not_put) ∙ inv.records.collected_once generation low upto
+    put_once generation low upto =
+        (let over = collected_over generation c.views in
+        let once = inv.records.collected_once generation low upto in
+        let none = ap (λ (calls : List Call). collected_in generation calls) (none_of_views (λ (v : View). running_collection v v.ghost.call.put) c.views
+        (each_view (λ (v : View). running_collection v v.ghost.call.put ≡ []) c.views (λ k. ap (λ (put : Option HeadPut). running_collection (view_of c.views k) put) (not_put k)))) in
+        omega (arith, over, once, none))
