@@ -61,7 +61,7 @@ without_kept o c s pin valid at_tail w = record {
   to_end = w.to_end;
   from_first = w.from_first;
   to_current = w.to_current;
-  read = λ reading kept. (let r = w.read reading kept in record { block = r.block; from = r.from; upto = r.upto; table = r.table; size_is = r.size_is; position_is = r.position_is });
+  read = λ reading kept. (let r = w.read reading kept in record { inside = r.inside; block = r.block; from = r.from; upto = r.upto; table = r.table; size_is = r.size_is; position_is = r.position_is });
   kept_words = λ valid. tt;
   unpinned = λ invalid. refl;
   walked = λ some stopped. (let r = w.walked some stopped in record { table = r.table; size_is = r.size_is; base = r.base; block = r.block; from = r.from; upto = r.upto; inside = r.inside; at_end = r.at_end });

@@ -1,8 +1,9 @@
 -- Reading a snapshot: one entry more, and the block after another.
-use Rattle.std.proofs.Common.{◌≡◌, ◌<◌, ◌≤◌, ◌⊎◌, inl, inr, ◌+◌, ◌-◌, ◌++◌, ◌==◌, ◌||◌, not, ℕ, Bool, true, false, if◌then◌else◌, List, [], ◌∷◌, length, map, take, drop, refl, sym, ◌∙◌, ap, subst, arith, slice_index, append-nil, append_assoc}
+use Rattle.std.proofs.Common.{◌≡◌, ◌<◌, ◌≤◌, ◌⊎◌, inl, inr, ◌+◌, ◌-◌, ◌++◌, ◌==◌, ◌||◌, not, ℕ, zero, suc, ⊎_elim, Bool, true, false, if◌then◌else◌, List, [], ◌∷◌, length, map, take, drop, refl, sym, ◌∙◌, ap, subst, arith, slice_index, append-nil, append_assoc}
 use Rattle.std.proofs.Math.Seq.{take-suc}
 use Rattle.std.proofs.lemmas.Bool.{and_parts, not-true, eqb-true, eq-eqb}
 use Rattle.std.proofs.lemmas.List.{get_or-drop, map-append}
+use Rattle.std.proofs.lemmas.List.Folds.{list_any_at}
 use Rattle.log_entry.specs.Words.{block_word}
 use Rattle.log_entry.specs.declared.words.BlockKind.TheVariants.{Snapshot}
 use Rattle.log_image.specs.Image.{Shape}
@@ -10,9 +11,19 @@ use Rattle.log_image.specs.Format.{is_snapshot_block}
 use Rattle.log_image.specs.Entries.{Meaning, direct_meaning}
 use Rattle.log_image.specs.Blocks.{entry_count, slots_of}
 use Rattle.log_image.specs.Chains.{all_different, is_listed}
+use Rattle.pmem_words.specs.Seats.{Walk}
 use Rattle.log_core.specs.After.{snapshot_meanings}
 use Rattle.log_core.specs.Snapshots.{first_or, AreSnapshotBlocks}
-use Rattle.log_core.specs.Walks.{read_meanings}
+use Rattle.log_core.specs.Origin.{Generation}
+use Rattle.log_core.specs.Walks.{HasRead, read_meanings}
+
+-- the block at a place of a list is among it
+pub listed_at : (blocks : List ℕ) (place block : ℕ) → place < length blocks → slice_index blocks place ≡ block → is_listed blocks block ≡ true
+listed_at blocks place block inside is = list_any_at (λ (other : ℕ). other == block) blocks place 0 inside (eq-eqb (slice_index blocks place) block is)
+
+-- the block come to is one of the snapshot
+pub is_of_snapshot : (content : ℕ → List ℕ) (g : Generation) (w : Walk) → HasRead content g w → is_listed g.snapshots w.reading_block ≡ true
+is_of_snapshot content g w r = listed_at g.snapshots w.reading_place w.reading_block r.inside r.block
 
 -- the entries of a block up to a slot
 abbrev upto : List ℕ → ℕ → List Meaning
@@ -95,6 +106,18 @@ module _ (content : ℕ → List ℕ) where
       go true e listed rest = subst (λ (k : ℕ). Onward (block ∷ blocks) following k (slice_index (content k) 0)) (eqb-true block at e)
           (subst (λ (k : ℕ). Onward (block ∷ blocks) following block k) (sym are.0) (here blocks refl))
       go false e listed rest = later (rest listed) e
+
+-- a block of a snapshot links to the first log block, or to the block at the next place
+pub next_at : (image : Shape) (content : ℕ → List ℕ) (base size following : ℕ) (blocks : List ℕ) (place : ℕ) → AreSnapshotBlocks image content base size blocks following → place < length blocks →
+    (slice_index (content (slice_index blocks place)) 0 ≡ following) ⊎ ((place + 1 < length blocks) × (slice_index blocks (place + 1) ≡ slice_index (content (slice_index blocks place)) 0))
+next_at image content base size following [] place are inside = absurd (omega (arith, inside))
+next_at image content base size following (block ∷ []) zero are inside = inl are.0
+next_at image content base size following (block ∷ next ∷ more) zero are inside = inr (omega arith, sym are.0)
+next_at image content base size following (block ∷ blocks) (suc place) are inside =
+    ⊎_elim (λ last. inl last) (λ later. inr (
+      (let more = later.0 in omega (arith, more)),
+      subst (λ (k : ℕ). slice_index (block ∷ blocks) k ≡ slice_index (content (slice_index blocks place)) 0) (let same : suc (place + 1) ≡ suc place + 1 = omega arith in same) later.1,
+    )) (next_at image content base size following blocks place are.4 (omega (arith, inside)))
 
 -- a block of a snapshot has its form
 pub snapshot_form : (image : Shape) (content : ℕ → List ℕ) (base size following : ℕ) (blocks : List ℕ) (at : ℕ) → AreSnapshotBlocks image content base size blocks following → is_listed blocks at ≡ true →

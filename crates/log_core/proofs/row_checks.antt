@@ -12,6 +12,7 @@ pub mod RowsWrong
 pub mod RowsGaps
 pub mod RowsCallGaps
 pub mod RowsCoreGaps
+pub mod RowsWalkGaps
 pub mod RowsClauses
 pub mod RowsMay
 pub mod RowsOrder

@@ -178,7 +178,6 @@ pub record MayExchangeHead (o : Origin) (c : Core) (g : Ghost) (s : Seat) (befor
   pub above : s.walk.snapshot_base < s.walk.position
   pub cut : (log_at c.logs s.walk.position).base ≡ s.walk.position
   pub cut_block : (log_at c.logs s.walk.position).block ≡ s.walk.tail_block
-  pub cut_slot : (s.walk.tail_slot ≡ 3) × (s.walk.tail_base ≡ s.walk.position)
   pub owned : (block : ℕ) → is_listed (new_snapshots s next) block ≡ true → is_fenced s.blocks.owned block ≡ true
   pub in_log : (block : ℕ) → is_listed (new_snapshots s next) block ≡ true → is_in_log (seat_shape s) block ≡ true
   pub once : all_different (new_snapshots s next) ≡ true

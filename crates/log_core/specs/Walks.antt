@@ -22,9 +22,10 @@ read_meanings content (block ∷ blocks) at slot =
     if block == at then map direct_meaning (take (slot - 3) (slots_of (content block)))
     else map direct_meaning (take (snapshot_count (content block)) (slots_of (content block))) ++ read_meanings content blocks at slot
 
--- a snapshot was read up to a slot of one of its blocks: the table has the map of the entries before it
+-- a snapshot was read up to a slot of its block at the reading's place: the table has the map of the entries before it
 pub record HasRead (content : ℕ → List ℕ) (g : Generation) (w : Walk) : Type 0 where
-  pub block : is_listed g.snapshots w.reading_block ≡ true
+  pub inside : w.reading_place < length g.snapshots
+  pub block : slice_index g.snapshots w.reading_place ≡ w.reading_block
   pub from : 3 ≤ w.reading_slot
   pub upto : w.reading_slot ≤ 3 + snapshot_count (content w.reading_block)
   pub table : (virt : ℕ) → mapped_at w.map virt ≡ map_of (read_meanings content g.snapshots w.reading_block w.reading_slot) virt

@@ -171,6 +171,7 @@ walk_from_log w block base = record w {
   reading_generation = 0;
   reading_block = 0;
   reading_slot = 0;
+  reading_place = 0;
   kept = [];
 }
 
@@ -186,6 +187,7 @@ walk_from_snapshot w generation block base size = record w {
   reading_generation = generation;
   reading_block = block;
   reading_slot = 3;
+  reading_place = 0;
   kept = [];
 }
 
@@ -201,6 +203,7 @@ walk_read w block = record w {
   reading_generation = 0;
   reading_block = 0;
   reading_slot = 0;
+  reading_place = 0;
   kept = [];
 }
 
@@ -247,7 +250,9 @@ state_after_work s ReadsRun = record s {
     kept = [];
   };
 }
-state_after_work s NextSnapshot = record s { walk = record (s.walk) { reading_block = kept_word s s.walk.reading_block 0; reading_slot = 3; kept = [] } }
+state_after_work s NextSnapshot = record s {
+  walk = record (s.walk) { reading_block = kept_word s s.walk.reading_block 0; reading_slot = 3; reading_place = s.walk.reading_place + 1; kept = [] };
+}
 state_after_work s EndsReading = record s { walk = walk_read s.walk (kept_word s s.walk.reading_block 0) }
 state_after_work s TakesEntry = record s { walk = walk_past (seat_shape s) s.walk (tail_meaning s); calling = without_bases (words_of s) (tail_meaning s) s.calling }
 state_after_work s TakesSeal = record s { walk = record (s.walk) { tail_slot = words_of s; kept = [] } }

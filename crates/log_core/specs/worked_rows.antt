@@ -5,6 +5,7 @@ pub mod Refused
 pub mod Gaps
 pub mod CallGaps
 pub mod CoreGaps
+pub mod WalkGaps
 pub mod Starting
 pub mod AllowedSteps
 pub mod Written

@@ -32,6 +32,7 @@ pub record Walk : Type 0 where
   pub reading_generation : ℕ
   pub reading_block : ℕ
   pub reading_slot : ℕ
+  pub reading_place : ℕ
   pub kept : List KeptWord
 
 -- the present call; word j of the base at place k is number k * q + j of the base words
@@ -107,6 +108,7 @@ unwalked position = record {
   reading_generation = 0;
   reading_block = 0;
   reading_slot = 0;
+  reading_place = 0;
   kept = [];
 }
 

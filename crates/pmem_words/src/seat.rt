@@ -42,6 +42,7 @@ pub struct SeatState {
     reading_generation: u32,
     reading_block: u16,
     reading_slot: u16,
+    reading_place: u16,
     kept: Vec<KeptWord>,
 
     job: Task,
@@ -92,6 +93,7 @@ impl Model for SeatState {
         reading_generation = s.reading_generation;
         reading_block = s.reading_block;
         reading_slot = s.reading_slot;
+        reading_place = s.reading_place;
         kept = s.kept.items;
       };
       calling = record { job = s.job; bytes = s.bytes.items; bases = s.bases.items; base_words = s.base_words.items; lost = s.lost; won = s.won; sync_to = s.sync_to };
@@ -170,6 +172,7 @@ impl SeatState {
             reading_generation: 0,
             reading_block: 0,
             reading_slot: 0,
+            reading_place: 0,
             kept,
             job: Task::Idle,
             bytes,

@@ -88,6 +88,7 @@ fn what_is_read_of_a_snapshot(rt: HostRuntime) -> Result<(), Fail> {
     seat.set_reading_generation(31);
     seat.set_reading_block(32);
     seat.set_reading_slot(5);
+    seat.set_reading_place(6);
     assert_eq!(rt;
         (
             seat.reading(),
@@ -97,6 +98,7 @@ fn what_is_read_of_a_snapshot(rt: HostRuntime) -> Result<(), Fail> {
         ),
         (true, 31, 32, 5)
     );
+    assert_eq!(rt; seat.reading_place(), 6);
     let word = KeptWord {
         block: 34,
         slot: 6,

@@ -20,6 +20,7 @@ use Rattle.log_core.specs.Walks.{WalkHolds, HasWalked, HasRead, IsKeptWord}
 use Rattle.log_core.specs.Invariant.{Invariant, KeptIn, around}
 use Rattle.log_core.proofs.Each.{each_weaker}
 use Rattle.log_core.proofs.SameContents.{same_read}
+use Rattle.log_core.proofs.SnapshotReads.{is_of_snapshot}
 use Rattle.log_core.proofs.clauses.Apart.{has_left, has_log, data_is_named}
 use Rattle.log_core.proofs.clauses.OneView.{same_or_other}
 use Rattle.log_core.proofs.clauses.Growth.{Growth, Grows, LogLater, grown, recorded_grown, last_log}
@@ -77,9 +78,10 @@ module _ (o : Origin) (c : Core) (x : Growth) (inv : Invariant o c) (grows : Gro
   -- what is read of a snapshot of a kept generation
   pub read_grown : (place : ℕ) → KeptIn o c place → (w : Walk) → HasRead c.recorded (gen place) w → HasRead (λ block. recorded_grown c x block) (gen place) w
   read_grown place kept w r = record {
+    inside = r.inside;
     block = r.block;
     from = r.from;
-    upto = subst (λ (words : List ℕ). w.reading_slot ≤ 3 + entry_count words) (sym (in_snapshot w.reading_block r.block)) r.upto;
+    upto = subst (λ (words : List ℕ). w.reading_slot ≤ 3 + entry_count words) (sym (in_snapshot w.reading_block (is_of_snapshot c.recorded (gen place) w r))) r.upto;
     table = λ virt. r.table virt ∙ ap (λ (l : List Meaning). map_of l virt) (sym (same_read (shape o) c.recorded (λ block. recorded_grown c x block) (gen place).snapshots w.reading_block w.reading_slot in_snapshot));
     size_is = r.size_is;
     position_is = r.position_is;

@@ -36,6 +36,7 @@ use Rattle.log_core.specs.Knows.{Knows}
 use Rattle.log_core.proofs.Each.{each_weaker}
 use Rattle.log_core.proofs.Heads.{current_is}
 use Rattle.log_core.proofs.SameContents.{same_read}
+use Rattle.log_core.proofs.SnapshotReads.{is_of_snapshot}
 use Rattle.log_core.proofs.clauses.Apart.{has_left, has_right, data_is_named}
 use Rattle.log_core.proofs.clauses.Exchanged.{grown_value}
 use Rattle.log_core.proofs.clauses.GrownNames.{never}
@@ -152,9 +153,10 @@ module _ (o : Origin) (c : Core) (n : ℕ) (s : Seat) (g : Ghost) (pin began bef
   -- what is read of a snapshot of a kept generation
   read_moved : (place : ℕ) → KeptIn o c place → (w : Walk) → HasRead c.recorded (nth_generation c.generations place) w → HasRead recorded (nth_generation gens place) w
   read_moved place kept w r = subst (λ (x : Generation). HasRead recorded x w) (sym (old_gen place kept.inside)) (record {
+    inside = r.inside;
     block = r.block;
     from = r.from;
-    upto = subst (λ (words : List ℕ). w.reading_slot ≤ 3 + entry_count words) (sym (in_snapshot w.reading_block r.block)) r.upto;
+    upto = subst (λ (words : List ℕ). w.reading_slot ≤ 3 + entry_count words) (sym (in_snapshot w.reading_block (is_of_snapshot c.recorded (nth_generation c.generations place) w r))) r.upto;
     table = λ virt. r.table virt ∙ ap (λ (l : List Meaning). map_of l virt) (sym (same_read (shape o) c.recorded recorded (nth_generation c.generations place).snapshots w.reading_block w.reading_slot in_snapshot));
     size_is = r.size_is;
     position_is = r.position_is;

@@ -100,7 +100,7 @@ module _ (o : Origin) (c : Core) (n : ℕ) (s : Seat) (g : Ghost) (pin began : �
         to_end = w.to_end;
         from_first = w.from_first;
         to_current = w.to_current;
-        read = λ reading in_chain. (let r = w.read reading in_chain in record { block = r.block; from = r.from; upto = r.upto; table = r.table; size_is = r.size_is; position_is = r.position_is });
+        read = λ reading in_chain. (let r = w.read reading in_chain in record { inside = r.inside; block = r.block; from = r.from; upto = r.upto; table = r.table; size_is = r.size_is; position_is = r.position_is });
         kept_words = λ valid. tt;
         unpinned = λ invalid. refl;
         walked = λ some_block stopped. (let r = walked in record {
@@ -166,7 +166,7 @@ module _ (o : Origin) (c : Core) (n : ℕ) (s : Seat) (g : Ghost) (pin began : �
         to_end = w.to_end;
         from_first = w.from_first;
         to_current = w.to_current;
-        read = λ reading in_chain. (let r = w.read reading in_chain in record { block = r.block; from = r.from; upto = r.upto; table = r.table; size_is = r.size_is; position_is = r.position_is });
+        read = λ reading in_chain. (let r = w.read reading in_chain in record { inside = r.inside; block = r.block; from = r.from; upto = r.upto; table = r.table; size_is = r.size_is; position_is = r.position_is });
         kept_words = λ valid. tt;
         unpinned = λ invalid. refl;
         walked = λ some_block stopped. (let r = walked in record {

@@ -72,7 +72,7 @@ module _ (o : Origin) (c : Core) (seat other : ℕ) (inv : Invariant o c) (may :
     to_end = r.to_end;
     from_first = r.from_first;
     to_current = r.to_current;
-    read = λ reading kept. (let q = r.read reading ((kept_before o c seat other inv may) (x.walk.reading_generation - first_generation o) kept) in record { block = q.block; from = q.from; upto = q.upto; table = q.table; size_is = q.size_is; position_is = q.position_is });
+    read = λ reading kept. (let q = r.read reading ((kept_before o c seat other inv may) (x.walk.reading_generation - first_generation o) kept) in record { inside = q.inside; block = q.block; from = q.from; upto = q.upto; table = q.table; size_is = q.size_is; position_is = q.position_is });
     kept_words = λ valid. absurd (false≢true (sym invalid ∙ valid));
     unpinned = λ invalid. r.unpinned none;
     walked = λ some stopped. (let q = r.walked some stopped in record { table = q.table; size_is = q.size_is; base = q.base; block = q.block; from = q.from; upto = q.upto; inside = q.inside; at_end = q.at_end });

@@ -64,7 +64,7 @@ module _ (o : Origin) (c : Core) (n : ℕ) (s : Seat) (g : Ghost) (pin began : �
         to_end = w.to_end;
         from_first = w.from_first;
         to_current = w.to_current;
-        read = λ reading in_chain. (let r = w.read reading in_chain in record { block = r.block; from = r.from; upto = r.upto; table = r.table; size_is = r.size_is; position_is = r.position_is });
+        read = λ reading in_chain. (let r = w.read reading in_chain in record { inside = r.inside; block = r.block; from = r.from; upto = r.upto; table = r.table; size_is = r.size_is; position_is = r.position_is });
         kept_words = w.kept_words;
         unpinned = w.unpinned;
         walked = λ some_block still. (let r = w.walked some_block still in record { table = r.table; size_is = r.size_is; base = r.base; block = r.block; from = r.from; upto = r.upto; inside = r.inside; at_end = r.at_end });

@@ -89,7 +89,7 @@ module _ (o : Origin) (c : Core) (n : ℕ) (s : Seat) (g : Ghost) (pin began wor
     to_end = w.to_end;
     from_first = w.from_first;
     to_current = w.to_current;
-    read = λ reading kept. (let r = w.read reading kept in record { block = r.block; from = r.from; upto = r.upto; table = r.table; size_is = r.size_is; position_is = r.position_is });
+    read = λ reading kept. (let r = w.read reading kept in record { inside = r.inside; block = r.block; from = r.from; upto = r.upto; table = r.table; size_is = r.size_is; position_is = r.position_is });
     kept_words = λ valid. each_push
         (IsKeptWord (shape o) c.memory.now.words (λ block. is_named o c.logs (entries o c.history) (generation_at o c.generations s.hold.generation) block)
         (Rattle.std.proofs.Common.drop (generation_at o c.generations s.hold.generation).cut c.logs)) s.walk.kept (record { block = word / words_of s; slot = word % words_of s; word = value }) (w.kept_words valid) kept_word;

@@ -14,7 +14,7 @@ use Rattle.log_image.specs.Maps.{map_of}
 use Rattle.log_image.specs.Blocks.{entry_count, file_size, slots_of, kept_words}
 use Rattle.log_image.specs.Chains.{all_different, is_listed}
 use Rattle.log_image.specs.Format.{is_snapshot_block, is_snapshot_entry, is_direct, fits, all_zero}
-use Rattle.pmem_words.specs.Seats.{Seat}
+use Rattle.pmem_words.specs.Seats.{Seat, Walk}
 use Rattle.pmem_words.specs.Maps.{map_at}
 use Rattle.log_core.specs.After.{snapshot_meanings}
 use Rattle.log_core.specs.Views.{Ghost, view_of, op_in}
@@ -31,7 +31,7 @@ use Rattle.log_core.proofs.KeptWords.{some_word}
 use Rattle.log_core.proofs.ChainWords.{front_different}
 use Rattle.log_core.proofs.PinnedChains.{place, kept, some_generation, IsChainWord, chain_kept, chain_says}
 use Rattle.log_core.proofs.Fronts.{no_snapshot, snapshot_kind, base_small}
-use Rattle.log_core.proofs.SnapshotReads.{snapshot_form, read_more, Onward, Last, Later, read_on}
+use Rattle.log_core.proofs.SnapshotReads.{is_of_snapshot, next_at, snapshot_form, read_more, Onward, Last, Later, read_on}
 use Rattle.log_core.proofs.WalkMaps.{map_of_more, entry_taken, length_with_entry}
 use Rattle.log_core.proofs.LogTails.{log_again, some_block}
 use Rattle.log_core.proofs.clauses.Apart.{has_left, data_is_named}
@@ -115,18 +115,20 @@ module _ (o : Origin) (c : Core) (n : ℕ) (s : Seat) (g : Ghost) (pin began : �
     abbrev block : ℕ
     block = s.walk.reading_block
 
-    listed : is_listed (pinned.snapshots ++ data_names o (entries o c.history) pinned) block ≡ true
-    listed = has_left pinned.snapshots (data_names o (entries o c.history) pinned) block has_read.block
+    in_snapshot : is_listed pinned.snapshots block ≡ true
+    in_snapshot = is_of_snapshot c.recorded pinned s.walk has_read
 
-    some_blocks : (blocks : List ℕ) → is_listed blocks block ≡ true → 0 < length blocks
-    some_blocks [] is = cc
-    some_blocks (first ∷ blocks) is = omega arith
+    listed : is_listed (pinned.snapshots ++ data_names o (entries o c.history) pinned) block ≡ true
+    listed = has_left pinned.snapshots (data_names o (entries o c.history) pinned) block in_snapshot
+
+    some_blocks : 0 < length pinned.snapshots
+    some_blocks = (let inside = has_read.inside in omega (arith, inside))
 
     are_blocks : AreSnapshotBlocks (shape o) c.recorded pinned.base pinned.size pinned.snapshots (nth_log c.logs pinned.cut).block
-    are_blocks = ((inv.contents at in_chain).snapshot.whole (some_blocks pinned.snapshots has_read.block)).words
+    are_blocks = ((inv.contents at in_chain).snapshot.whole some_blocks).words
 
     form : is_snapshot_block (shape o) (c.recorded block) ≡ true
-    form = (snapshot_form (shape o) c.recorded pinned.base pinned.size (nth_log c.logs pinned.cut).block pinned.snapshots block are_blocks has_read.block).1
+    form = (snapshot_form (shape o) c.recorded pinned.base pinned.size (nth_log c.logs pinned.cut).block pinned.snapshots block are_blocks in_snapshot).1
 
     long : length (c.recorded block) ≡ words_in (shape o)
     long = (inv.contents at in_chain).whole block (data_is_named o c.logs (entries o c.history) pinned block listed)
@@ -135,14 +137,16 @@ module _ (o : Origin) (c : Core) (n : ℕ) (s : Seat) (g : Ghost) (pin began : �
     same_words = ap Rattle.pmem_words.specs.Seats.q_of (f.fits some).geometry
 
     -- the walk with another place in the same snapshot, and what was read up to it
-    reads_on : (map : List (Option ℕ)) (next slot : ℕ) → HasRead c.recorded pinned (record (s.walk) { map = map; reading_block = next; reading_slot = slot; kept = [] }) →
-        WalkHolds (around o c) s.hold (record (s.walk) { map = map; reading_block = next; reading_slot = slot; kept = [] })
-    reads_on map next slot read_now = record {
+    abbrev placed_at : List (Option ℕ) → ℕ → ℕ → ℕ → Walk
+    placed_at map next slot number = record (s.walk) { map = map; reading_block = next; reading_slot = slot; reading_place = number; kept = [] }
+
+    reads_on : (map : List (Option ℕ)) (next slot number : ℕ) → HasRead c.recorded pinned (placed_at map next slot number) → WalkHolds (around o c) s.hold (placed_at map next slot number)
+    reads_on map next slot number read_now = record {
       unwalked = w.unwalked;
       to_end = w.to_end;
       from_first = w.from_first;
       to_current = w.to_current;
-      read = λ again kept_again. subst (λ (number : ℕ). HasRead c.recorded (nth_generation c.generations (number - first_generation o)) (record (s.walk) { map = map; reading_block = next; reading_slot = slot; kept = [] }))
+      read = λ again kept_again. subst (λ (gen : ℕ). HasRead c.recorded (nth_generation c.generations (gen - first_generation o)) (placed_at map next slot number))
           (sym reading.pinned) read_now;
       kept_words = λ valid. tt;
       unpinned = λ invalid. refl;
@@ -178,10 +182,11 @@ module _ (o : Origin) (c : Core) (n : ℕ) (s : Seat) (g : Ghost) (pin began : �
           omega (arith, fits_map, most))
 
       more : read_meanings c.recorded pinned.snapshots block (slot + 1) ≡ read_meanings c.recorded pinned.snapshots block slot ++ meaning ∷ []
-      more = read_more c.recorded pinned.snapshots block slot has_read.block has_read.from inside ∙ ap (λ (word : ℕ). read_meanings c.recorded pinned.snapshots block slot ++ direct_meaning word ∷ []) (sym word_says)
+      more = read_more c.recorded pinned.snapshots block slot in_snapshot has_read.from inside ∙ ap (λ (word : ℕ). read_meanings c.recorded pinned.snapshots block slot ++ direct_meaning word ∷ []) (sym word_says)
 
       run_read : HasRead c.recorded pinned (state_after_work s ReadsRun).walk
       run_read = record {
+        inside = has_read.inside;
         block = has_read.block;
         from = (let low = has_read.from in omega (arith, low));
         upto = (let low = among in omega (arith, low));
@@ -218,7 +223,7 @@ module _ (o : Origin) (c : Core) (n : ℕ) (s : Seat) (g : Ghost) (pin began : �
 
       onward : Onward c.recorded pinned.snapshots (nth_log c.logs pinned.cut).block block next
       onward = subst (λ (k : ℕ). Onward c.recorded pinned.snapshots (nth_log c.logs pinned.cut).block block k) (sym next_is)
-          (read_on c.recorded (shape o) pinned.base pinned.size (nth_log c.logs pinned.cut).block pinned.snapshots block are_blocks once has_read.block)
+          (read_on c.recorded (shape o) pinned.base pinned.size (nth_log c.logs pinned.cut).block pinned.snapshots block are_blocks once in_snapshot)
 
       -- what was read is all up to the block's last entry
       table_is : (virt : ℕ) → map_at s.walk.map virt ≡ map_of (read_meanings c.recorded pinned.snapshots block (3 + entry_count (c.recorded block))) virt
@@ -243,13 +248,23 @@ module _ (o : Origin) (c : Core) (n : ℕ) (s : Seat) (g : Ghost) (pin began : �
 
     -- of the next block nothing is read yet
     module _ (done : HasReadBlock s SNAPSHOT) where
+      -- it is that of the next place
+      same_link : slice_index (c.recorded (slice_index pinned.snapshots s.walk.reading_place)) 0 ≡ slice_index (c.recorded block) 0
+      same_link = ap (λ (b : ℕ). slice_index (c.recorded b) 0) has_read.block
+
+      at_next : (s.walk.reading_place + 1 < length pinned.snapshots) × (slice_index pinned.snapshots (s.walk.reading_place + 1) ≡ kept_word s block 0)
+      at_next = ⊎_elim (λ last. absurd (no_log SNAPSHOT done (next_is SNAPSHOT done ∙ (sym same_link ∙ last)) refl))
+          (λ later. (later.0, later.1 ∙ (same_link ∙ sym (next_is SNAPSHOT done))))
+          (next_at (shape o) c.recorded pinned.base pinned.size (nth_log c.logs pinned.cut).block pinned.snapshots s.walk.reading_place are_blocks has_read.inside)
+
       next_read : HasRead c.recorded pinned (state_after_work s NextSnapshot).walk
       next_read = by (onward SNAPSHOT done)
         where
           by : Onward c.recorded pinned.snapshots (nth_log c.logs pinned.cut).block block (kept_word s block 0) → HasRead c.recorded pinned (state_after_work s NextSnapshot).walk
           by (Last is read) = absurd (no_log SNAPSHOT done is refl)
           by (Later later read) = record {
-            block = later;
+            inside = at_next.0;
+            block = at_next.1;
             from = omega arith;
             upto = omega arith;
             table = λ virt. table_is SNAPSHOT done virt ∙ ap (λ (l : List Meaning). map_of l virt) read;
@@ -282,7 +297,7 @@ module _ (o : Origin) (c : Core) (n : ℕ) (s : Seat) (g : Ghost) (pin began : �
         unpinned = λ invalid. refl;
         walked = λ some_tail stopped. record {
           table = λ virt. table_is LOG done virt ∙ (ap (λ (l : List Meaning). map_of l virt) all_read.1
-              ∙ (((inv.contents at in_chain).snapshot.whole (some_blocks pinned.snapshots has_read.block)).map_is virt
+              ∙ (((inv.contents at in_chain).snapshot.whole some_blocks).map_is virt
               ∙ sym (ap (λ (k : ℕ). history_map_at o (entries o c.history) k virt) has_read.position_is)));
           size_is = has_read.size_is ∙ ((inv.contents at in_chain).snapshot.size_is ∙ sym (ap (λ (k : ℕ). history_size_at o (entries o c.history) k) has_read.position_is));
           base = ap (λ (l : LogBlock). l.base) cut_log ∙ (inv.order.generations_rise.cut_base at in_chain.inside ∙ sym has_read.position_is);
@@ -303,11 +318,11 @@ module _ (o : Origin) (c : Core) (n : ℕ) (s : Seat) (g : Ghost) (pin began : �
   pub run_facts : kept_word s s.walk.reading_block s.walk.reading_slot ≢ 0 → Knows o c n (state_after_work s ReadsRun) g pin began
   run_facts used = move_facts o c n s g pin began (state_after_work s ReadsRun).walk f free no_bases f.calls.bases away
       (λ some. length_with_entry (direct_meaning (kept_word s s.walk.reading_block s.walk.reading_slot)) s.walk.map ∙ (f.fits some).map)
-      (λ some. reads_on some (state_after_work s ReadsRun).walk.map s.walk.reading_block (s.walk.reading_slot + 1) (run_read some used))
+      (λ some. reads_on some (state_after_work s ReadsRun).walk.map s.walk.reading_block (s.walk.reading_slot + 1) s.walk.reading_place (run_read some used))
 
   pub next_facts : HasReadBlock s SNAPSHOT → Knows o c n (state_after_work s NextSnapshot) g pin began
   next_facts done = move_facts o c n s g pin began (state_after_work s NextSnapshot).walk f free no_bases f.calls.bases away (λ some. (f.fits some).map)
-      (λ some. reads_on some s.walk.map (kept_word s s.walk.reading_block 0) 3 (next_read some done))
+      (λ some. reads_on some s.walk.map (kept_word s s.walk.reading_block 0) 3 (s.walk.reading_place + 1) (next_read some done))
 
   pub end_facts : HasReadBlock s LOG → Knows o c n (state_after_work s EndsReading) g pin began
   end_facts done = move_facts o c n s g pin began (state_after_work s EndsReading).walk f free no_bases f.calls.bases away (λ some. (f.fits some).map) (λ some. walk_ended some done)

@@ -126,7 +126,7 @@ module _ (o : Origin) (c : Core) (n : ℕ) (s : Seat) (g : Ghost) (pin began wor
     to_end = w.to_end;
     from_first = w.from_first;
     to_current = w.to_current;
-    read = λ reading kept. (let r = w.read reading kept in record { block = r.block; from = r.from; upto = r.upto; table = r.table; size_is = r.size_is; position_is = r.position_is });
+    read = λ reading kept. (let r = w.read reading kept in record { inside = r.inside; block = r.block; from = r.from; upto = r.upto; table = r.table; size_is = r.size_is; position_is = r.position_is });
     kept_words = w.kept_words;
     unpinned = w.unpinned;
     walked = λ some stopped. (let r = w.walked some stopped in record {

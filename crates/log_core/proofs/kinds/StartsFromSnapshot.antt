@@ -65,9 +65,12 @@ module _ (o : Origin) (c : Core) (n : ℕ) (s : Seat) (g : Ghost) (pin began : �
       listed : is_listed pinned.snapshots (front s) ≡ true
       listed = rw (snapshots_are, front_block, eq-eqb block block refl) refl
 
+      some_snapshot : 0 < length pinned.snapshots
+      some_snapshot = subst (λ (l : List ℕ). 0 < length l) (sym snapshots_are) (omega arith)
+
       third_says : slice_index (c.recorded block) 2 ≡ snapshot_word (record { count = entry_count (c.recorded block); size = pinned.size })
       third_says = (subst (λ (l : List ℕ). AreSnapshotBlocks (shape o) c.recorded pinned.base pinned.size l (nth_log c.logs pinned.cut).block) snapshots_are
-          ((inv.contents at in_chain).snapshot.whole (subst (λ (l : List ℕ). 0 < length l) (sym snapshots_are) (omega arith))).words).2
+          ((inv.contents at in_chain).snapshot.whole some_snapshot).words).2
 
       size_says : front_size s ≡ pinned.size
       size_says =
@@ -77,7 +80,8 @@ module _ (o : Origin) (c : Core) (n : ℕ) (s : Seat) (g : Ghost) (pin began : �
 
       has_read : HasRead c.recorded pinned (state_after_work s StartsFromSnapshot).walk
       has_read = record {
-        block = listed;
+        inside = some_snapshot;
+        block = ap (λ (l : List ℕ). slice_index l 0) snapshots_are ∙ sym front_block;
         from = omega arith;
         upto = omega arith;
         table = λ virt. map_at_unmapped virt ∙ sym (ap (λ (l : List ℕ). map_of (read_meanings c.recorded l (front s) 3) virt) snapshots_are

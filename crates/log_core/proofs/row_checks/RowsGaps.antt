@@ -40,7 +40,6 @@ snapshot_names_more = (
     above = omega arith;
     cut = refl;
     cut_block = refl;
-    cut_slot = (refl, refl);
     owned = λ block named. in_all (λ b. is_fenced right_snapshot.blocks.owned b) (5 ∷ []) block refl named;
     in_log = λ block named. in_all (λ b. is_in_log small_shape b) (5 ∷ []) block refl named;
     once = refl;

@@ -152,7 +152,7 @@ late_walk = (
   refl,
   refl,
   refl,
-  record { block = refl; from = omega arith; upto = omega arith; table = table; size_is = refl; position_is = refl },
+  record { inside = omega arith; block = refl; from = omega arith; upto = omega arith; table = table; size_is = refl; position_is = refl },
   refl,
   refl,
   refl,

@@ -84,7 +84,6 @@ may_put = record {
   above = omega arith;
   cut = refl;
   cut_block = refl;
-  cut_slot = (refl, refl);
   owned = λ block named. in_all (λ b. is_fenced collector.blocks.owned b) (5 ∷ []) block refl named;
   in_log = λ block named. in_all (λ b. is_in_log small_shape b) (5 ∷ []) block refl named;
   once = refl;

@@ -55,7 +55,6 @@ may_try = record {
   above = omega arith;
   cut = refl;
   cut_block = refl;
-  cut_slot = (refl, refl);
   owned = λ block named. in_all (λ b. is_fenced loser.blocks.owned b) (6 ∷ []) block refl named;
   in_log = λ block named. in_all (λ b. is_in_log small_shape b) (6 ∷ []) block refl named;
   once = refl;

@@ -302,6 +302,7 @@ runs_writer = record (new_seat wide 0 2 7) {
     reading_generation = 0;
     reading_block = 0;
     reading_slot = 0;
+    reading_place = 0;
     kept = [];
   };
   calling = record no_calling { job = Pwrite 256; bytes = replicate 128 7 };

@@ -61,6 +61,7 @@ early_writer = record (new_seat small 0 2 2) {
     reading_generation = 0;
     reading_block = 0;
     reading_slot = 0;
+    reading_place = 0;
     kept = kept 1 0 426 ∷ [];
   };
   calling = record no_calling { job = Append; bytes = 187 ∷ [] };

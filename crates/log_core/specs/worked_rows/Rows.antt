@@ -554,6 +554,7 @@ walker kept = record (new_seat wide 0 2 7) {
     reading_generation = 0;
     reading_block = 0;
     reading_slot = 0;
+    reading_place = 0;
     kept = kept;
   };
   calling = record no_calling { job = Pread 0 65 };

@@ -215,6 +215,20 @@ impl SeatState {
         self.reading_slot = reading_slot;
     }
 
+    /// While `reading`, the place of that block in the snapshot: the blocks read so far, fewer than the blocks of an image.
+    pub fn reading_place(&self) -> u16
+        ensures { result ≡ self.now.walk.reading_place }
+    {
+        self.reading_place
+    }
+
+    /// Sets the place of the snapshot block come to.
+    pub fn set_reading_place(&mut self, reading_place: u16)
+        ensures { self.new ≡ record self.old { walk = record self.old.walk { reading_place = reading_place } } }
+    {
+        self.reading_place = reading_place;
+    }
+
     /// The words of the snapshot, log or indirect block at hand that were loaded and are not yet taken in, at most 2q.
     pub fn kept(&self) -> &[KeptWord]
         ensures { result.now ≡ self.now.walk.kept }

@@ -1,0 +1,42 @@
+-- What one clause alone refuses of walks.
+use Rattle.std.proofs.Common.{◌≡◌, ℕ, zero, suc, Option, None, refl, sym, ap, inr, arith}
+use Rattle.std.specs.Option.{option_or}
+use Rattle.log_image.specs.Entries.{direct_meaning}
+use Rattle.log_image.specs.Maps.{map_of}
+use Rattle.log_image.proofs.HoldingLemmas.{names_none}
+use Rattle.pmem_words.specs.Maps.{map_at as mapped_at}
+use Rattle.log_core.specs.Walks.{read_meanings}
+use Rattle.log_core.specs.worked_rows.WalkGaps.{two_snapshots, two_contents, first_read, gone_on, PlaceOfAnother}
+use Rattle.log_core.proofs.row_checks.RowTells.{some_not_none}
+
+-- the entry of the first block is all that is read, before and after
+first_table : (virt : ℕ) → mapped_at first_read.walk.map virt ≡ map_of (read_meanings two_contents two_snapshots.snapshots 11 4) virt
+first_table zero = refl
+first_table (suc zero) = refl
+first_table (suc (suc zero)) = refl
+first_table (suc (suc (suc zero))) = refl
+first_table (suc (suc (suc (suc virt)))) = sym (ap (λ (o : Option ℕ). option_or None o) (names_none (direct_meaning 1835009) (suc (suc (suc (suc virt)))) (omega arith)))
+
+table : (virt : ℕ) → mapped_at gone_on.walk.map virt ≡ map_of (read_meanings two_contents two_snapshots.snapshots 9 3) virt
+table zero = refl
+table (suc zero) = refl
+table (suc (suc zero)) = refl
+table (suc (suc (suc zero))) = refl
+table (suc (suc (suc (suc virt)))) = sym (ap (λ (o : Option ℕ). option_or None o) (names_none (direct_meaning 1835009) (suc (suc (suc (suc virt)))) (omega arith)))
+
+pub place_of_another : PlaceOfAnother
+place_of_another = (
+  record {
+    reading = record { valid = refl; reading = refl; pinned = refl };
+    no_more = inr refl;
+    link = some_not_none 9;
+    next = some_not_none 9223372036854775815;
+    kind_is = refl;
+  },
+  record { inside = omega arith; block = refl; from = omega arith; upto = omega arith; table = first_table; size_is = refl; position_is = refl },
+  refl,
+  refl,
+  record { inside = omega arith; block = refl; from = omega arith; upto = omega arith; table = table; size_is = refl; position_is = refl },
+  λ read. (let other = read.block in omega (arith, other)),
+  λ read. (let past = read.inside in omega (arith, past)),
+)
