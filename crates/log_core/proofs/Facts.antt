@@ -45,9 +45,9 @@ module _ (o : Origin) (c : Core) (n : ℕ) (inv : Invariant o c) (here : n < len
 
 -- the walk with other kept words, elsewhere in the chain, with another base of its table, or found to be at the tail or not; its
 -- position and its table stay
-abbrev pub placed : Walk → List KeptWord → (block base slot : ℕ) → (ready : Bool) → (snapshot_base : ℕ) → (at_tail : Bool) → Walk
-placed w kept block base slot ready snapshot_base at_tail =
-    record w { kept = kept; tail_block = block; tail_base = base; tail_slot = slot; ready = ready; snapshot_base = snapshot_base; at_tail = at_tail }
+abbrev pub placed : Walk → List KeptWord → (block base slot : ℕ) → (ready : Bool) → (snapshot_base first : ℕ) → (at_tail : Bool) → Walk
+placed w kept block base slot ready snapshot_base first at_tail =
+    record w { kept = kept; tail_block = block; tail_base = base; tail_slot = slot; ready = ready; snapshot_base = snapshot_base; first_log = first; at_tail = at_tail }
 
 -- the seat with no kept words
 abbrev pub forgotten : Seat → Seat
@@ -68,6 +68,7 @@ without_kept o c s pin valid at_tail w = record {
   ready_walked = w.ready_walked;
   ready_base = w.ready_base;
   ready_tail = w.ready_tail;
+  first_known = w.first_known;
 }
 
 -- what is to be shown of a seat where its walk or its call moved, or its scan or what it noted of one, and neither its pin nor its blocks
@@ -134,12 +135,12 @@ module _ (o : Origin) (c : Core) (n : ℕ) (s : Seat) (g : Ghost) (pin began : �
     syncs = (let r = f.syncs in record { to = r.to; marks = r.marks; valid = r.valid; answered = r.answered });
   })
 
-  pub place_facts : (kept : List KeptWord) (block base slot : ℕ) (ready : Bool) (snapshot_base : ℕ) (at_tail : Bool) → (s.walk.reading ≡ true → at_tail ≡ false) →
+  pub place_facts : (kept : List KeptWord) (block base slot : ℕ) (ready : Bool) (snapshot_base first : ℕ) (at_tail : Bool) → (s.walk.reading ≡ true → at_tail ≡ false) →
       (at_tail ≡ true → StandsAtTail (view_of c.views n).first began s.walk.position block (view_of c.views n).done) →
-      ((view_of c.views n).parts ≢ [] → WalkHolds (around o c) s.hold (placed s.walk kept block base slot ready snapshot_base at_tail)) →
-      Knows o c n (record s { walk = placed s.walk kept block base slot ready snapshot_base at_tail }) g pin began
-  place_facts kept block base slot ready snapshot_base at_tail away tail walks =
-      moved_facts (placed s.walk kept block base slot ready snapshot_base at_tail) s.calling s.giving.pins_seen s.giving.limbo_held (record {
+      ((view_of c.views n).parts ≢ [] → WalkHolds (around o c) s.hold (placed s.walk kept block base slot ready snapshot_base first at_tail)) →
+      Knows o c n (record s { walk = placed s.walk kept block base slot ready snapshot_base first at_tail }) g pin began
+  place_facts kept block base slot ready snapshot_base first at_tail away tail walks =
+      moved_facts (placed s.walk kept block base slot ready snapshot_base first at_tail) s.calling s.giving.pins_seen s.giving.limbo_held (record {
         map = λ some. (f.fits some).map;
         walk = walks;
         scan_others = f.scan_others;
@@ -162,7 +163,7 @@ module _ (o : Origin) (c : Core) (n : ℕ) (s : Seat) (g : Ghost) (pin began : �
   stays_away reading = (f.calls.reading reading).0
 
   pub forget_facts : Knows o c n (forgotten s) g pin began
-  forget_facts = place_facts [] s.walk.tail_block s.walk.tail_base s.walk.tail_slot s.walk.ready s.walk.snapshot_base s.walk.at_tail stays_away f.tail
+  forget_facts = place_facts [] s.walk.tail_block s.walk.tail_base s.walk.tail_slot s.walk.ready s.walk.snapshot_base s.walk.first_log s.walk.at_tail stays_away f.tail
       (λ some. without_kept o c s s.hold.pin s.hold.valid s.walk.at_tail (f.walk some))
 
 -- and with other pin words of the memory
@@ -186,6 +187,7 @@ pins_known o c n s g pin began pins f = record {
     ready_walked = w.ready_walked;
     ready_base = w.ready_base;
     ready_tail = w.ready_tail;
+    first_known = w.first_known;
   });
   owned = f.owned;
   giving = f.giving;

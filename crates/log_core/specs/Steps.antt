@@ -134,6 +134,10 @@ hold_found h word = record h {
 abbrev pub ready_found : Hold → ℕ → Bool → Bool
 ready_found h word ready = if (h.pin == field HEAD_GENERATION word) && not (h.pin == h.generation) then false else ready
 
+-- nor is the first log block known
+abbrev pub first_found : Hold → ℕ → ℕ → ℕ
+first_found h word block = if (h.pin == field HEAD_GENERATION word) && not (h.pin == h.generation) then 0 else block
+
 -- a word of the image that was loaded
 abbrev pub kept_with : ℕ → List KeptWord → ℕ → ℕ → List KeptWord
 kept_with q kept word found = kept ++ record { block = word / q; slot = word % q; word = found } ∷ []
@@ -234,7 +238,10 @@ sync_fenced task at_tail position sync_to = sync_to
 
 -- what a step makes of the seat's state, by its marks, the kind and the answer
 abbrev pub effect : List MarkedWord → Seat → Kind → ℕ → Seat
-effect marks s LoadsHead f = record s { hold = hold_found s.hold f; walk = record (s.walk) { ready = ready_found s.hold f s.walk.ready } }
+effect marks s LoadsHead f = record s {
+  hold = hold_found s.hold f;
+  walk = record (s.walk) { ready = ready_found s.hold f s.walk.ready; first_log = first_found s.hold f s.walk.first_log };
+}
 effect marks s (StoresOwnPin value) f = record s { hold = record (s.hold) { pin = value; valid = false }; walk = record (s.walk) { kept = [] } }
 effect marks s (LoadsPinWord seat) f = record s { giving = record (s.giving) { pins_seen = take seat s.giving.pins_seen ++ f ∷ [] } }
 effect marks s (LoadsImageWord word) f = record s { walk = record (s.walk) { kept = kept_with (words_of s) s.walk.kept word f; at_tail = s.walk.at_tail || is_tail_found s word f } }

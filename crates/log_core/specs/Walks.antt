@@ -13,7 +13,7 @@ use Rattle.log_core.specs.Entries.{place_in, LogEntry}
 use Rattle.log_core.specs.Views.{View, view_of}
 use Rattle.log_core.specs.Origin.{Origin, shape, first_position, first_generation, LogBlock, Generation}
 use Rattle.log_core.specs.Files.{history_map_at, history_size_at}
-use Rattle.log_core.specs.Cores.{generation_at, is_named, log_at, log_blocks, entries_used, is_full}
+use Rattle.log_core.specs.Cores.{generation_at, is_named, nth_log, log_at, log_blocks, entries_used, is_full}
 
 -- the entries of a snapshot up to a slot of one of its blocks
 abbrev pub read_meanings : (ℕ → List ℕ) → List ℕ → ℕ → ℕ → List Meaning
@@ -50,6 +50,11 @@ pub record HasWalked (o : Origin) (es : List LogEntry) (logs : List LogBlock) (w
   pub at_end : w.tail_slot ≡ words_in (shape o) →
       (is_full (shape o) (log_at logs w.tail_base).slots ≡ true) × (w.position ≡ w.tail_base + entries_used (log_at logs w.tail_base))
 
+-- a walk's first log block is that of the chain of the seat's generation
+pub record IsFirstLog (o : Origin) (generations : List Generation) (logs : List LogBlock) (generation block : ℕ) : Type 0 where
+  pub some : generation ≢ 0
+  pub is : block ≡ (nth_log logs (generation_at o generations generation).cut).block
+
 -- the parts of a core that the clause reads beside the view; which generations are kept, by their places
 pub record Around : Type 1 where
   pub origin : Origin
@@ -63,7 +68,7 @@ pub record Around : Type 1 where
 
 -- a view that has not walked is at the start's position. What is read of a snapshot is as far as it goes, as long as that generation
 -- is kept. With a valid pin the kept words are those of the pinned chain, and without one there are none. A view that is ready has walked in the chain of its
--- generation. No position is past the end
+-- generation. The first log block is that chain's, or not known. No position is past the end
 pub record WalkHolds (a : Around) (h : Hold) (w : Walk) : Type 0 where
   pub unwalked : w.tail_block ≡ 0 → w.reading ≡ false → w.position ≡ first_position a.origin
   pub to_end : w.position ≤ a.end
@@ -78,6 +83,7 @@ pub record WalkHolds (a : Around) (h : Hold) (w : Walk) : Type 0 where
   pub ready_walked : w.ready ≡ true → (w.tail_block ≢ 0) × (w.reading ≡ false) × (h.generation ≢ 0)
   pub ready_base : w.ready ≡ true → w.snapshot_base ≡ (generation_at a.origin a.generations h.generation).base
   pub ready_tail : w.ready ≡ true → w.snapshot_base ≤ w.tail_base
+  pub first_known : w.first_log ≢ 0 → IsFirstLog a.origin a.generations a.logs h.generation w.first_log
 
 abbrev pub WalksHold : Around → List View → Type 0
 WalksHold a views = (seat : ℕ) → (view_of views seat).parts ≢ [] → WalkHolds a (view_of views seat).seat.hold (view_of views seat).seat.walk

@@ -165,6 +165,7 @@ walk_from_log w block base = record w {
   tail_slot = 3;
   tail_base = base;
   snapshot_base = base;
+  first_log = block;
   at_tail = false;
   ready = true;
   reading = false;
@@ -175,12 +176,17 @@ walk_from_log w block base = record w {
   kept = [];
 }
 
+-- the kept table is taken for one of the chain with this base. Where its tail is in the chain's first log block, that is known too
+abbrev pub walk_kept : Walk → ℕ → Walk
+walk_kept w base = record w { ready = true; snapshot_base = base; first_log = if base == w.tail_base then w.tail_block else w.first_log }
+
 -- a walk that begins to read a snapshot
 abbrev pub walk_from_snapshot : Walk → ℕ → ℕ → ℕ → ℕ → Walk
 walk_from_snapshot w generation block base size = record w {
   position = base;
   map = unmapped;
   size = size;
+  first_log = 0;
   at_tail = false;
   ready = false;
   reading = true;
@@ -198,6 +204,7 @@ walk_read w block = record w {
   tail_slot = 3;
   tail_base = w.position;
   snapshot_base = w.position;
+  first_log = block;
   ready = true;
   reading = false;
   reading_generation = 0;
@@ -240,7 +247,7 @@ state_after_work s (Begins task bytes) = record s {
   blocks = record (s.blocks) { found = replicate (length s.blocks.found) 0 };
   giving = record (s.giving) { limbo_held = held_at_begin task s.giving.limbo_held };
 }
-state_after_work s KeepsTable = record s { walk = record (s.walk) { ready = true; snapshot_base = front_base s } }
+state_after_work s KeepsTable = record s { walk = walk_kept s.walk (front_base s) }
 state_after_work s StartsFromLog = record s { walk = walk_from_log s.walk (front s) (front_base s) }
 state_after_work s StartsFromSnapshot = record s { walk = walk_from_snapshot s.walk s.hold.generation (front s) (front_base s) (front_size s) }
 state_after_work s ReadsRun = record s {

@@ -1,5 +1,5 @@
 -- Taking a pin, and giving it up, is lawful within a core.
-use Rattle.std.proofs.Common.{◌≡◌, ◌≢◌, ◌≤◌, ◌==◌, ◌&&◌, ◌||◌, not, ℕ, Bool, true, false, if◌then◌else◌, [], refl, sym, ◌∙◌, ap, subst, arith, ◌⊎◌, inl, inr}
+use Rattle.std.proofs.Common.{◌≡◌, ◌≢◌, ◌≤◌, ◌==◌, ◌&&◌, ◌||◌, not, ℕ, Bool, true, false, if◌then◌else◌, List, [], refl, sym, ◌∙◌, ap, subst, arith, ◌⊎◌, inl, inr}
 use Rattle.std.proofs.lemmas.Bool.{eqb-true, eq-eqb, eqb-false, ne_eqb}
 use Rattle.log_entry.specs.Fields.{field}
 use Rattle.log_entry.specs.declared.layouts.TheConstants.{HEAD_GENERATION}
@@ -7,6 +7,7 @@ use Rattle.log_entry.specs.declared.words.Head.{Head}
 use Rattle.asks.specs.declared.ask.Ask.TheVariants.{Load}
 use Rattle.asks.specs.declared.ask.Place.TheVariants.{Image}
 use Rattle.pmem_words.specs.Seats.{Seat, Hold}
+use Rattle.pmem_words.specs.declared.keeps.KeptWord.{KeptWord}
 use Rattle.pmem_words.specs.declared.machine.Turn.TheVariants.{Go, Done}
 use Rattle.persistence.specs.Memory.{cell}
 use Rattle.log_core.specs.Entries.{head_place}
@@ -44,14 +45,14 @@ eq_other a b = by (a == b) (b == a) refl refl
 
 -- the core's load of the head is the machine's
 loaded_if : (b : Bool) (s : Seat) (word : ℕ) →
-    record s { hold = record (s.hold) { head = word; generation = if b then s.hold.pin else s.hold.generation; valid = s.hold.valid || b }; walk = record (s.walk) { ready = if b && not (s.hold.pin == s.hold.generation) then false else s.walk.ready } } ≡ head_found_if b s word
+    record s { hold = record (s.hold) { head = word; generation = if b then s.hold.pin else s.hold.generation; valid = s.hold.valid || b }; walk = record (s.walk) { ready = if b && not (s.hold.pin == s.hold.generation) then false else s.walk.ready; first_log = if b && not (s.hold.pin == s.hold.generation) then 0 else s.walk.first_log } } ≡ head_found_if b s word
 loaded_if true s word = (by s.hold.valid (s.hold.pin == s.hold.generation) (s.hold.generation == s.hold.pin) (eq_other s.hold.pin s.hold.generation))
   where
     by : (valid same other : Bool) → same ≡ other →
-        record s { hold = record (s.hold) { head = word; generation = s.hold.pin; valid = valid || true }; walk = record (s.walk) { ready = if not same then false else s.walk.ready } }
-        ≡ record s { hold = record (s.hold) { head = word; generation = s.hold.pin; valid = true }; walk = record (s.walk) { ready = if not other then false else s.walk.ready } }
-    by true same other e = ap (λ (b : Bool). record s { hold = record (s.hold) { head = word; generation = s.hold.pin; valid = true }; walk = record (s.walk) { ready = if not b then false else s.walk.ready } }) e
-    by false same other e = ap (λ (b : Bool). record s { hold = record (s.hold) { head = word; generation = s.hold.pin; valid = true }; walk = record (s.walk) { ready = if not b then false else s.walk.ready } }) e
+        record s { hold = record (s.hold) { head = word; generation = s.hold.pin; valid = valid || true }; walk = record (s.walk) { ready = if not same then false else s.walk.ready; first_log = if not same then 0 else s.walk.first_log } }
+        ≡ record s { hold = record (s.hold) { head = word; generation = s.hold.pin; valid = true }; walk = record (s.walk) { ready = if not other then false else s.walk.ready; first_log = if not other then 0 else s.walk.first_log } }
+    by true same other e = ap (λ (b : Bool). record s { hold = record (s.hold) { head = word; generation = s.hold.pin; valid = true }; walk = record (s.walk) { ready = if not b then false else s.walk.ready; first_log = if not b then 0 else s.walk.first_log } }) e
+    by false same other e = ap (λ (b : Bool). record s { hold = record (s.hold) { head = word; generation = s.hold.pin; valid = true }; walk = record (s.walk) { ready = if not b then false else s.walk.ready; first_log = if not b then 0 else s.walk.first_log } }) e
 loaded_if false s word = by s.hold.valid
   where
     by : (valid : Bool) → record s { hold = record (s.hold) { head = word; valid = valid || false } } ≡ record s { hold = record (s.hold) { head = word; valid = valid } }
@@ -73,23 +74,51 @@ ready_alike generation pin later ready low high = by (generation == pin) refl
     by true e = ap (λ (x : ℕ). (x == later) && ready) (sym (eqb-true generation pin e))
     by false e = unready (pin == later) ∙ sym (ap (λ (b : Bool). b && ready) (ne_eqb generation later (λ same. (let other = eqb-false generation pin e in omega (arith, same, other, low, high)))))
 
+-- and so it is with the first log block
+none_known : (b : Bool) (none : ℕ) → (if b then none else none) ≡ none
+none_known true none = refl
+none_known false none = refl
+
+first_alike : (generation pin later first : ℕ) → generation ≤ pin → pin ≤ later →
+    (if pin == later then (if true && not (generation == pin) then 0 else first) else 0) ≡ (if generation == later then first else 0)
+first_alike generation pin later first low high = by (generation == pin) refl
+  where
+    by : (same : Bool) → (generation == pin) ≡ same → (if pin == later then (if true && not same then 0 else first) else 0) ≡ (if generation == later then first else 0)
+    by true e = ap (λ (x : ℕ). if x == later then first else 0) (sym (eqb-true generation pin e))
+    by false e = none_known (pin == later) 0 ∙ sym (ap (λ (b : Bool). if b then first else 0) (ne_eqb generation later (λ same. (let other = eqb-false generation pin e in omega (arith, same, other, low, high)))))
+
 -- after a load of the head a pin of a later one leaves what it would have left before
 alike_if : (b : Bool) (s : Seat) (f word : ℕ) → (s.hold.pin == generation_in f) ≡ b → s.hold.generation ≤ generation_in f → generation_in f ≤ generation_in word → pinned (head_found_if b s f) word ≡ pinned s word
 alike_if true s f word e low later =
     (let same : s.hold.pin ≡ generation_in f = eqb-true s.hold.pin (generation_in f) e in
-    ap (λ (ready : Bool). record s { hold = record { head = word; pin = generation_in word; generation = generation_in word; valid = true }; walk = record s.walk { ready = ready; kept = [] } })
-    (ready_alike s.hold.generation s.hold.pin (generation_in word) s.walk.ready (omega (arith, same, low)) (omega (arith, same, later))))
+    alike_both (ready_alike s.hold.generation s.hold.pin (generation_in word) s.walk.ready (omega (arith, same, low)) (omega (arith, same, later)))
+    (first_alike s.hold.generation s.hold.pin (generation_in word) s.walk.first_log (omega (arith, same, low)) (omega (arith, same, later))))
+  where
+    held : Bool → ℕ → Seat
+    held ready first = record s { hold = record { head = word; pin = generation_in word; generation = generation_in word; valid = true }; walk = record s.walk { ready = ready; first_log = first; kept = [] } }
+
+    alike_both : {was now : Bool} → {before after : ℕ} → was ≡ now → before ≡ after → held was before ≡ held now after
+    alike_both {was} {now} {before} {after} a b = ap (λ (ready : Bool). held ready before) a ∙ ap (λ (first : ℕ). held now first) b
 alike_if false s f word e low later = refl
 
 kept_if : (same ready : Bool) → (if true && not same then false else ready) ≡ (same && ready)
 kept_if true ready = refl
 kept_if false ready = refl
 
+first_if : (same : Bool) (first : ℕ) → (if true && not same then 0 else first) ≡ (if same then first else 0)
+first_if true first = refl
+first_if false first = refl
+
 -- where the head found is of the pin's generation, and no word is kept, the seat is pinned
 pinned_now : (s : Seat) (f : ℕ) → s.hold.pin ≡ generation_in f → s.walk.kept ≡ [] → head_found_if true s f ≡ pinned s f
-pinned_now s f same none = ap (λ (ready : Bool). record s { hold = record { head = f; pin = s.hold.pin; generation = s.hold.pin; valid = true }; walk = record s.walk { ready = ready } }) (kept_if (s.hold.generation == s.hold.pin) s.walk.ready)
-    ∙ ap (λ (pin : ℕ). record s { hold = record { head = f; pin = pin; generation = pin; valid = true }; walk = record s.walk { ready = s.hold.generation == pin && s.walk.ready } }) same
-    ∙ ap (λ kept. record s { hold = record { head = f; pin = generation_in f; generation = generation_in f; valid = true }; walk = record s.walk { ready = s.hold.generation == generation_in f && s.walk.ready; kept = kept } }) none
+pinned_now s f same none =
+    ap (λ (ready : Bool). held s.hold.pin ready (if true && not (s.hold.generation == s.hold.pin) then 0 else s.walk.first_log) s.walk.kept) (kept_if (s.hold.generation == s.hold.pin) s.walk.ready)
+    ∙ ap (λ (first : ℕ). held s.hold.pin (s.hold.generation == s.hold.pin && s.walk.ready) first s.walk.kept) (first_if (s.hold.generation == s.hold.pin) s.walk.first_log)
+    ∙ ap (λ (pin : ℕ). held pin (s.hold.generation == pin && s.walk.ready) (if s.hold.generation == pin then s.walk.first_log else 0) s.walk.kept) same
+    ∙ ap (λ kept. held (generation_in f) (s.hold.generation == generation_in f && s.walk.ready) (if s.hold.generation == generation_in f then s.walk.first_log else 0) kept) none
+  where
+    held : ℕ → Bool → ℕ → List KeptWord → Seat
+    held pin ready first kept = record s { hold = record { head = f; pin = pin; generation = pin; valid = true }; walk = record s.walk { ready = ready; first_log = first; kept = kept } }
 
 module _ (o : Origin) (seat : ℕ) where
   -- no head found is of a generation before the seat's last one

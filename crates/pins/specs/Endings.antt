@@ -1,16 +1,21 @@
 -- How the machines end.
-use Rattle.std.specs.Prelude.{ℕ, ◌≡◌, ◌+◌, ◌<◌, ◌≤◌, ◌==◌, ◌&&◌, ◌⊎◌, List, [], length, slice_index, true}
+use Rattle.std.specs.Prelude.{ℕ, ◌≡◌, ◌+◌, ◌<◌, ◌≤◌, ◌==◌, ◌&&◌, ◌⊎◌, if◌then◌else◌, List, [], length, slice_index, true}
 use Rattle.log_entry.specs.declared.calls.Held.{Held}
 use Rattle.pmem_words.specs.Seats.{Seat}
 use Rattle.pins.specs.declared.scan.Scanned.{Scanned}
 use Rattle.pins.specs.declared.scan.Scanned.TheVariants.{Clear, Held as HeldBy}
 use Rattle.pins.specs.Steps.{generation_in}
 
--- the seat with a valid pin of the generation of this head word; a map of another generation is not ready, and no word is kept
+-- the seat with a valid pin of the generation of this head word; a map of another generation is not ready, nor its first log block known,
+-- and no word is kept
 abbrev pub pinned : Seat → ℕ → Seat
 pinned s word = record s {
   hold = record { head = word; pin = generation_in word; generation = generation_in word; valid = true };
-  walk = record s.walk { ready = s.hold.generation == generation_in word && s.walk.ready; kept = [] };
+  walk = record s.walk {
+    ready = s.hold.generation == generation_in word && s.walk.ready;
+    first_log = if s.hold.generation == generation_in word then s.walk.first_log else 0;
+    kept = [];
+  };
 }
 
 -- a pin word that needs no block of a generation: it is 0, or greater

@@ -14,7 +14,7 @@ abbrev pub head_of : ℕ → Head
 head_of word = record { generation = field HEAD_GENERATION word; block = field HEAD_BLOCK word }
 
 -- the seat after a load of the head, by whether its pin is of the generation found: if so the pin is valid, and a map of another
--- generation is not ready
+-- generation is not ready, nor its first log block known
 abbrev pub head_found_if : Bool → Seat → ℕ → Seat
 head_found_if pinned s word = record s {
   hold = record s.hold {
@@ -22,7 +22,10 @@ head_found_if pinned s word = record s {
     generation = if pinned then s.hold.pin else s.hold.generation;
     valid = if pinned then true else s.hold.valid;
   };
-  walk = record s.walk { ready = if pinned && not (s.hold.generation == s.hold.pin) then false else s.walk.ready };
+  walk = record s.walk {
+    ready = if pinned && not (s.hold.generation == s.hold.pin) then false else s.walk.ready;
+    first_log = if pinned && not (s.hold.generation == s.hold.pin) then 0 else s.walk.first_log;
+  };
 }
 
 -- the seat after a load of the head that found this word

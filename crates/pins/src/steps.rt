@@ -8,7 +8,7 @@ use log_entry::layouts::HEAD_GENERATION;
 use pmem_words::SeatState;
 
 /// The seat has loaded the head and found this word. The pin is valid where it is of that generation; a map of another
-/// generation is then not ready.
+/// generation is then not ready, and the first log block is not known.
 pub fn find_head(seat: &mut SeatState, word: u64)
     ensures { seat.new ≡ head_found seat.old word }
 {
@@ -17,6 +17,7 @@ pub fn find_head(seat: &mut SeatState, word: u64)
     if u64::from(pin) == HEAD_GENERATION.of(word) {
         if seat.generation() != pin {
             seat.set_ready(false);
+            seat.set_first_log(0);
         }
         seat.set_generation(pin);
         seat.set_valid(true);

@@ -26,6 +26,7 @@ pub record Walk : Type 0 where
   pub tail_slot : ℕ
   pub tail_base : ℕ
   pub snapshot_base : ℕ
+  pub first_log : ℕ
   pub at_tail : Bool
   pub ready : Bool
   pub reading : Bool
@@ -102,6 +103,7 @@ unwalked position = record {
   tail_slot = 0;
   tail_base = 0;
   snapshot_base = 0;
+  first_log = 0;
   at_tail = false;
   ready = false;
   reading = false;

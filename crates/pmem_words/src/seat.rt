@@ -36,6 +36,7 @@ pub struct SeatState {
     tail_slot: u16,
     tail_base: u64,
     snapshot_base: u64,
+    first_log: u16,
     at_tail: bool,
     ready: bool,
     reading: bool,
@@ -87,6 +88,7 @@ impl Model for SeatState {
         tail_slot = s.tail_slot;
         tail_base = s.tail_base;
         snapshot_base = s.snapshot_base;
+        first_log = s.first_log;
         at_tail = s.at_tail;
         ready = s.ready;
         reading = s.reading;
@@ -166,6 +168,7 @@ impl SeatState {
             tail_slot: 0,
             tail_base: 0,
             snapshot_base: 0,
+            first_log: 0,
             at_tail: false,
             ready: false,
             reading: false,

@@ -62,6 +62,7 @@ fn what_was_walked(rt: HostRuntime) -> Result<(), Fail> {
     seat.set_tail_slot(3);
     seat.set_tail_base(24);
     seat.set_snapshot_base(25);
+    seat.set_first_log(26);
     assert_eq!(rt;
         (
             seat.position(),
@@ -71,7 +72,7 @@ fn what_was_walked(rt: HostRuntime) -> Result<(), Fail> {
         ),
         (21, 22, 3, 24)
     );
-    assert_eq!(rt; seat.snapshot_base(), 25);
+    assert_eq!(rt; (seat.snapshot_base(), seat.first_log()), (25, 26));
     seat.set_at_tail(true);
     seat.set_ready(true);
     assert_eq!(rt; (seat.at_tail(), seat.ready()), (true, true));

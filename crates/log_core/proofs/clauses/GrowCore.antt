@@ -157,6 +157,7 @@ module _ (o : Origin) (c : Core) (x : Growth) (s : Seat) (g : Ghost) (began : Li
     ready_walked = old.ready_walked;
     ready_base = old.ready_base;
     ready_tail = old.ready_tail;
+    first_known = old.first_known;
   }
 
   walks : (seat : ℕ) → (view_of views seat).parts ≢ [] → WalkHolds (around o new) (view_of views seat).seat.hold (view_of views seat).seat.walk

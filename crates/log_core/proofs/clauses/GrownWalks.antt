@@ -1,5 +1,5 @@
 -- The walks of all seats, where a step puts a word more into the last log block.
-use Rattle.std.proofs.Common.{◌≡◌, ◌≢◌, ◌≤◌, ◌+◌, ◌-◌, ◌/◌, ⊎_elim, inl, inr, ℕ, true, List, length, drop, sym, ◌∙◌, ap, subst, arith, slice_index}
+use Rattle.std.proofs.Common.{◌<◌, ◌≡◌, ◌≢◌, ◌≤◌, ◌+◌, ◌-◌, ◌/◌, ⊎_elim, inl, inr, ℕ, true, List, length, drop, sym, ◌∙◌, ap, subst, arith, slice_index}
 use Rattle.std.specs.List.{AllByRecursion}
 use Rattle.std.proofs.lemmas.Nat.{div-mul-add}
 use Rattle.log_image.specs.Image.{words_in}
@@ -12,11 +12,11 @@ use Rattle.pmem_words.specs.Seats.{Hold, Walk}
 use Rattle.persistence.specs.Memory.{Cell}
 use Rattle.log_core.specs.Entries.{place_in}
 use Rattle.log_core.specs.Views.{View}
-use Rattle.log_core.specs.Origin.{Origin, shape, first_generation, Generation, LogBlock}
+use Rattle.log_core.specs.Origin.{no_log, Origin, shape, first_generation, Generation, LogBlock}
 use Rattle.log_core.specs.Files.{entries, end_of}
-use Rattle.log_core.specs.Cores.{Core, is_named, is_full, entries_used, log_at, log_blocks, data_names}
+use Rattle.log_core.specs.Cores.{generation_at, Core, is_named, is_full, entries_used, log_at, log_blocks, data_names}
 use Rattle.log_core.specs.Order.{nth_generation}
-use Rattle.log_core.specs.Walks.{WalkHolds, HasWalked, HasRead, IsKeptWord}
+use Rattle.log_core.specs.Walks.{IsFirstLog, WalkHolds, HasWalked, HasRead, IsKeptWord}
 use Rattle.log_core.specs.Invariant.{Invariant, KeptIn, around}
 use Rattle.log_core.proofs.Each.{each_weaker}
 use Rattle.log_core.proofs.SameContents.{same_read}
@@ -27,6 +27,8 @@ use Rattle.log_core.proofs.clauses.Growth.{Growth, Grows, LogLater, grown, recor
 use Rattle.log_core.proofs.clauses.GrownWords.{last_inside, last_late, other_cell}
 use Rattle.log_core.proofs.clauses.GrownNames.{named_more, named_recorded}
 use Rattle.log_core.proofs.clauses.GrownContents.{map_same, size_same}
+use Rattle.std.proofs.lemmas.List.{get_or_past}
+use Rattle.std.proofs.lemmas.Bool.{cases_lt}
 
 module _ (o : Origin) (c : Core) (x : Growth) (inv : Invariant o c) (grows : Grows o c x) where
   abbrev gen : ℕ → Generation
@@ -91,6 +93,16 @@ module _ (o : Origin) (c : Core) (x : Growth) (inv : Invariant o c) (grows : Gro
       in_snapshot block listed = named_recorded o c x inv grows place block kept
           (data_is_named o c.logs (entries o c.history) (gen place) block (has_left (gen place).snapshots (data_names o (entries o c.history) (gen place)) block listed))
 
+  -- a first log block stays where it is: it is one of the log's, as it is not 0
+  first_grown : (generation block : ℕ) → block ≢ 0 → IsFirstLog o c.generations c.logs generation block → IsFirstLog o c.generations x.logs generation block
+  first_grown generation block known r = record { some = r.some; is = r.is ∙ sym (grows.logs.each cut inside).block }
+    where
+      cut : ℕ
+      cut = (generation_at o c.generations generation).cut
+
+      inside : cut < length c.logs
+      inside = ⊎_elim (λ low. low) (λ past. absurd (known (r.is ∙ ap (λ (l : LogBlock). l.block) (get_or_past c.logs cut no_log past)))) (cases_lt cut (length c.logs))
+
   -- the core with other views
   abbrev pub with_views : List View → List ℕ → Core
   with_views views began = record (grown c x) { views = views; began = began }
@@ -117,4 +129,5 @@ module _ (o : Origin) (c : Core) (x : Growth) (inv : Invariant o c) (grows : Gro
       ready_walked = r.ready_walked;
       ready_base = r.ready_base;
       ready_tail = r.ready_tail;
+      first_known = λ known. first_grown h.generation w.first_log known (r.first_known known);
     }

@@ -22,7 +22,7 @@ use Rattle.log_core.specs.Entries.{head_place}
 use Rattle.log_core.specs.Views.{View, Ghost, HeadPut, view_of}
 use Rattle.log_core.specs.Origin.{Origin, shape, q_of_origin, first_generation, Header, InChain, OwnedBy, LeftTo, Generation}
 use Rattle.log_core.specs.Files.{entries}
-use Rattle.log_core.specs.Cores.{Core, current, generation_at, is_named, head_floor, data_names}
+use Rattle.log_core.specs.Cores.{nth_log, Core, current, generation_at, is_named, head_floor, data_names}
 use Rattle.log_core.specs.May.{MayExchangeHead}
 use Rattle.log_core.specs.Order.{nth_generation}
 use Rattle.log_core.specs.Owners.{IsListOf}
@@ -195,6 +195,10 @@ module _ (o : Origin) (c : Core) (n : ℕ) (s : Seat) (g : Ghost) (pin began bef
     ready_walked = r.ready_walked;
     ready_base = λ ready. r.ready_base ready ∙ ap (λ (x : Generation). x.base) (sym (same_gen h.generation (pinned.to_current (r.ready_walked ready).2)));
     ready_tail = r.ready_tail;
+    first_known = λ known. (let q = r.first_known known in record {
+      some = q.some;
+      is = q.is ∙ ap (λ (x : Generation). (nth_log c.logs x.cut).block) (sym (same_gen h.generation (pinned.to_current q.some)));
+    });
   }
 
   -- a mark of a running sync, where its generation is kept

@@ -97,6 +97,7 @@ module _ (o : Origin) (c : Core) (n : ℕ) (calling : Calling) (put : Option Hea
     ready_walked = r.ready_walked;
     ready_base = r.ready_base;
     ready_tail = r.ready_tail;
+    first_known = r.first_known;
   }
 
   walks : (seat : ℕ) → (view_of views seat).parts ≢ [] → WalkHolds (around o new) (view_of views seat).seat.hold (view_of views seat).seat.walk

@@ -119,6 +119,7 @@ module _ (o : Origin) (c : Core) (n : ℕ) (s : Seat) (g : Ghost) (pin began : �
         ready_walked = w.ready_walked;
         ready_base = w.ready_base;
         ready_tail = w.ready_tail;
+        first_known = w.first_known;
       }
 
     module _ (closed : s.walk.tail_slot ≡ words_of s) (linked : kept_word s s.walk.tail_block 0 ≢ 0) where
@@ -182,13 +183,14 @@ module _ (o : Origin) (c : Core) (n : ℕ) (s : Seat) (g : Ghost) (pin began : �
         ready_walked = λ again. (let r = w.ready_walked again in (linked, r.1, r.2));
         ready_base = w.ready_base;
         ready_tail = λ again. (let low = w.ready_tail again in let position = position_is in omega (arith, low, position));
+        first_known = w.first_known;
       }
 
   pub seal_facts : s.walk.tail_slot ≢ words_of s → tail_word s ≡ SEAL → Knows o c n (state_after_work s TakesSeal) g pin began
-  seal_facts open_block seal = place_facts o c n s g pin began f [] s.walk.tail_block s.walk.tail_base (words_of s) s.walk.ready s.walk.snapshot_base s.walk.at_tail (stays_away o c n s g pin began f) f.tail
+  seal_facts open_block seal = place_facts o c n s g pin began f [] s.walk.tail_block s.walk.tail_base (words_of s) s.walk.ready s.walk.snapshot_base s.walk.first_log s.walk.at_tail (stays_away o c n s g pin began f) f.tail
       (λ some. walk_sealed some open_block seal)
 
   pub follow_facts : s.walk.tail_slot ≡ words_of s → kept_word s s.walk.tail_block 0 ≢ 0 → Knows o c n (state_after_work s Follows) g pin began
-  follow_facts closed linked = place_facts o c n s g pin began f [] (kept_word s s.walk.tail_block 0) s.walk.position 3 s.walk.ready s.walk.snapshot_base s.walk.at_tail (stays_away o c n s g pin began f)
+  follow_facts closed linked = place_facts o c n s g pin began f [] (kept_word s s.walk.tail_block 0) s.walk.position 3 s.walk.ready s.walk.snapshot_base s.walk.first_log s.walk.at_tail (stays_away o c n s g pin began f)
       (λ at. (let r = f.tail at in record { walked = linked; from_first = r.from_first; begun = r.begun; records = r.records }))
       (λ some. walk_followed some closed linked)

@@ -231,6 +231,7 @@ module _ (o : Origin) (c : Core) (n : ℕ) (s : Seat) (g : Ghost) (pin began wor
         ready_walked = k.ready_walked;
         ready_base = k.ready_base;
         ready_tail = k.ready_tail;
+        first_known = k.first_known;
       })
 
   put_fits : began ≤ end_of o c.history → FitsGrown o c growth inv grows s g pin began f walk_put calling_put blocks_put stored_put

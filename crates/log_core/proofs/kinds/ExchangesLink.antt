@@ -131,6 +131,7 @@ module _ (o : Origin) (c : Core) (n : ℕ) (s : Seat) (g : Ghost) (pin began wor
     ready_walked = λ again. (let r = w.ready_walked again in (some_block, r.1, r.2));
     ready_base = w.ready_base;
     ready_tail = λ again. (let low = w.ready_tail again in let base = last.base in let position = last_base in omega (arith, low, base, position));
+    first_known = w.first_known;
   })
 
   not_reading : {P : Type 0} → s.walk.reading ≡ true → P

@@ -1,5 +1,5 @@
 -- The walk, the hold and the kept blocks of a view that another was joined into.
-use Rattle.std.proofs.Common.{◌≡◌, ◌≢◌, ◌≤◌, ◌+◌, ◌-◌, ◌==◌, ℕ, Bool, true, false, nat_lt, List, [], refl, sym, ◌∙◌, arith, slice_set}
+use Rattle.std.proofs.Common.{subst, ◌≡◌, ◌≢◌, ◌≤◌, ◌+◌, ◌-◌, ◌==◌, ℕ, Bool, true, false, nat_lt, List, [], refl, sym, ◌∙◌, arith, slice_set}
 use Rattle.std.proofs.lemmas.Bool.{false≢true}
 use Rattle.std.proofs.lemmas.List.Folds.{list_any-append}
 use Rattle.log_image.specs.Chains.{is_listed}
@@ -11,7 +11,7 @@ use Rattle.log_core.specs.Origin.{Origin, first_generation, Owner}
 use Rattle.log_core.specs.Files.{entries}
 use Rattle.log_core.specs.Cores.{Core, current, head_floor}
 use Rattle.log_core.specs.Pins.{PinHolds}
-use Rattle.log_core.specs.Walks.{WalkHolds}
+use Rattle.log_core.specs.Walks.{IsFirstLog, WalkHolds}
 use Rattle.log_core.specs.Owned.{OwnedHold}
 use Rattle.log_core.specs.Giving.{GivingHolds, ScanHolds}
 use Rattle.log_core.specs.Steps.{walk_of, generation_found, view_joined}
@@ -79,6 +79,7 @@ module _ (o : Origin) (c : Core) (seat other : ℕ) (inv : Invariant o c) (may :
     ready_walked = λ ready. (let q = r.ready_walked ready in (q.0, q.1, (λ zero_is. q.2 (sym same ∙ zero_is))));
     ready_base = λ ready. rw same (r.ready_base ready);
     ready_tail = r.ready_tail;
+    first_known = λ known. subst (λ (generation : ℕ). IsFirstLog o c.generations c.logs generation x.walk.first_log) (sym same) (r.first_known known);
   }
 
   walk_joined : (b : Bool) → WalkHolds (around o new) (record (v.seat.hold) { generation = generation_found b v.seat.hold.generation u.seat.hold.generation }) (walk_of b v.seat.walk u.seat.walk)
@@ -100,6 +101,7 @@ module _ (o : Origin) (c : Core) (seat other : ℕ) (inv : Invariant o c) (may :
         ready_walked = r.ready_walked;
         ready_base = r.ready_base;
         ready_tail = r.ready_tail;
+        first_known = r.first_known;
       }))
 
   pub owned : (k : ℕ) → OwnedHold (λ word. cell c.memory word) c.memory.past c.memory.pending k (view_of views k).ghost (view_of views k).seat

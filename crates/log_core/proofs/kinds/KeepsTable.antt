@@ -1,18 +1,22 @@
 -- The kept table is taken again after a valid pin: the view is ready in the pinned chain.
-use Rattle.std.proofs.Common.{◌≡◌, ◌≢◌, ◌<◌, ◌≤◌, ℕ, true, false, [], length, refl, sym, ◌∙◌, ap, subst, arith, Option, Some, None}
+use Rattle.std.proofs.Common.{if◌then◌else◌, ◌==◌, Bool, ◌≡◌, ◌≢◌, ◌<◌, ◌≤◌, ℕ, true, false, [], length, refl, sym, ◌∙◌, ap, subst, arith, Option, Some, None}
 use Rattle.log_entry.specs.Fields.{field}
 use Rattle.log_entry.specs.declared.layouts.TheConstants.{HEAD_GENERATION, BLOCK_BASE, BLOCK_KIND, LOG, SNAPSHOT}
 use Rattle.pmem_words.specs.Seats.{Seat}
 use Rattle.log_core.specs.Views.{Ghost, view_of}
-use Rattle.log_core.specs.Origin.{Origin}
-use Rattle.log_core.specs.Cores.{Core}
-use Rattle.log_core.specs.Works.{KeepsTable, IsAtFront, kept_at, word_or_zero, front, front_base, front_kind, state_after_work}
+use Rattle.log_core.specs.Origin.{LogBlock, Origin}
+use Rattle.log_core.specs.Cores.{log_at, Core}
+use Rattle.log_core.specs.Works.{walk_kept, KeepsTable, IsAtFront, kept_at, word_or_zero, front, front_base, front_kind, state_after_work}
 use Rattle.log_core.specs.Order.{nth_generation, front_of}
 use Rattle.log_core.specs.Invariant.{Invariant, KeptIn}
 use Rattle.log_core.specs.Knows.{Knows}
 use Rattle.log_core.proofs.Facts.{place_facts, stays_away}
 use Rattle.log_core.proofs.PinnedChains.{place, some_generation, from_first, kept, IsChainWord, chain_kept}
 use Rattle.log_core.proofs.Fronts.{head_front, front_says, front_log, front_snapshot}
+use Rattle.log_core.specs.Walks.{IsFirstLog, HasWalked}
+use Rattle.log_core.specs.Files.{entries}
+use Rattle.std.proofs.lemmas.Bool.{eqb-true}
+use Rattle.log_core.proofs.LogTails.{log_again}
 
 module _ (o : Origin) (c : Core) (n : ℕ) (s : Seat) (g : Ghost) (pin began : ℕ) (inv : Invariant o c) (f : Knows o c n s g pin began) (at_front : IsAtFront s) where
   abbrev at : ℕ
@@ -57,7 +61,7 @@ module _ (o : Origin) (c : Core) (n : ℕ) (s : Seat) (g : Ghost) (pin began : �
     front_kinds log = kind_by (kept_at s.walk.kept (front s) 1) refl log
 
   pub table_facts : s.walk.tail_block ≢ 0 → s.walk.reading ≡ false → front_base s ≤ s.walk.tail_base → Knows o c n (state_after_work s KeepsTable) g pin began
-  table_facts walked stopped low = place_facts o c n s g pin began f s.walk.kept s.walk.tail_block s.walk.tail_base s.walk.tail_slot true (front_base s) s.walk.at_tail
+  table_facts walked stopped low = place_facts o c n s g pin began f s.walk.kept s.walk.tail_block s.walk.tail_base s.walk.tail_slot true (front_base s) (walk_kept s.walk (front_base s)).first_log s.walk.at_tail
       (stays_away o c n s g pin began f) f.tail
       (λ some. (let w = f.walk some in record {
         unwalked = w.unwalked;
@@ -71,4 +75,17 @@ module _ (o : Origin) (c : Core) (n : ℕ) (s : Seat) (g : Ghost) (pin began : �
         ready_walked = λ ready. (walked, stopped, has_generation);
         ready_base = λ ready. base_is some;
         ready_tail = λ ready. low;
+        first_known = first_by (front_base s == s.walk.tail_base) refl some (w.walked walked stopped) w.first_known;
       }))
+    where
+      -- a tail at the base of the chain's first log block is in that block
+      first_by : (b : Bool) → (front_base s == s.walk.tail_base) ≡ b → (view_of c.views n).parts ≢ [] → HasWalked o (entries o c.history) c.logs s.walk →
+          (s.walk.first_log ≢ 0 → IsFirstLog o c.generations c.logs s.hold.generation s.walk.first_log) → (if b then s.walk.tail_block else s.walk.first_log) ≢ 0 →
+          IsFirstLog o c.generations c.logs s.hold.generation (if b then s.walk.tail_block else s.walk.first_log)
+      first_by false e some has before known = before known
+      first_by true e some has before known = record {
+        some = has_generation;
+        is = sym has.block ∙ ap (λ (l : LogBlock). l.block)
+            (ap (λ (base : ℕ). log_at c.logs base) (sym (eqb-true (front_base s) s.walk.tail_base e) ∙ (base_is some ∙ sym (inv.order.generations_rise.cut_base at in_chain.inside)))
+            ∙ log_again o c inv (nth_generation c.generations at).cut (inv.order.generations_rise.cut_inside at in_chain.inside));
+      }

@@ -13,7 +13,7 @@ use Rattle.log_core.specs.Origin.{Origin, shape, q_of_origin, first_generation}
 use Rattle.log_core.specs.Files.{entries}
 use Rattle.log_core.specs.Cores.{Core, current, generation_at, is_named, head_floor, IsPinned}
 use Rattle.log_core.specs.Pins.{PinHolds}
-use Rattle.log_core.specs.Walks.{WalkHolds, IsKeptWord}
+use Rattle.log_core.specs.Walks.{IsFirstLog, WalkHolds, IsKeptWord}
 use Rattle.log_core.specs.Giving.{GivingHolds, ScanHolds}
 use Rattle.log_core.specs.Synced.{SyncMarkHolds}
 use Rattle.log_core.specs.Invariant.{Invariant, around, names_by}
@@ -27,8 +27,11 @@ hold_by b h word = record h { head = word; generation = if b then h.pin else h.g
 abbrev pub ready_by : Bool → Hold → Bool → Bool
 ready_by b h ready = if b && not (h.pin == h.generation) then false else ready
 
+abbrev pub first_by : Bool → Hold → ℕ → ℕ
+first_by b h block = if b && not (h.pin == h.generation) then 0 else block
+
 abbrev pub loaded_by : Bool → Seat → ℕ → Seat
-loaded_by b s word = record s { hold = hold_by b s.hold word; walk = record (s.walk) { ready = ready_by b s.hold s.walk.ready } }
+loaded_by b s word = record s { hold = hold_by b s.hold word; walk = record (s.walk) { ready = ready_by b s.hold s.walk.ready; first_log = first_by b s.hold s.walk.first_log } }
 
 valid_either : (valid : Bool) → (valid || false) ≡ true → valid ≡ true
 valid_either true e = refl
@@ -57,6 +60,23 @@ ready_same true h ready e = by (h.pin == h.generation) refl e
     by : (same : Bool) → (h.pin == h.generation) ≡ same → (if not same then false else ready) ≡ true → h.pin ≡ h.generation
     by true is e = eqb-true h.pin h.generation is
     by false is e = cc
+
+-- and where a first log block is known after it, it was, and its generation is the same
+first_was : (b : Bool) (h : Hold) (block : ℕ) → first_by b h block ≢ 0 → first_by b h block ≡ block
+first_was false h block known = refl
+first_was true h block known = by (h.pin == h.generation) known
+  where
+    by : (same : Bool) → (if not same then 0 else block) ≢ 0 → (if not same then 0 else block) ≡ block
+    by true known = refl
+    by false known = absurd (known refl)
+
+first_same : (b : Bool) (h : Hold) (block : ℕ) → first_by b h block ≢ 0 → (if b then h.pin else h.generation) ≡ h.generation
+first_same false h block known = refl
+first_same true h block known = by (h.pin == h.generation) refl known
+  where
+    by : (same : Bool) → (h.pin == h.generation) ≡ same → (if not same then 0 else block) ≢ 0 → h.pin ≡ h.generation
+    by true is known = eqb-true h.pin h.generation is
+    by false is known = absurd (known refl)
 
 module _ (o : Origin) (c : Core) (n : ℕ) (s : Seat) (g : Ghost) (pin began word : ℕ) (inv : Invariant o c) (f : Knows o c n s g pin began)
     (found : word ≡ (cell c.memory head_place).present) where
@@ -117,6 +137,9 @@ module _ (o : Origin) (c : Core) (n : ℕ) (s : Seat) (g : Ghost) (pin began wor
     ready_base = λ ready. subst (λ (generation : ℕ). s.walk.snapshot_base ≡ (generation_at o c.generations generation).base) (sym (ready_same b s.hold s.walk.ready ready))
         (w.ready_base (ready_was b s.hold s.walk.ready ready));
     ready_tail = λ ready. w.ready_tail (ready_was b s.hold s.walk.ready ready);
+    first_known = λ known. (let was = first_was b s.hold s.walk.first_log known in
+        subst (λ (generation : ℕ). IsFirstLog o c.generations c.logs generation (first_by b s.hold s.walk.first_log)) (sym (first_same b s.hold s.walk.first_log known))
+        (subst (λ (block : ℕ). IsFirstLog o c.generations c.logs s.hold.generation block) (sym was) (w.first_known (λ none. known (was ∙ none)))));
   }
 
   -- a scan that found the seat with no pin that needs its blocks is right: a pin that is now valid is of the present generation

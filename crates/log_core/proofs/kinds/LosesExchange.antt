@@ -57,6 +57,7 @@ module _ (o : Origin) (c : Core) (n : ℕ) (s : Seat) (g : Ghost) (pin began wor
           ready_walked = w.ready_walked;
           ready_base = w.ready_base;
           ready_tail = w.ready_tail;
+          first_known = w.first_known;
         });
         scan_others = l.scan_others;
         scan_self = l.scan_self;

@@ -154,6 +154,7 @@ module _ (o : Origin) (c : Core) (n : ℕ) (s : Seat) (g : Ghost) (pin began : �
       ready_walked = w.ready_walked;
       ready_base = w.ready_base;
       ready_tail = w.ready_tail;
+      first_known = w.first_known;
     }
 
     -- an entry is taken in
@@ -310,6 +311,7 @@ module _ (o : Origin) (c : Core) (n : ℕ) (s : Seat) (g : Ghost) (pin began : �
         ready_walked = λ ready. (no_zero, refl, some_generation o c n s g pin began inv f reading.valid);
         ready_base = λ ready. has_read.position_is;
         ready_tail = λ ready. omega arith;
+        first_known = λ known. record { some = some_generation o c n s g pin began inv f reading.valid; is = all_read.0 };
       }
         where
           no_zero : kept_word s block 0 ≢ 0

@@ -145,6 +145,7 @@ module _ (o : Origin) (c : Core) (n : ℕ) (s : Seat) (g : Ghost) (pin began wor
     ready_walked = w.ready_walked;
     ready_base = w.ready_base;
     ready_tail = w.ready_tail;
+    first_known = w.first_known;
   })
     where
       position_is : s.walk.position ≡ s.walk.tail_base + entries_used (more_used (shape o) c.logs inv.order.log.some slot)

@@ -167,6 +167,7 @@ module _ (o : Origin) (c : Core) (inv : Invariant o c) (may : MaySplit o c 0) wh
         ready_walked = r.ready_walked;
         ready_base = r.ready_base;
         ready_tail = r.ready_tail;
+        first_known = r.first_known;
       }
 
   scans : (seat other : ℕ) → ScanHolds (view_of views seat).seat.giving other (view_of views other).seat.hold

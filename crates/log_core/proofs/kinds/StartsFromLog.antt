@@ -72,6 +72,7 @@ module _ (o : Origin) (c : Core) (n : ℕ) (s : Seat) (g : Ghost) (pin began : �
       ready_walked = λ ready. (no_zero, refl, some_generation o c n s g pin began inv f may.at_front.valid);
       ready_base = λ ready. base;
       ready_tail = λ ready. omega arith;
+      first_known = λ known. record { some = some_generation o c n s g pin began inv f may.at_front.valid; is = front_log };
     }
       where
         no_zero : front s ≢ 0

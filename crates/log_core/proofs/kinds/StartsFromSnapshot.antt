@@ -103,6 +103,7 @@ module _ (o : Origin) (c : Core) (n : ℕ) (s : Seat) (g : Ghost) (pin began : �
       ready_walked = λ ready. cc;
       ready_base = λ ready. cc;
       ready_tail = λ ready. cc;
+      first_known = λ known. absurd (known refl);
     }
       where
         by : (snapshots : List ℕ) → pinned.snapshots ≡ snapshots → 0 < length pinned.snapshots → HasRead c.recorded pinned (state_after_work s StartsFromSnapshot).walk

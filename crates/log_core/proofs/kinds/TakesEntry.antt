@@ -282,6 +282,7 @@ module _ (o : Origin) (c : Core) (n : ℕ) (s : Seat) (g : Ghost) (pin began : �
     ready_walked = w.ready_walked;
     ready_base = w.ready_base;
     ready_tail = w.ready_tail;
+    first_known = w.first_known;
   }
     where
       all_slots : s.walk.tail_slot + 1 ≡ words_in (shape o) → length block.slots + 3 ≡ words_in (shape o)

@@ -56,6 +56,7 @@ walk zero some = record {
   ready_walked = λ ready. (λ none. omega (arith, none), refl, λ none. omega (arith, none));
   ready_base = λ ready. refl;
   ready_tail = λ ready. omega arith;
+  first_known = λ known. record { some = λ none. omega (arith, none); is = refl };
 }
 walk (suc zero) some = record {
   unwalked = λ none. absurd (omega (arith, none));
@@ -78,6 +79,7 @@ walk (suc zero) some = record {
   ready_walked = λ ready. (λ none. omega (arith, none), refl, λ none. omega (arith, none));
   ready_base = λ ready. refl;
   ready_tail = λ ready. omega arith;
+  first_known = λ known. record { some = λ none. omega (arith, none); is = refl };
 }
 walk (suc (suc seat)) some = absurd (some refl)
 

@@ -6,7 +6,7 @@ use Rattle.log_image.specs.Maps.{map_of}
 use Rattle.log_image.proofs.HoldingLemmas.{names_none}
 use Rattle.pmem_words.specs.Maps.{map_at as mapped_at}
 use Rattle.log_core.specs.Walks.{read_meanings}
-use Rattle.log_core.specs.worked_rows.WalkGaps.{two_snapshots, two_contents, first_read, gone_on, PlaceOfAnother}
+use Rattle.log_core.specs.worked_rows.WalkGaps.{two_snapshots, two_contents, first_read, gone_on, PlaceOfAnother, FirstLogOfAnother}
 use Rattle.log_core.proofs.row_checks.RowTells.{some_not_none}
 
 -- the entry of the first block is all that is read, before and after
@@ -39,4 +39,21 @@ place_of_another = (
   record { inside = omega arith; block = refl; from = omega arith; upto = omega arith; table = table; size_is = refl; position_is = refl },
   λ read. (let other = read.block in omega (arith, other)),
   λ read. (let past = read.inside in omega (arith, past)),
+)
+
+pub first_log_of_another : FirstLogOfAnother
+first_log_of_another = (
+  refl,
+  refl,
+  refl,
+  refl,
+  record { some = λ none. omega (arith, none); is = refl },
+  λ holds. (let other = (holds.first_known (λ none. omega (arith, none))).is in omega (arith, other)),
+  refl,
+  refl,
+  refl,
+  refl,
+  refl,
+  refl,
+  refl,
 )

@@ -100,6 +100,7 @@ walks_at a position same below = record {
   ready_walked = λ ready. absurd (false≢true ready);
   ready_base = λ ready. absurd (false≢true ready);
   ready_tail = λ ready. absurd (false≢true ready);
+  first_known = λ known. absurd (known refl);
 }
 
 pub start_walks : (o : Origin) → WalksHold (around o (first_core o)) (first_views o)

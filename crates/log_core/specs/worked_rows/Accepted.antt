@@ -296,6 +296,7 @@ runs_writer = record (new_seat wide 0 2 7) {
     tail_slot = 3;
     tail_base = 7;
     snapshot_base = 7;
+    first_log = 0;
     at_tail = true;
     ready = true;
     reading = false;

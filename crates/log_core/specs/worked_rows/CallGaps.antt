@@ -55,6 +55,7 @@ early_writer = record (new_seat small 0 2 2) {
     tail_slot = 4;
     tail_base = 0;
     snapshot_base = 0;
+    first_log = 0;
     at_tail = false;
     ready = true;
     reading = false;

@@ -548,6 +548,7 @@ walker kept = record (new_seat wide 0 2 7) {
     tail_slot = 3;
     tail_base = 7;
     snapshot_base = 7;
+    first_log = 0;
     at_tail = false;
     ready = true;
     reading = false;

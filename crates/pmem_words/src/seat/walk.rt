@@ -131,6 +131,20 @@ impl SeatState {
         self.snapshot_base = snapshot_base;
     }
 
+    /// The first log block of the chain of `generation`, the number of a block below 65,536; 0 where it is not known.
+    pub fn first_log(&self) -> u16
+        ensures { result ≡ self.now.walk.first_log }
+    {
+        self.first_log
+    }
+
+    /// Sets the first log block.
+    pub fn set_first_log(&mut self, first_log: u16)
+        ensures { self.new ≡ record self.old { walk = record self.old.walk { first_log = first_log } } }
+    {
+        self.first_log = first_log;
+    }
+
     /// Whether the present call, while `ready`, found the log's end at this position, or won its exchange there.
     pub fn at_tail(&self) -> bool
         ensures { result ≡ self.now.walk.at_tail }
