@@ -67,13 +67,9 @@ abbrev pub StoppedRunsAreLegal : Type 0
 StoppedRunsAreLegal = (o : Origin) (calls whole : List Call) (c : Core) → IsStart o → Ran o calls c →
     IsPermutation (calls ++ running_writes o c) whole → IsInOrder whole → IsWholeHistory o c whole
 
--- each of some calls has a smaller number than those of its seat among others
-abbrev pub ComeBefore : List Call → List Call → Type 0
-ComeBefore calls others = AllByRecursion (λ (call : Call). AllByRecursion (λ (other : Call). call.seat ≡ other.seat → call.number < other.number) others) calls
-
--- and each seat's calls stand in it by their numbers, where a quiet call's number is below that of its seat's running call: that one began later
+-- and each seat's calls stand in it by their numbers
 abbrev pub StoppedSeatsInOrder : Type 0
-StoppedSeatsInOrder = (o : Origin) (calls whole : List Call) (c : Core) → IsStart o → (ran : Ran o calls c) → ComeBefore ran.quiet (running_writes o c) →
+StoppedSeatsInOrder = (o : Origin) (calls whole : List Call) (c : Core) → IsStart o → Ran o calls c →
     IsPermutation (calls ++ running_writes o c) whole → IsInOrder whole → (seat : ℕ) → NeverFall seat 0 0 whole
 
 -- and with the collections put in, too, whose running calls have put their head in place, each generation was put in place by one call, in

@@ -28,7 +28,7 @@ pub fn law_reuse()
 /// position to the end of the writes, with each seat's calls by their numbers, and their collections put each generation in place, in turn.
 /// The calls of each run wherever it stops, while calls run, with each write put in that a running call has put into the history and not
 /// yet recorded, are a legal history from the start's file and position to the end of the writes and the file there. Each seat's calls stand
-/// in it by their numbers, where a quiet call has a smaller number than a running call of its seat. And with the collections put in, too,
+/// in it by their numbers. And with the collections put in, too,
 /// whose running calls have put their head in place, each generation was put in place by one, in turn.
 /// Each record of each run is of a position that was the end at a step of its own call, which put it in where it is an accepted write. And
 /// what a record says that its call found, the call found at its own steps: each block of an area that it found full, the generation that

@@ -6,7 +6,7 @@ use Rattle.log_entry.specs.declared.calls.Call.{Call}
 use Rattle.log_core.specs.Origin.{Origin}
 use Rattle.log_core.specs.Steps.{Step}
 use Rattle.log_core.specs.Runs.{end, IsRun}
-use Rattle.log_core.specs.Following.{IsSeen, ComeBefore, StoppedSeatsInOrder}
+use Rattle.log_core.specs.Following.{IsSeen, StoppedSeatsInOrder}
 use Rattle.log_core.proofs.Each.{each_weaker, each_both}
 use Rattle.log_entry.specs.Legal.{is_write}
 use Rattle.std.proofs.lemmas.Bool.{eqb-true, false≢true}
@@ -32,6 +32,10 @@ use Rattle.log_core.proofs.following.RecordedCalls.{each_view, each_record, each
 use Rattle.log_core.proofs.following.NumbersRise.{InTime, count_calls, never_fall_in_order}
 use Rattle.log_core.proofs.following.CallsInTime.{each_quiet, each_permuted, counted_permuted, in_time, some_numbers}
 use Rattle.log_core.proofs.following.CountedCalls.{count_join, count_over, none_counted, all_counted}
+
+-- each of some calls has a smaller number than those of its seat among others
+abbrev ComeBefore : List Call → List Call → Type 0
+ComeBefore calls others = AllByRecursion (λ (call : Call). AllByRecursion (λ (other : Call). call.seat ≡ other.seat → call.number < other.number) others) calls
 
 -- where calls have smaller numbers than others of their seats, none of the one is counted, or none of the other
 apart_counted : (seat number : ℕ) (calls others : List Call) → ComeBefore calls others → (count_calls seat number calls ≡ 0) ⊎ (count_calls seat number others ≡ 0)
@@ -145,13 +149,21 @@ module _ (o : Origin) (steps : List Step) (start : IsStart o) (run : IsRun o ste
               absent [] none = ap (λ (p : List ℕ). is_listed p r.seat) none
               absent (part ∷ parts) is_parts = own_part c.history c.views inv.records.seats_once r.seat is.unspent j apart (λ none. (let never : (part ∷ parts) ≡ [] = sym is_parts ∙ none in cc))
 
-  module _ (quiet calls whole : List Call) (are : AreQuiet o c steps quiet) (same : IsPermutation (recorded_calls c.views ++ quiet) calls) (before : ComeBefore quiet (running_writes o c))
+  module _ (quiet calls whole : List Call) (are : AreQuiet o c steps quiet) (same : IsPermutation (recorded_calls c.views ++ quiet) calls)
       (put : IsPermutation (calls ++ running_writes o c) whole) (order : IsInOrder whole) where
     abbrev late : List Call
     late = running_writes o c
 
     each : AllByRecursion (IsQuietCall o steps c) quiet
     each = each_quiet o c steps quiet are
+
+    -- a quiet call was made while its seat ran none, so one that still runs began later
+    quiet_before : ComeBefore quiet late
+    quiet_before = each_weaker (IsQuietCall o steps c) (λ (b : Call). AllByRecursion (λ (r : Call). b.seat ≡ r.seat → b.number < r.number) late) quiet
+        (λ b is. each_weaker IsRunning (λ (r : Call). b.seat ≡ r.seat → b.number < r.number) late
+        (λ r runs same_seat. (let number = runs.number_is in
+        let low = is.made.before_running (subst (λ (seat : ℕ). op_in (view_of c.views seat).seat ≢ None) (sym same_seat) runs.runs) in
+        let one = ap (λ (seat : ℕ). (view_of c.views seat).ghost.call.number) same_seat in omega (arith, number, low, one))) running) each
 
     recorded_seen : AllByRecursion (IsCallSeen o steps) (recorded_calls c.views)
     recorded_seen = records_are_seen o steps start run
@@ -169,7 +181,7 @@ module _ (o : Origin) (steps : List Step) (start : IsStart o) (run : IsRun o ste
 
     calls_before : ComeBefore calls late
     calls_before = each_permuted (λ (b : Call). AllByRecursion (λ (r : Call). b.seat ≡ r.seat → b.number < r.number) late) (recorded_calls c.views ++ quiet) calls same
-        (each_join (λ (b : Call). AllByRecursion (λ (r : Call). b.seat ≡ r.seat → b.number < r.number) late) (recorded_calls c.views) quiet recorded_before before)
+        (each_join (λ (b : Call). AllByRecursion (λ (r : Call). b.seat ≡ r.seat → b.number < r.number) late) (recorded_calls c.views) quiet recorded_before quiet_before)
 
     calls_in_time : InTime calls
     calls_in_time = each_weaker (λ (b : Call). AllByRecursion (λ (a : Call). AreInTime a b) (recorded_calls c.views ++ quiet)) (λ (b : Call). AllByRecursion (λ (a : Call). AreInTime a b) calls) calls
@@ -208,6 +220,6 @@ module _ (o : Origin) (steps : List Step) (start : IsStart o) (run : IsRun o ste
         (each_permuted (λ (call : Call). 0 < call.number) (calls ++ late) whole put both_some)
 
 pub stopped_seats_in_order : StoppedSeatsInOrder
-stopped_seats_in_order o calls whole core start ran before put order = subst (λ (c : Core). ComeBefore ran.quiet (running_writes o c) → IsPermutation (calls ++ running_writes o c) whole →
+stopped_seats_in_order o calls whole core start ran put order = subst (λ (c : Core). IsPermutation (calls ++ running_writes o c) whole →
     AreQuiet o c ran.steps ran.quiet → IsPermutation (recorded_calls c.views ++ ran.quiet) calls → (seat : ℕ) → NeverFall seat 0 0 whole) ran.ends
-    (λ low with_them are same. whole_never_falls o ran.steps start ran.is_run ran.quiet calls whole are same low with_them order) before put ran.are_quiet ran.same_calls
+    (λ with_them are same. whole_never_falls o ran.steps start ran.is_run ran.quiet calls whole are same with_them order) put ran.are_quiet ran.same_calls
