@@ -53,6 +53,10 @@ running_collection v None = []
 abbrev pub running_collections : List View → List Call
 running_collections views = flat_map (λ (v : View). running_collection v v.ghost.call.put) views
 
+-- what running calls have put in that has no record yet
+abbrev pub running_calls : Origin → Core → List Call
+running_calls o c = running_writes o c ++ running_collections c.views
+
 -- the greatest position of some calls, or a first one
 abbrev pub greatest_position : ℕ → List Call → ℕ
 greatest_position position [] = position

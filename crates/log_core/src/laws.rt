@@ -1,7 +1,7 @@
 //! Laws of the core, each the contract of a function that does nothing.
 
 ghost use Rattle.log_core.specs.Laws.{StartMeets, StepKeeps, RunKeeps};
-ghost use Rattle.log_core.specs.Following.{NoneReused, RunsAreLegal, StoppedRunsAreLegal, StoppedSeatsInOrder, StoppedCollectionsInTurn, RecordsAreSeen};
+ghost use Rattle.log_core.specs.Following.{NoneReused, RunsAreLegal, StoppedRunsAreLegal, StoppedWritesAreLegal, RecordsAreSeen};
 ghost use Rattle.log_core.specs.Causes.{RecordsHaveCauses};
 ghost use Rattle.log_core.specs.Crashes.{CrashesAreRecovered, PresentWordsHaveAll};
 
@@ -26,18 +26,16 @@ pub fn law_reuse()
 
 /// The calls of each run that ends with no call running, in the order of a report, are one legal history from the start's file and
 /// position to the end of the writes, with each seat's calls by their numbers, and their collections put each generation in place, in turn.
-/// The calls of each run wherever it stops, while calls run, with each write put in that a running call has put into the history and not
-/// yet recorded, are a legal history from the start's file and position to the end of the writes and the file there. Each seat's calls stand
-/// in it by their numbers. And with the collections put in, too,
-/// whose running calls have put their head in place, each generation was put in place by one, in turn.
+/// So are the calls of each run wherever it stops, while calls run, with what running calls have put in and not yet recorded: each write
+/// that is in the history, and each collection whose head is in place, at its snapshot's position. With those writes alone they are a
+/// legal history of the same file, with each seat's calls by their numbers.
 /// Each record of each run is of a position that was the end at a step of its own call, which put it in where it is an accepted write. And
 /// what a record says that its call found, the call found at its own steps: each block of an area that it found full, the generation that
 /// overtook it, and a held pin, which is another seat's.
 pub fn law_legal()
     ensures one_history { RunsAreLegal }
     ensures stopped { StoppedRunsAreLegal }
-    ensures stopped_seats { StoppedSeatsInOrder }
-    ensures stopped_collections { StoppedCollectionsInTurn }
+    ensures stopped_writes { StoppedWritesAreLegal }
     ensures each_seen { RecordsAreSeen }
     ensures causes { RecordsHaveCauses }
 {}

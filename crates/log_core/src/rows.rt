@@ -16,7 +16,7 @@ ghost use Rattle.log_core.specs.worked_rows.Crashed.{WriteMayBeLost, LaterWriteA
 ghost use Rattle.log_core.specs.worked_rows.Refused.{OtherEntryPossible, HeadSkips, LogHasMore, BitWithoutOwner, BlockOnTwoLists, ChainBlockFree, OtherContentPossible, PinOfAnother, ViewOfAnother, StoredNotPresent, ReplacedStillNamed, RecordOfNoWrite, SyncedMayBeLost, NamedTwice, SnapshotNamesMore, WriteOfNoSeat};
 ghost use Rattle.log_core.specs.worked_rows.Gaps.{BitPastTheWord, MarkOfOwnedBlock, FloorAhead, SpentViewHolds};
 ghost use Rattle.log_core.specs.worked_rows.CallGaps.{TableOfAnother, BaseFromBefore, BasesDropped, BaseLeftOver, FirstBaseShort, TailNotWalked, HeadOfNoCollection, SyncOfNoSync, CallOfNoNumber};
-ghost use Rattle.log_core.specs.worked_rows.CoreGaps.{BegunPastEnd, PartsOfAnother, MadeMore, OvertakenByNone, SyncedBeforeStart, WriteOfAnotherSize, EntryOfAnotherSize};
+ghost use Rattle.log_core.specs.worked_rows.CoreGaps.{BegunPastEnd, PartsOfAnother, MadeMore, OvertakenByNone, SyncedBeforeStart, WriteOfAnotherSize, EntryOfAnotherSize, HeadBeforeTail};
 ghost use Rattle.log_core.specs.worked_rows.WalkGaps.{PlaceOfAnother, FirstLogOfAnother};
 ghost use Rattle.log_core.specs.worked_rows.Accepted.{PinMayBeStored, WordMayBeLoaded, WordMayBeMarked, EntryMayBePut, OrderStands, PinsStand, ViewsStand, OwnedStands, GivingsStand, RecordsStand, SyncsStand, ContentsStand, OwnersStand, PinRuns, WriteFits, ViewsJoin, ViewsSplit, LateWrite, LateSync, LateWalk, RunsMayBePut, CollectionsInTurn};
 
@@ -99,6 +99,7 @@ pub fn law_gaps()
     ensures synced_before_start { SyncedBeforeStart }
     ensures write_of_another_size { WriteOfAnotherSize }
     ensures entry_of_another_size { EntryOfAnotherSize }
+    ensures head_before_tail { HeadBeforeTail }
     ensures place_of_another { PlaceOfAnother }
     ensures first_log_of_another { FirstLogOfAnother }
 {}
