@@ -7,4 +7,5 @@ pub mod LeftEntries
 pub mod LeftSnapshots
 pub mod LeftChains
 pub mod LeftFiles
+pub mod Stopped
 pub mod Recovered

@@ -41,8 +41,8 @@ pub fn law_legal()
 {}
 
 /// Whatever a crash leaves after any run: the words stand for the file after the first writes of the history, among them all up to the synced
-/// position, and no other. So opening refuses none, clearing keeps it, and each start that is recovered is of that file and its position. No
-/// sync was answered with a position past the synced one. And where each word has its present value, no write is lost.
+/// position, and no other. So opening refuses none, clearing keeps it, and each start that is recovered is of that file and its position; and
+/// so it is of what clearings leave that are stopped, one after the other, wherever they are. No sync was answered with a position past the synced one. And where each word has its present value, no write is lost.
 pub fn law_crash()
     ensures each_crash { CrashesAreRecovered }
     ensures none_lost { PresentWordsHaveAll }

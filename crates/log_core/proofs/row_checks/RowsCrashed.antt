@@ -51,15 +51,15 @@ set_left memory words word value left inside possible = record {
 
 -- what is left is after as many writes as its chain says
 module _ (o : Origin) (c : Core) (words : List ℕ) (is : IsRecovered o c words) (chain : List ℕ) (count : ℕ) (linked : IsLinked words (shape_of words) chain) (at : position_of words (shape_of words) chain ≡ first_position o + count) where
-  same_chain : is.stands.0 ≡ chain
-  same_chain = one_linked words (shape_of words) is.stands.0 chain is.stands.1.stands.is_chain.linked linked
+  same_chain : is.opens.stands.0 ≡ chain
+  same_chain = one_linked words (shape_of words) is.opens.stands.0 chain is.opens.stands.1.stands.is_chain.linked linked
 
   many : is.writes ≡ count
-  many = (let ends : position_of words (shape_of words) chain ≡ first_position o + is.writes = subst (λ (l : List ℕ). position_of words (shape_of words) l ≡ first_position o + is.writes) same_chain is.stands.1.stands.ends_at in
+  many = (let ends : position_of words (shape_of words) chain ≡ first_position o + is.writes = subst (λ (l : List ℕ). position_of words (shape_of words) l ≡ first_position o + is.writes) same_chain is.opens.stands.1.stands.ends_at in
       omega (arith, ends, at))
 
   stands_after : Stands words (file_after_first o c count) (first_position o + count)
-  stands_after = subst (λ (k : ℕ). Stands words (file_after_first o c k) (first_position o + k)) many is.stands
+  stands_after = subst (λ (k : ℕ). Stands words (file_after_first o c k) (first_position o + k)) many is.opens.stands
 
 -- after a run
 left_after : (c : Core) (words : List ℕ) → IsReached image_a c → Survives c.memory words → IsRecovered image_a c words
