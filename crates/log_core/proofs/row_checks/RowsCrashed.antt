@@ -39,7 +39,7 @@ use Rattle.log_core.proofs.row_checks.RowsBothPut.{both_reached}
 use Rattle.log_core.proofs.row_checks.RowsHeadPut.{head_reached}
 
 -- words that a crash may leave, and with one that a word may be
-set_left : (memory : Memory) (words : List ℕ) (word value : ℕ) → Survives memory words → word < length words → IsPossible (cell memory word) value → Survives memory (set words word value)
+pub set_left : (memory : Memory) (words : List ℕ) (word value : ℕ) → Survives memory words → word < length words → IsPossible (cell memory word) value → Survives memory (set words word value)
 set_left memory words word value left inside possible = record {
   same_length = length-set words word value ∙ left.same_length;
   each = λ other small. same_or_other other word
@@ -54,15 +54,15 @@ module _ (o : Origin) (c : Core) (words : List ℕ) (is : IsRecovered o c words)
   same_chain : is.opens.stands.0 ≡ chain
   same_chain = one_linked words (shape_of words) is.opens.stands.0 chain is.opens.stands.1.stands.is_chain.linked linked
 
-  many : is.writes ≡ count
+  pub many : is.writes ≡ count
   many = (let ends : position_of words (shape_of words) chain ≡ first_position o + is.writes = subst (λ (l : List ℕ). position_of words (shape_of words) l ≡ first_position o + is.writes) same_chain is.opens.stands.1.stands.ends_at in
       omega (arith, ends, at))
 
-  stands_after : Stands words (file_after_first o c count) (first_position o + count)
+  pub stands_after : Stands words (file_after_first o c count) (first_position o + count)
   stands_after = subst (λ (k : ℕ). Stands words (file_after_first o c k) (first_position o + k)) many is.opens.stands
 
 -- after a run
-left_after : (c : Core) (words : List ℕ) → IsReached image_a c → Survives c.memory words → IsRecovered image_a c words
+pub left_after : (c : Core) (words : List ℕ) → IsReached image_a c → Survives c.memory words → IsRecovered image_a c words
 left_after c words reached left = recovered image_a c image_starts (reached_holds image_a c image_starts reached) words left
 
 put_lost : Survives own_put.memory (without_slot own_put 27)
@@ -91,7 +91,7 @@ later_write_alone = (
   refl,
 )
 
-sync_steps : (op : Op) → op_of Sync [] ≡ Some op → is_quiet 64 op ≡ false
+pub sync_steps : (op : Op) → op_of Sync [] ≡ Some op → is_quiet 64 op ≡ false
 sync_steps op same = subst (λ (other : Op). is_quiet 64 other ≡ false) (ap op_or_size same) refl
 
 -- the words that a walk of one entry has read are marked with that
