@@ -8,4 +8,5 @@ pub mod LeftSnapshots
 pub mod LeftChains
 pub mod LeftFiles
 pub mod Stopped
+pub mod ClearingSteps
 pub mod Recovered

@@ -3,6 +3,7 @@
 ghost use Rattle.log_core.specs.Laws.{StartMeets, StepKeeps, RunKeeps};
 ghost use Rattle.log_core.specs.Following.{NoneReused, RunsAreLegal, StoppedRunsAreLegal, StoppedWritesAreLegal, RecordsAreSeen};
 ghost use Rattle.log_core.specs.Causes.{RecordsHaveCauses};
+ghost use Rattle.log_core.specs.Stops.{ClearingsStop};
 ghost use Rattle.log_core.specs.Crashes.{CrashesAreRecovered, PresentWordsHaveAll};
 
 /// The core that a run starts with meets the invariant.
@@ -42,8 +43,10 @@ pub fn law_legal()
 
 /// Whatever a crash leaves after any run: the words stand for the file after the first writes of the history, among them all up to the synced
 /// position, and no other. So opening refuses none, clearing keeps it, and each start that is recovered is of that file and its position; and
-/// so it is of what clearings leave that are stopped, one after the other, wherever they are. No sync was answered with a position past the synced one. And where each word has its present value, no write is lost.
+/// so it is of what clearings leave that are stopped, one after the other. That is what a crash leaves of a clearing's memory after any of
+/// its steps. No sync was answered with a position past the synced one. And where each word has its present value, no write is lost.
 pub fn law_crash()
     ensures each_crash { CrashesAreRecovered }
+    ensures clearings { ClearingsStop }
     ensures none_lost { PresentWordsHaveAll }
 {}

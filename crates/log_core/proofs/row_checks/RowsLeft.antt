@@ -1,6 +1,5 @@
 -- Rows of a run with a synced write and one that is not: its oldest words, its newest, and mixed ones.
-use Rattle.std.proofs.Common.{◌≡◌, ◌==◌, ◌||◌, ℕ, Bool, true, false, [], ◌∷◌, ◌+◌, List, refl, subst, inl, arith}
-use Rattle.std.proofs.lemmas.Bool.{eqb-true}
+use Rattle.std.proofs.Common.{◌≡◌, ℕ, [], ◌∷◌, ◌+◌, List, refl, inl, arith}
 use Rattle.asks.specs.declared.ask.Ask.TheVariants.{Load, Store, Exchange, Mark, Fence}
 use Rattle.asks.specs.declared.ask.Place.TheVariants.{Image, Pin}
 use Rattle.pmem_words.specs.declared.keeps.Task.TheVariants.{Sync, Collect}
@@ -12,14 +11,12 @@ use Rattle.persistence.specs.Survivors.{Survives}
 use Rattle.log_core.specs.Views.{view_of}
 use Rattle.log_core.specs.Origin.{first_position}
 use Rattle.log_core.specs.Works.{Begins}
-use Rattle.log_core.specs.May.{OfHead, OfTrail, is_marked, walked_trail}
+use Rattle.log_core.specs.May.{OfHead, OfTrail}
 use Rattle.log_core.specs.Runs.{IsReached}
-use Rattle.log_core.specs.Crashes.{file_after_first, IsRecovered}
-use Rattle.log_core.proofs.Trails.{is_on}
+use Rattle.log_core.specs.Crashes.{file_after_first}
 use Rattle.log_core.proofs.row_checks.RowsLinked.{collect_steps}
 use Rattle.log_core.specs.worked_rows.Samples.{image_a}
 use Rattle.log_core.specs.worked_rows.Rows.{to_second}
-use Rattle.log_core.specs.worked_rows.Refused.{seat_zero}
 use Rattle.log_core.specs.worked_rows.TwoWriters.{next_found, second_call}
 use Rattle.log_core.specs.worked_rows.Crashed.{without_slot, one_entry_marked, one_fenced, sync_call, one_synced, one_unsynced, sealing_behind, sealed_behind, oldest_words, SyncedAndUnsynced}
 use Rattle.log_core.proofs.crashes.Recovered.{present_left}
@@ -27,15 +24,7 @@ use Rattle.log_core.proofs.row_checks.RowsWrong.{one_part}
 use Rattle.log_core.proofs.row_checks.RowsAllowed.{step_reached}
 use Rattle.log_core.proofs.row_checks.RowsStepped.{enters_reached}
 use Rattle.log_core.proofs.row_checks.RowsBothPut.{found_reached, may_put_next}
-use Rattle.log_core.proofs.row_checks.RowsCrashed.{set_left, stands_after, many, left_after, sync_steps}
-
--- the words that a walk of one entry has read are marked with that
-one_marked : (place : ℕ) → is_on (walked_trail image_a one_entry_marked (seat_zero one_entry_marked)) place ≡ true → is_marked (view_of one_entry_marked.views 0).ghost.marks place ≡ true
-one_marked place on = by (27 == place) refl on
-  where
-    by : (same : Bool) → (27 == place) ≡ same → (same || false) ≡ true → is_marked (view_of one_entry_marked.views 0).ghost.marks place ≡ true
-    by true is found = subst (λ (k : ℕ). is_marked (view_of one_entry_marked.views 0).ghost.marks k ≡ true) (eqb-true 27 place is) refl
-    by false is found = cc
+use Rattle.log_core.proofs.row_checks.RowsCrashed.{set_left, stands_after, left_after, sync_steps, one_marked, not_lost}
 
 marked_reached : IsReached image_a one_entry_marked
 marked_reached =
@@ -45,7 +34,7 @@ marked_reached =
     step_reached image_a _ 0 2 (Mark 27) [] head (omega arith) (one_part 0) tt refl (OfTrail refl refl refl)
 
 fenced_reached : IsReached image_a one_fenced
-fenced_reached = step_reached image_a one_entry_marked 0 2 Fence [] marked_reached (omega arith) (one_part 0) tt refl (record { in_sync = λ job tail none. (refl, refl, record { head = refl; each = one_marked }) })
+fenced_reached = step_reached image_a one_entry_marked 0 2 Fence [] marked_reached (omega arith) (one_part 0) tt refl (record { in_sync = λ job tail none. (refl, refl, record { head = refl; each = one_marked (view_of one_entry_marked.views 0).ghost.marks refl }) })
 
 synced_reached : IsReached image_a one_synced
 synced_reached = enters_reached image_a one_fenced 0 2 (Store (Pin 0) 0) [] [] (sync_call ∷ []) fenced_reached (omega arith) (one_part 0) tt refl
@@ -77,14 +66,6 @@ stands_by_chain : (words : List ℕ) → Survives sealed_behind.memory words →
     Stands words (file_after_first image_a sealed_behind count) (first_position image_a + count)
 stands_by_chain words left count linked at = stands_after image_a sealed_behind words (left_after sealed_behind words behind_reached left) (3 ∷ []) count linked at
 
-not_lost : Survives sealed_behind.memory (without_slot sealed_behind 27) → ⊥
-not_lost left = (let is : IsRecovered image_a sealed_behind (without_slot sealed_behind 27) = left_after sealed_behind (without_slot sealed_behind 27) behind_reached left in
-    let none = many image_a sealed_behind (without_slot sealed_behind 27) is (3 ∷ []) 0 (refl, refl) refl in
-    let synced = is.synced in
-    let to : sealed_behind.synced ≡ 1 = refl in
-    let first : first_position image_a ≡ 0 = refl in
-    omega (arith, none, synced, to, first))
-
 pub synced_and_unsynced : SyncedAndUnsynced
 synced_and_unsynced = (
   behind_reached,
@@ -96,5 +77,5 @@ synced_and_unsynced = (
   stands_by_chain sealed_behind.memory.now.words present 2 (refl, refl) refl,
   entry_lost,
   stands_by_chain (without_slot sealed_behind 28) entry_lost 1 (refl, refl) refl,
-  not_lost,
+  not_lost sealed_behind behind_reached refl (refl, refl) refl,
 )
