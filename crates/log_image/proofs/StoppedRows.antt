@@ -35,7 +35,7 @@ stopped_before_end = (
   (3 ∷ [], two_reads.stands.stands.is_chain, same_by (shape_of two_behind) (AtSlot 3 3) two_behind behind_tail 192 refl refl refl),
   (3 ∷ [], two_reads.stands),
   λ stopped. (let there : IsSameToTail (shape_of two_behind) (AtSlot 3 3) two_behind (with_words ((27, one_byte) ∷ []) two_behind) =
-  subst (λ (chain : List ℕ). IsSameToTail (shape_of two_behind) (tail_of two_behind (shape_of two_behind) chain) two_behind (with_words ((27, one_byte) ∷ []) two_behind))
-  (one_chain two_behind (shape_of two_behind) stopped.0 (3 ∷ []) stopped.1 two_reads.stands.stands.is_chain) stopped.2 in
-  let same : one_byte ≡ 0 = there.each 27 refl in omega (arith, same)),
+      subst (λ (chain : List ℕ). IsSameToTail (shape_of two_behind) (tail_of two_behind (shape_of two_behind) chain) two_behind (with_words ((27, one_byte) ∷ []) two_behind))
+      (one_chain two_behind (shape_of two_behind) stopped.0 (3 ∷ []) stopped.1 two_reads.stands.stands.is_chain) stopped.2 in
+      let same : one_byte ≡ 0 = there.each 27 refl in omega (arith, same)),
 )

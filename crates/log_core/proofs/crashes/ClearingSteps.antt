@@ -77,13 +77,17 @@ module _ (words chain : List ℕ) where
       by false is none = none
 
 pub clearings_stop : ClearingsStop
-clearings_stop words chain others asks of_words clears left = (chain, of_words, record {
-  same_length = left.same_length ∙ keeps.long;
-  each = λ place stays. ⊎_elim
-      (λ (low : place < length others). one_value (values_of m.past place) (slice_index m.now.words place) (cell m place).floor (slice_index others place) (none_before words chain m.past place keeps.past stays) (left.each place low) ∙ keeps.same place stays)
-      (λ (high : length others ≤ place). (let long = left.same_length in let same = keeps.long in get_or_past others place 0 high ∙ sym (get_or_past words place 0 (omega (arith, high, long, same)))))
-      (cases_lt place (length others));
-})
+clearings_stop words chain others asks of_words clears left = (
+  chain,
+  of_words,
+  record {
+    same_length = left.same_length ∙ keeps.long;
+    each = λ place stays. ⊎_elim
+        (λ (low : place < length others). one_value (values_of m.past place) (slice_index m.now.words place) (cell m place).floor (slice_index others place) (none_before words chain m.past place keeps.past stays) (left.each place low) ∙ keeps.same place stays)
+        (λ (high : length others ≤ place). (let long = left.same_length in let same = keeps.long in get_or_past others place 0 high ∙ sym (get_or_past words place 0 (omega (arith, high, long, same)))))
+        (cases_lt place (length others));
+  },
+)
   where
     m : Memory
     m = memory_after_all (at_rest words) asks

@@ -134,12 +134,15 @@ module _ (o : Origin) (steps : List Step) (start : IsStart o) (run : IsRun o ste
     collection_seat = (inv.sizes.each k (unspent_made c.views k collection_parts) collection_parts).number
 
     collection_runs : AllByRecursion Runs (running_collection u (Some head))
-    collection_runs = (record {
-      unspent = subst (λ (j : ℕ). (view_of c.views j).parts ≢ []) (sym collection_seat) collection_parts;
-      number_is = ap (λ (j : ℕ). (view_of c.views j).ghost.call.number) (sym collection_seat);
-      runs = subst (λ (j : ℕ). op_in (view_of c.views j).seat ≢ None) (sym collection_seat) (λ none. (let never : Some CollectOp ≡ None = sym collection_asks ∙ none in cc));
-      seen = subst (λ (j : ℕ). IsSeen o steps j u.ghost.call.number head.base CollectOp false) (sym collection_seat) (all_seen.puts k head is);
-    }, tt)
+    collection_runs = (
+      record {
+        unspent = subst (λ (j : ℕ). (view_of c.views j).parts ≢ []) (sym collection_seat) collection_parts;
+        number_is = ap (λ (j : ℕ). (view_of c.views j).ghost.call.number) (sym collection_seat);
+        runs = subst (λ (j : ℕ). op_in (view_of c.views j).seat ≢ None) (sym collection_seat) (λ none. (let never : Some CollectOp ≡ None = sym collection_asks ∙ none in cc));
+        seen = subst (λ (j : ℕ). IsSeen o steps j u.ghost.call.number head.base CollectOp false) (sym collection_seat) (all_seen.puts k head is);
+      },
+      tt,
+    )
 
     own : (first_generation o < head.generation) × (head.generation < first_generation o + length c.generations) × (head.base ≡ u.seat.walk.position)
         × (head.base ≡ (nth_generation c.generations (head.generation - first_generation o)).base)
@@ -147,16 +150,19 @@ module _ (o : Origin) (steps : List Step) (start : IsStart o) (run : IsRun o ste
 
     -- it stands in the history: its position was the end at a step of its call, so it is not before the start's
     collection_stands : AllByRecursion (Stands o c.history c.generations) (running_collection u (Some head))
-    collection_stands = (record {
-      holds = record {
-        to_end = (let low = position_low o c inv k in let at = own.2 in omega (arith, low, at));
-        from_first = (let at = (all_seen.puts k head is).at_end in omega (arith, at));
-        write_after = λ write. (let never : false ≡ true = write in cc);
-        answers = ((λ never. cc), λ some. absurd (omega (arith, some)));
-        of_generations = (own.0, own.1, own.3);
-      };
-      written = λ write. (let never : false ≡ true = write in cc);
-    }, tt)
+    collection_stands = (
+      record {
+        holds = record {
+          to_end = (let low = position_low o c inv k in let at = own.2 in omega (arith, low, at));
+          from_first = (let at = (all_seen.puts k head is).at_end in omega (arith, at));
+          write_after = λ write. (let never : false ≡ true = write in cc);
+          answers = ((λ never. cc), λ some. absurd (omega (arith, some)));
+          of_generations = (own.0, own.1, own.3);
+        };
+        written = λ write. (let never : false ≡ true = write in cc);
+      },
+      tt,
+    )
 
     collection_counted : (seat number : ℕ) → count_calls seat number (running_collection u (Some head)) ≤ count_in u.parts seat
     collection_counted seat number = by (u.seat.number == seat) refl
