@@ -21,10 +21,10 @@ fn a_fill_stores_the_words_of_its_blocks(rt: HostRuntime) -> Result<(), Fail> {
         Vec::new(rt.alloc()),
     )?;
     fill_alone(&mut seat, &mut plain, 0, 2);
-    assert_eq!(rt; plain.perform(Ask::Load(Place::Image(8))), 5);
-    assert_eq!(rt; plain.perform(Ask::Load(Place::Image(15))), 6);
-    assert_eq!(rt; plain.perform(Ask::Load(Place::Image(24))), 7);
-    assert_eq!(rt; plain.perform(Ask::Load(Place::Image(31))), 8);
+    assert_eq!(rt; plain.perform(&seat, Ask::Load(Place::Image(8))), 5);
+    assert_eq!(rt; plain.perform(&seat, Ask::Load(Place::Image(15))), 6);
+    assert_eq!(rt; plain.perform(&seat, Ask::Load(Place::Image(24))), 7);
+    assert_eq!(rt; plain.perform(&seat, Ask::Load(Place::Image(31))), 8);
     let first = OwnedBlock {
         block: 1,
         area: Area::Data,

@@ -79,10 +79,10 @@ pub record MayBeginAt (w : WorldNow) (seat : ℕ) (task : Task) (bytes : List �
   pub none_laid : laid_bytes task bytes ≡ []
   pub steps : (op : Op) → op_of task bytes ≡ Some op → is_quiet (seat_of w seat).geometry.block_bytes op ≡ false
 
--- a machine has left the seat its view's state
+-- a machine has left the seat a state that is computed from its view's
 pub record HasLeft {Out : Type 0} (out : Out) (t : Seat) (v : View) : Type 0 where
   pub unspent : v.parts ≢ []
-  pub same : t ≡ v.seat
+  pub begins : Computes v.ghost v.seat t
 
 -- a turn of a seat leaves the other seats and their marks, takes room for one step, and keeps what May says of the seat by its number
 pub record IsTurnOf (May : ℕ → Seat → Type 0) (w v : WorldNow) (seat : ℕ) : Type 0 where
