@@ -1,3 +1,4 @@
+pub mod ImageStanding
 pub mod Standing
 pub mod Surviving
 pub mod Leading
