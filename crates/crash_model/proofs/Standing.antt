@@ -44,7 +44,7 @@ module _ (w : WorldNow) (seat : ℕ) (ask : Ask) (fitting : HasFitting w seat as
   may_ask = ∥∥₁_map fitting (λ f. (f.0, f.1, f.2, fits_image w seat ask f.0 f.1 f.2 f.3))
 
   module _ (s : Seat) (is : s ≡ seat_of w seat) where
-    number_here : s.number ≡ seat
+    pub number_here : s.number ≡ seat
     number_here = subst (λ (x : Seat). x.number ≡ seat) (sym is) (number_is (image_of w) seat (seat_of w seat) ask may_ask)
 
     pub image_takes : 0 < w.cells.room → ImageTakes (image_of w) s ask
