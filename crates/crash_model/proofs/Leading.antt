@@ -23,7 +23,7 @@ use Rattle.log_core.specs.Within.{no_record, note_of, Did, IsReadyIn, within, Is
 use Rattle.log_core.specs.Promising.{StartCondition, EndCondition, Promises}
 use Rattle.log_core.proofs.clauses.OneView.{same_or_other}
 use Rattle.crash_model.specs.Worlds.{WorldNow, StandsForCore, FitsCore, HasFitting, seat_of, world_after, answer_in, told_in, turned}
-use Rattle.crash_model.specs.Led.{Held, IsComputed, Rests, Runs, Ended, IsIn, AmongIn, IsAmong, IsEach, IsLed, HasEndedInWorld, IsResting, HasLeft, IsTurnOf}
+use Rattle.crash_model.specs.Led.{Held, IsComputed, Rests, Runs, Ended, IsIn, AmongIn, IsAmong, IsEach, IsLed, HasEndedInWorld, IsResting, HasLeft, HasEndedAs, IsTurnOf}
 use Rattle.crash_model.proofs.Standing.{stands_after, stands_with}
 use Rattle.crash_model.proofs.Resting.{IsKnown, number_next, next_may, known_in}
 
@@ -194,12 +194,13 @@ pub rests_ended : {Out : Type 0} (seat : ℕ) (Q : Out → Seat → View → Typ
 rests_ended seat Q out w leaves ended = put_back Rests seat Rests Rests w (λ o s v rests. rests) (λ o other s v apart rests. rests) (rests_after Rests seat Q out w leaves ended)
 
 -- a machine that the core promises begins at a seat at rest, whatever the others are in the middle of, and leaves the seat a state that is
--- computed from its view's
-pub begins_among : {M Out : Type 0} (F : Held) (seat : ℕ) (script : Script M Out) (m : M) (P : StartCondition) (R : EndCondition Out) (w : WorldNow) → Promises script P R m →
-    ((o : Origin) (c : Core) (g : Ghost) → IsKnown w o c seat g → P o seat (seat_of w seat) g) → IsAmong F seat Rests w → IsAmong F seat (Runs script no_record (λ out t v. HasLeft out t v) m) w
-begins_among {M} {Out} F seat script m P R w promises holds among = ∥∥₁_map among (λ a. (a.0, a.1, begin a.0 a.1 a.2))
+-- computed from its view's, of which the promise's end holds
+pub begins_as : {M Out : Type 0} (F : Held) (seat : ℕ) (script : Script M Out) (m : M) (P : StartCondition) (R : EndCondition Out) (w : WorldNow) → Promises script P R m →
+    ((o : Origin) (c : Core) (g : Ghost) → IsKnown w o c seat g → P o seat (seat_of w seat) g) → IsAmong F seat Rests w →
+    IsAmong F seat (Runs script no_record (λ out t v. HasEndedAs R seat (seat_of w seat) out t v) m) w
+begins_as {M} {Out} F seat script m P R w promises holds among = ∥∥₁_map among (λ a. (a.0, a.1, begin a.0 a.1 a.2))
   where
-    begin : (o : Origin) (c : Core) → AmongIn F seat Rests w o c → AmongIn F seat (Runs script no_record (λ out t v. HasLeft out t v) m) w o c
+    begin : (o : Origin) (c : Core) → AmongIn F seat Rests w o c → AmongIn F seat (Runs script no_record (λ out t v. HasEndedAs R seat (seat_of w seat) out t v) m) w o c
     begin o c rests =
         (let at = rests.here in
         let v = view_of c.views seat in
@@ -211,8 +212,8 @@ begins_among {M} {Out} F seat script m P R w promises holds among = ∥∥₁_ma
             made = at.made;
             holds = record {
               number = number;
-              leads = leads_weaker script (within o seat number script no_record) (IsLeft v.done no_record (R o seat (seat_of w seat) g)) (λ out t u. HasLeft out t u)
-                  (λ out t u left. record { unspent = left.unspent; begins = left.seat.computed })
+              leads = leads_weaker script (within o seat number script no_record) (IsLeft v.done no_record (R o seat (seat_of w seat) g)) (λ out t u. HasEndedAs R seat (seat_of w seat) out t u)
+                  (λ out t u left. record { origin = o; ghost = g; left = record { unspent = left.unspent; begins = left.seat.computed }; ends = left.fits })
                   (promises o rests.stands.start seat number v.done (seat_of w seat) v (record {
                     unspent = at.holds.unspent;
                     begins = at.holds.begins;
@@ -224,6 +225,17 @@ begins_among {M} {Out} F seat script m P R w promises holds among = ∥∥₁_ma
           };
           others = rests.others;
         })
+
+runs_weaker : {M Out : Type 0} (script : Script M Out) (rec : Out → Seat → List Call) (Q E : Out → Seat → View → Type 0) → ((out : Out) (t : Seat) (v : View) → Q out t v → E out t v) → (m : M) (o : Origin) (seat : ℕ) (s : Seat) (v : View) →
+    Runs script rec Q m o seat s v → Runs script rec E m o seat s v
+runs_weaker script rec Q E less m o seat s v runs = record { number = runs.number; leads = leads_weaker script (within o seat runs.number script rec) Q E less runs.leads }
+
+pub begins_among : {M Out : Type 0} (F : Held) (seat : ℕ) (script : Script M Out) (m : M) (P : StartCondition) (R : EndCondition Out) (w : WorldNow) → Promises script P R m →
+    ((o : Origin) (c : Core) (g : Ghost) → IsKnown w o c seat g → P o seat (seat_of w seat) g) → IsAmong F seat Rests w → IsAmong F seat (Runs script no_record (λ out t v. HasLeft out t v) m) w
+begins_among F seat script m P R w promises holds among =
+    among_weaker F F seat (Runs script no_record (λ out t v. HasEndedAs R seat (seat_of w seat) out t v) m) (Runs script no_record (λ out t v. HasLeft out t v) m) w
+    (λ o s v runs. runs_weaker script no_record (λ out t u. HasEndedAs R seat (seat_of w seat) out t u) (λ out t u. HasLeft out t u) (λ out t u ended. ended.left) m o seat s v runs) (λ o other s v apart holds. holds)
+    (begins_as F seat script m P R w promises holds among)
 
 pub begins_led : {M Out : Type 0} (seat : ℕ) (script : Script M Out) (m : M) (P : StartCondition) (R : EndCondition Out) (w : WorldNow) → Promises script P R m →
     ((o : Origin) (c : Core) (g : Ghost) → IsKnown w o c seat g → P o seat (seat_of w seat) g) → seat < length w.seats → IsResting w → IsLed seat script no_record (λ out t v. HasLeft out t v) m w
