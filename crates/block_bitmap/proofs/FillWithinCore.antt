@@ -1,9 +1,9 @@
 -- The law of filling owned blocks within a core; and what a fill leaves has one possible value in each word.
-use Rattle.std.proofs.Common.{◌≡◌, ◌<◌, ℕ, true, List, length, refl, ap, ◌∙◌, subst, arith}
+use Rattle.std.proofs.Common.{◌≡◌, ◌<◌, ℕ, true, List, length, refl, ap, subst, arith}
 use Rattle.pmem_words.specs.Owned.{owned_at}
 use Rattle.pmem_words.specs.Seats.{Seat, q_of}
 use Rattle.persistence.specs.Memory.{Cell, Replaced, PendingMark, cell}
-use Rattle.log_core.specs.Views.{View, Ghost}
+use Rattle.log_core.specs.Views.{Ghost}
 use Rattle.log_core.specs.Owned.{OwnedHold}
 use Rattle.log_core.specs.Certain.{IsCertain}
 use Rattle.log_core.proofs.machines.MachineLaws.{Law, promised}

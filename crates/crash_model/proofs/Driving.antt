@@ -76,8 +76,8 @@ module _ {M Out : Type 0} (F : Held) (seat : ℕ) (script : Script M Out) (rec :
   -- where each answer after which the machine goes on lowers a number, and there is room for more steps than that
   module _ (K : M → Seat → SharedNow → Type 0) (steps : M → Seat → SharedNow → ℕ)
       (keeps : (m : M) (s : Seat) (i : SharedNow) → s.number ≡ seat → K m s i → script.admits m s (found_answer i.cells.memory (script.asks m s)) → (script.after m s (found_answer i.cells.memory (script.asks m s))).turn ≡ Go →
-        K (script.after m s (found_answer i.cells.memory (script.asks m s))).machine (script.after m s (found_answer i.cells.memory (script.asks m s))).seat (image_after i seat s (script.asks m s))
-        × (steps (script.after m s (found_answer i.cells.memory (script.asks m s))).machine (script.after m s (found_answer i.cells.memory (script.asks m s))).seat (image_after i seat s (script.asks m s)) < steps m s i)) where
+      K (script.after m s (found_answer i.cells.memory (script.asks m s))).machine (script.after m s (found_answer i.cells.memory (script.asks m s))).seat (image_after i seat s (script.asks m s))
+      × (steps (script.after m s (found_answer i.cells.memory (script.asks m s))).machine (script.after m s (found_answer i.cells.memory (script.asks m s))).seat (image_after i seat s (script.asks m s)) < steps m s i)) where
     leads_below : (n : ℕ) (m : M) (s : Seat) (i : SharedNow) → steps m s i < n → n < i.cells.room + 1 → K m s i → IsAt m s i → Leads script (over script image_steps) EndsAt m s i
     leads_below zero m s i few room k led = absurd (omega arith)
     leads_below (suc n) m s i few room k led =
@@ -86,7 +86,7 @@ module _ {M Out : Type 0} (F : Held) (seat : ℕ) (script : Script M Out) (rec :
         let numbered = number_here (with_state s i) seat (script.asks m s) (fits m s i led) s (sym (same_seat m s i led)) in
         let kept = subst (λ (x : SharedNow). K (script.after m s a).machine (script.after m s a).seat x × (steps (script.after m s a).machine (script.after m s a).seat x < steps m s i)) (sym is)
         (subst (λ (x : ℕ). (script.after m s x).turn ≡ Go → K (script.after m s x).machine (script.after m s x).seat (image_after i seat s (script.asks m s))
-          × (steps (script.after m s x).machine (script.after m s x).seat (image_after i seat s (script.asks m s)) < steps m s i)) (sym step.answered)
+        × (steps (script.after m s x).machine (script.after m s x).seat (image_after i seat s (script.asks m s)) < steps m s i)) (sym step.answered)
         (λ goes. keeps m s i numbered k (admits m s i led) goes) go) in
         let less : j.cells.room ≡ i.cells.room - 1 = ap (λ (x : SharedNow). x.cells.room) is in
         leads_below n (script.after m s a).machine (script.after m s a).seat j (let falls = kept.1 in omega (arith, falls, few)) (omega (arith, less, room, few)) kept.0 (goes_at m s i led a j step go)))

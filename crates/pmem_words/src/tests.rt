@@ -18,19 +18,25 @@ fn each_ask_has_one_answer(rt: HostRuntime) -> Result<(), Fail> {
     assert_eq!(rt; plain.perform(&seat, Ask::Mark(0)), 8);
     assert_eq!(rt; plain.perform(&seat, Ask::Fence), 0);
     assert_eq!(rt;
-        plain.perform(&seat, Ask::Exchange {
-            place: second,
-            old: 0,
-            new: 9
-        }),
+        plain.perform(
+            &seat,
+            Ask::Exchange {
+                place: second,
+                old: 0,
+                new: 9
+            }
+        ),
         0
     );
     assert_eq!(rt;
-        plain.perform(&seat, Ask::Exchange {
-            place: second,
-            old: 0,
-            new: 4
-        }),
+        plain.perform(
+            &seat,
+            Ask::Exchange {
+                place: second,
+                old: 0,
+                new: 4
+            }
+        ),
         9
     );
     assert_eq!(rt; plain.perform(&seat, Ask::SetBits(Place::Map(0), 9)), 6);
