@@ -1,6 +1,6 @@
 -- A seat that has gone on from its view: no call has begun, so contracts alone see what they see in the view, and each core that has the
 -- view knows the seat's state.
-use Rattle.std.proofs.Common.{◌≡◌, ◌≢◌, ℕ, Bool, false, List, [], refl, sym, ◌∙◌, ap, subst, slice_index, Option, Some, None}
+use Rattle.std.proofs.Common.{◌≡◌, ◌≢◌, ℕ, Bool, true, false, List, [], ◌∷◌, ◌++◌, refl, sym, ◌∙◌, ap, subst, slice_index, Option, Some, None}
 use Rattle.log_entry.specs.declared.calls.Op.{Op}
 use Rattle.log_entry.specs.declared.calls.Call.{Call}
 use Rattle.pmem_words.specs.Seats.{Seat}
@@ -8,14 +8,17 @@ use Rattle.log_core.specs.Views.{View, Ghost, view_of, op_in}
 use Rattle.log_core.specs.Origin.{Origin}
 use Rattle.log_core.specs.Cores.{Core}
 use Rattle.log_core.specs.Steps.{is_begun, ghost_begun, call_if}
-use Rattle.log_core.specs.Runs.{MayNumber}
+use Rattle.log_core.specs.Runs.{MayNumber, IsIdle, IsIdleView}
 use Rattle.log_core.specs.Invariant.{Invariant}
 use Rattle.log_core.specs.Knows.{Knows}
-use Rattle.log_core.specs.Within.{IsLinkedToView, HasGoneOn}
+use Rattle.log_core.specs.Within.{IsLinkedToView, HasGoneOn, StandsAtView}
 use Rattle.log_core.proofs.Facts.{facts_of}
 use Rattle.log_core.proofs.clauses.Others.{unspent_made}
 use Rattle.log_core.proofs.following.Numbers.{op_going}
 use Rattle.log_core.proofs.kinds.Worked.{later_hold}
+use Rattle.log_core.proofs.machines.Parts.{worked_more, may_more, all_more}
+use Rattle.log_core.specs.Works.{Computes, MayWorkAll, state_after_all_work, is_going_on}
+use Rattle.std.specs.List.{list_all}
 
 -- no call begins where the state stays
 pub stays : (op : Option Op) → is_begun op op ≡ false
@@ -44,6 +47,22 @@ linked_on rest P s v unspent done on fits = record {
   done = done;
   fits = subst (λ (g : Ghost). P s g) (sym (begun_on v s v.ghost.call.number on)) fits;
 }
+
+-- what is computed from a state that was computed
+pub computes_more : (g : Ghost) (s t u : Seat) → Computes g s t → Computes g t u → Computes g s u
+computes_more g s t u first more = record {
+  works = first.works ++ more.works;
+  may = may_more g s first.works more.works first.may (subst (λ (x : Seat). MayWorkAll g x more.works) first.gives more.may);
+  gives = more.gives ∙ (ap (λ (x : Seat). state_after_all_work x more.works) first.gives ∙ sym (worked_more s first.works more.works));
+}
+
+-- a seat that has gone on goes on
+pub gone_more : (v : View) (s t : Seat) → HasGoneOn v s → (more : Computes v.ghost s t) → list_all is_going_on more.works ≡ true → HasGoneOn v t
+gone_more v s t on more going = record { computed = computes_more v.ghost v.seat s t on.computed more; going_on = all_more is_going_on on.computed.works more.works on.going_on going }
+
+-- a seat that a call left idle, with its record, has an idle view
+pub idle_left : (call : Call) (calls : List Call) (v : View) (s : Seat) → StandsAtView (call ∷ calls) v s → IsIdle s v.ghost → IsIdleView v
+idle_left call calls v s same idle = subst (λ (t : Seat). IsIdle t v.ghost) (sym same) idle
 
 -- each core in which the seat has this view knows the state that it has gone on to
 pub knows_on : (o : Origin) (c : Core) (seat : ℕ) → Invariant o c → (v : View) → view_of c.views seat ≡ v → v.parts ≢ [] → (s : Seat) → HasGoneOn v s →
