@@ -49,7 +49,7 @@ linked_on rest P s v unspent done on fits = record {
 }
 
 -- what is computed from a state that was computed
-pub computes_more : (g : Ghost) (s t u : Seat) → Computes g s t → Computes g t u → Computes g s u
+abbrev pub computes_more : (g : Ghost) (s t u : Seat) → Computes g s t → Computes g t u → Computes g s u
 computes_more g s t u first more = record {
   works = first.works ++ more.works;
   may = may_more g s first.works more.works first.may (subst (λ (x : Seat). MayWorkAll g x more.works) first.gives more.may);
