@@ -17,8 +17,6 @@ pub mod TakeServes
 pub mod TakeWithinCore
 pub mod BlockWords
 pub mod OwnedFlags
-pub mod FillOverPlain
-pub mod FillSteps
 pub mod GivenLemmas
 pub mod GiveSteps
 pub mod FillOwned
