@@ -55,6 +55,11 @@ pub record IsFirstLog (o : Origin) (generations : List Generation) (logs : List 
   pub some : generation ≢ 0
   pub is : block ≡ (nth_log logs (generation_at o generations generation).cut).block
 
+-- a block is that of a place of a generation's snapshot
+pub record IsSnapshotBlock (g : Generation) (place block : ℕ) : Type 0 where
+  pub inside : place < length g.snapshots
+  pub block_is : slice_index g.snapshots place ≡ block
+
 -- the parts of a core that the clause reads beside the view; which generations are kept, by their places
 pub record Around : Type 1 where
   pub origin : Origin
@@ -68,7 +73,7 @@ pub record Around : Type 1 where
 
 -- a view that has not walked is at the start's position. What is read of a snapshot is as far as it goes, as long as that generation
 -- is kept. With a valid pin the kept words are those of the pinned chain, and without one there are none. A view that is ready has walked in the chain of its
--- generation. The first log block is that chain's, or not known. No position is past the end
+-- generation. The first log block is that chain's, or not known; a block come to on the way to it is one of its snapshot. No position is past the end
 pub record WalkHolds (a : Around) (h : Hold) (w : Walk) : Type 0 where
   pub unwalked : w.tail_block ≡ 0 → w.reading ≡ false → w.position ≡ first_position a.origin
   pub to_end : w.position ≤ a.end
@@ -83,6 +88,7 @@ pub record WalkHolds (a : Around) (h : Hold) (w : Walk) : Type 0 where
   pub ready_walked : w.ready ≡ true → (w.tail_block ≢ 0) × (w.reading ≡ false) × (h.generation ≢ 0)
   pub ready_base : w.ready ≡ true → w.snapshot_base ≡ (generation_at a.origin a.generations h.generation).base
   pub ready_tail : w.ready ≡ true → w.snapshot_base ≤ w.tail_base
+  pub seeking : w.ready ≡ true → w.reading_block ≢ 0 → IsSnapshotBlock (generation_at a.origin a.generations h.generation) w.reading_place w.reading_block
   pub first_known : w.first_log ≢ 0 → IsFirstLog a.origin a.generations a.logs h.generation w.first_log
 
 abbrev pub WalksHold : Around → List View → Type 0

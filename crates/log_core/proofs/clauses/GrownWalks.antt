@@ -129,5 +129,6 @@ module _ (o : Origin) (c : Core) (x : Growth) (inv : Invariant o c) (grows : Gro
       ready_walked = r.ready_walked;
       ready_base = r.ready_base;
       ready_tail = r.ready_tail;
+      seeking = r.seeking;
       first_known = λ known. first_grown h.generation w.first_log known (r.first_known known);
     }

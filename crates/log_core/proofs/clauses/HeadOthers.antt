@@ -28,7 +28,7 @@ use Rattle.log_core.specs.Order.{nth_generation}
 use Rattle.log_core.specs.Owners.{IsListOf}
 use Rattle.log_core.specs.Giving.{GivingHolds, AreInNoLater}
 use Rattle.log_core.specs.Pins.{PinHolds, WasHead}
-use Rattle.log_core.specs.Walks.{WalkHolds, HasRead, IsKeptWord}
+use Rattle.log_core.specs.Walks.{WalkHolds, HasRead, IsSnapshotBlock, IsKeptWord}
 use Rattle.log_core.specs.Records.{HeadFits, RecordHolds, SaysOfGenerations}
 use Rattle.log_core.specs.Synced.{SyncHolds, SyncMarkHolds}
 use Rattle.log_core.specs.Invariant.{Invariant, KeptIn, around, names_by}
@@ -195,6 +195,7 @@ module _ (o : Origin) (c : Core) (n : ℕ) (s : Seat) (g : Ghost) (pin began bef
     ready_walked = r.ready_walked;
     ready_base = λ ready. r.ready_base ready ∙ ap (λ (x : Generation). x.base) (sym (same_gen h.generation (pinned.to_current (r.ready_walked ready).2)));
     ready_tail = r.ready_tail;
+    seeking = λ ready come_to. subst (λ (x : Generation). IsSnapshotBlock x w.reading_place w.reading_block) (sym (same_gen h.generation (pinned.to_current (r.ready_walked ready).2))) (r.seeking ready come_to);
     first_known = λ known. (let q = r.first_known known in record {
       some = q.some;
       is = q.is ∙ ap (λ (x : Generation). (nth_log c.logs x.cut).block) (sym (same_gen h.generation (pinned.to_current q.some)));

@@ -84,6 +84,7 @@ module _ (o : Origin) (c : Core) (n : ℕ) (m : Memory) (inv : Invariant o c) (l
     ready_walked = r.ready_walked;
     ready_base = r.ready_base;
     ready_tail = r.ready_tail;
+    seeking = r.seeking;
     first_known = r.first_known;
   }
 

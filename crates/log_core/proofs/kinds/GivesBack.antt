@@ -222,8 +222,10 @@ module _ (o : Origin) (c : Core) (n : ℕ) (s : Seat) (g : Ghost) (pin began wor
       ready_walked = r.ready_walked;
       ready_base = r.ready_base;
       ready_tail = r.ready_tail;
+      seeking = r.seeking;
       first_known = r.first_known;
     });
+    noted = f.noted;
     owned = (let r = f.owned in record {
       contents = r.contents;
       areas = r.areas;

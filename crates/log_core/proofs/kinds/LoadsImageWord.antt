@@ -98,6 +98,7 @@ module _ (o : Origin) (c : Core) (n : ℕ) (s : Seat) (g : Ghost) (pin began wor
     ready_walked = w.ready_walked;
     ready_base = w.ready_base;
     ready_tail = w.ready_tail;
+    seeking = w.seeking;
     first_known = w.first_known;
   }
 
@@ -169,7 +170,7 @@ module _ (o : Origin) (c : Core) (n : ℕ) (s : Seat) (g : Ghost) (pin began wor
   loaded = record s { walk = record (s.walk) { kept = kept_with (words_of s) s.walk.kept word value; at_tail = s.walk.at_tail || found } }
 
   pub image_facts : began ≤ end_of o c.history → Knows o c n loaded g pin began
-  image_facts low = place_facts o c n s g pin began f (kept_with (words_of s) s.walk.kept word value) s.walk.tail_block s.walk.tail_base s.walk.tail_slot s.walk.ready s.walk.snapshot_base s.walk.first_log (s.walk.at_tail || found)
+  image_facts low = place_facts o c n s g pin began f (kept_with (words_of s) s.walk.kept word value) s.walk.tail_block s.walk.tail_base s.walk.tail_slot s.walk.ready s.walk.snapshot_base s.walk.first_log (s.walk.at_tail || found) s.blocks.named refl
       (λ reading. or_from s.walk.at_tail found (stays_away o c n s g pin began f reading) (not_found reading))
       (λ at. either_of s.walk.at_tail found at f.tail (λ here. stands_at_tail low here))
-      (λ some. walk_loaded (s.walk.at_tail || found))
+      (λ some. walk_loaded (s.walk.at_tail || found)) f.noted

@@ -57,8 +57,10 @@ module _ (o : Origin) (c : Core) (n : ℕ) (s : Seat) (g : Ghost) (pin began wor
           ready_walked = w.ready_walked;
           ready_base = w.ready_base;
           ready_tail = w.ready_tail;
+          seeking = w.seeking;
           first_known = w.first_known;
         });
+        noted = l.noted;
         scan_others = l.scan_others;
         scan_self = l.scan_self;
         writes = (let r = l.writes in record { recorded = r.recorded; running = r.running });

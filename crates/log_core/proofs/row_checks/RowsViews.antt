@@ -56,6 +56,7 @@ walk zero some = record {
   ready_walked = λ ready. (λ none. omega (arith, none), refl, λ none. omega (arith, none));
   ready_base = λ ready. refl;
   ready_tail = λ ready. omega arith;
+  seeking = λ ready come_to. absurd (come_to refl);
   first_known = λ known. record { some = λ none. omega (arith, none); is = refl };
 }
 walk (suc zero) some = record {
@@ -79,6 +80,7 @@ walk (suc zero) some = record {
   ready_walked = λ ready. (λ none. omega (arith, none), refl, λ none. omega (arith, none));
   ready_base = λ ready. refl;
   ready_tail = λ ready. omega arith;
+  seeking = λ ready come_to. absurd (come_to refl);
   first_known = λ known. record { some = λ none. omega (arith, none); is = refl };
 }
 walk (suc (suc seat)) some = absurd (some refl)

@@ -29,9 +29,7 @@ place_of_another = (
   record {
     reading = record { valid = refl; reading = refl; pinned = refl };
     no_more = inr refl;
-    link = some_not_none 9;
-    next = some_not_none 9223372036854775815;
-    kind_is = refl;
+    followed = record { link = some_not_none 9; next = some_not_none 9223372036854775815; kind_is = refl };
   },
   record { inside = omega arith; block = refl; from = omega arith; upto = omega arith; table = first_table; size_is = refl; position_is = refl },
   refl,
