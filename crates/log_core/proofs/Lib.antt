@@ -23,6 +23,7 @@ pub mod SnapshotLinks
 pub mod NotedBits
 pub mod NotedNames
 pub mod NotedGrown
+pub mod NamesApart
 pub mod SnapshotNames
 pub mod ChainEntries
 pub mod MappedBlocks

@@ -1,5 +1,5 @@
 -- What a collection has noted stays: where fewer generations are kept, and where a step puts a word more into the last log block.
-use Rattle.std.proofs.Common.{◌≡◌, ◌≢◌, ◌<◌, ◌≤◌, ◌/◌, ◌+◌, ◌-◌, ◌++◌, ◌==◌, if◌then◌else◌, ℕ, zero, suc, Bool, true, false, List, [], ◌∷◌, length, take, drop, refl, sym, ◌∙◌, ap, arith}
+use Rattle.std.proofs.Common.{◌≡◌, ◌≢◌, ◌<◌, ◌≤◌, ◌/◌, ◌+◌, ◌-◌, ◌++◌, ◌==◌, if◌then◌else◌, ℕ, zero, suc, Bool, true, false, List, [], ◌∷◌, length, take, drop, slice_index, refl, sym, ◌∙◌, ap, arith}
 use Rattle.log_image.specs.Image.{total}
 use Rattle.log_image.specs.Chains.{is_listed}
 use Rattle.pmem_words.specs.declared.keeps.Task.{Task}
@@ -75,9 +75,15 @@ take_front zero first second low = refl
 take_front (suc count) [] second low = absurd (omega (arith, low))
 take_front (suc count) (x ∷ first) second low = ap (λ (l : List ℕ). x ∷ l) (take_front count first second (omega (arith, low)))
 
-long_blocks : (logs : List LogBlock) → length (log_blocks logs) ≡ length logs
+pub long_blocks : (logs : List LogBlock) → length (log_blocks logs) ≡ length logs
 long_blocks [] = refl
 long_blocks (log ∷ logs) = ap suc (long_blocks logs)
+
+-- the block of a log block by its number
+pub block_at : (logs : List LogBlock) (number : ℕ) → slice_index (log_blocks logs) number ≡ (nth_log logs number).block
+block_at [] number = refl
+block_at (log ∷ logs) zero = refl
+block_at (log ∷ logs) (suc number) = block_at logs number
 
 -- the blocks of the first log blocks, where others follow
 pub first_same : (before after : List LogBlock) (linked : List ℕ) (count cut : ℕ) → log_blocks after ≡ log_blocks before ++ linked → count ≤ length before → log_blocks (drop cut (take count after)) ≡ log_blocks (drop cut (take count before))

@@ -14,6 +14,7 @@ pub mod StartsFromSnapshot
 pub mod ReadsSnapshot
 pub mod NotesSnapshot
 pub mod SeeksFirst
+pub mod NamesReplaced
 pub mod AtTail
 pub mod TakesEntry
 pub mod StoresWord

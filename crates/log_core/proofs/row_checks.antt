@@ -35,6 +35,7 @@ pub mod RowsStepped
 pub mod RowsTwoWriters
 pub mod RowsBothPut
 pub mod RowsCollecting
+pub mod RowsNotedGaps
 pub mod RowsHeadPut
 pub mod RowsGivenBack
 pub mod RowsOvertaken

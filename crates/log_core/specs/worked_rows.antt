@@ -15,6 +15,7 @@ pub mod Joined
 pub mod Crashed
 pub mod TwoWriters
 pub mod Collecting
+pub mod NotedGaps
 pub mod GivenBack
 pub mod ReadAgain
 pub mod OldPins
