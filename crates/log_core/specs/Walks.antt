@@ -32,11 +32,13 @@ pub record HasRead (content : ℕ → List ℕ) (g : Generation) (w : Walk) : Ty
   pub size_is : w.size ≡ g.size
   pub position_is : w.position ≡ g.base
 
--- a kept word is the present one, of a block that the generation names; but for a slot or link of its log blocks that was found 0
+-- a kept word is the present one, of a block that the generation names; but for a slot or link of its log blocks that was found 0, and so
+-- neither a block's second word nor its third
 pub record IsKeptWord (image : Shape) (words : List ℕ) (is_named : ℕ → Bool) (logs : List LogBlock) (kept : KeptWord) : Type 0 where
   pub named : is_named kept.block ≡ true
   pub inside : kept.slot < words_in image
   pub word_is : (kept.word ≡ slice_index words (place_in image kept.block kept.slot)) ⊎ ((kept.word ≡ 0) × (is_listed (log_blocks logs) kept.block ≡ true))
+  pub early : (kept.slot ≡ 1) ⊎ (kept.slot ≡ 2) → kept.word ≡ slice_index words (place_in image kept.block kept.slot)
 
 -- a view that has walked: its table and size are those of its position, and its tail is a place of the log block with its tail's base
 pub record HasWalked (o : Origin) (es : List LogEntry) (logs : List LogBlock) (w : Walk) : Type 0 where

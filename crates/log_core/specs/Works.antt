@@ -13,7 +13,7 @@ use Rattle.log_entry.specs.declared.calls.Op.{Op}
 use Rattle.log_entry.specs.declared.calls.Op.TheVariants.{Pwrite as PwriteOp, Append as AppendOp}
 use Rattle.log_entry.specs.declared.calls.Call.{Call}
 use Rattle.log_image.specs.Entries.{Meaning, direct_meaning, names}
-use Rattle.log_image.specs.Maps.{block_in}
+use Rattle.log_image.specs.Maps.{block_in, entry_end}
 use Rattle.log_image.specs.Image.{Shape, shape_by}
 use Rattle.pmem_words.specs.Owned.{with_filled, with_fenced}
 use Rattle.pmem_words.specs.declared.keeps.Task.{Task}
@@ -236,7 +236,7 @@ abbrev pub walk_past : Shape → Walk → Meaning → Walk
 walk_past image w meaning = record w {
   position = w.position + 1;
   map = with_entry meaning w.map;
-  size = max w.size ((meaning.virt + length meaning.blocks) * image.block_bytes - meaning.leftover);
+  size = max w.size (entry_end image meaning);
   tail_slot = w.tail_slot + 1;
   at_tail = false;
   kept = [];

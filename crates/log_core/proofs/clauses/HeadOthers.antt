@@ -148,6 +148,8 @@ module _ (o : Origin) (c : Core) (n : ℕ) (s : Seat) (g : Ghost) (pin began bef
         (λ same. inl (same ∙ sym (ap (λ (x : Cell). x.present) (block_cell o c n s g pin began before next inv unspent f may won m moves kept.block kept.slot
         (named_some o c n s g pin began before next inv unspent f may won m moves place kept.block in_chain r.named) r.inside))))
         (λ empty. inr empty) r.word_is;
+    early = λ at. r.early at ∙ sym (ap (λ (x : Cell). x.present) (block_cell o c n s g pin began before next inv unspent f may won m moves kept.block kept.slot
+        (named_some o c n s g pin began before next inv unspent f may won m moves place kept.block in_chain r.named) r.inside));
   })
 
   -- what is read of a snapshot of a kept generation

@@ -67,6 +67,7 @@ module _ (o : Origin) (c : Core) (n : ℕ) (m : Memory) (inv : Invariant o c) (l
     named = r.named;
     inside = r.inside;
     word_is = ⊎_elim (λ same. inl (same ∙ sym (named_cells o c n m inv leaves place word.block word.slot kept r.named r.inside).present)) (λ empty. inr empty) r.word_is;
+    early = λ at. r.early at ∙ sym (named_cells o c n m inv leaves place word.block word.slot kept r.named r.inside).present;
   }
 
   -- a walk of a seat whose valid pin is of a kept generation

@@ -79,9 +79,13 @@ module _ (o : Origin) (c : Core) (n : ℕ) (s : Seat) (g : Ghost) (pin began wor
   kept_word = record {
     named = may.named;
     inside = subst (λ (q : ℕ). word % q < words_in (shape o)) (sym same_words) (let wide = inv.sizes.image.wide in Rattle.std.proofs.Math.Nat.mod-lt word (omega (arith, wide)));
-    word_is = inl (subst (λ (q : ℕ). value ≡ slice_index c.memory.now.words (word / q * words_in (shape o) + word % q)) (sym same_words)
-        (ap (λ (at : ℕ). slice_index c.memory.now.words at) (sym (place_again (words_in (shape o)) word))));
+    word_is = inl present;
+    early = λ at. present;
   }
+    where
+      present : value ≡ slice_index c.memory.now.words (word / words_of s * words_in (shape o) + word % words_of s)
+      present = subst (λ (q : ℕ). value ≡ slice_index c.memory.now.words (word / q * words_in (shape o) + word % q)) (sym same_words)
+          (ap (λ (at : ℕ). slice_index c.memory.now.words at) (sym (place_again (words_in (shape o)) word)))
 
   walk_loaded : (at_tail : Bool) → WalkHolds (around o c) s.hold (record (s.walk) { kept = kept_with (words_of s) s.walk.kept word value; at_tail = at_tail })
   walk_loaded at_tail = record {

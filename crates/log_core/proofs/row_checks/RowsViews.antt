@@ -1,5 +1,5 @@
 -- The clauses on views, owned blocks and giving back hold in the middle of a collection.
-use Rattle.std.proofs.Common.{◌≡◌, ◌≢◌, ◌≤◌, ◌<◌, ◌+◌, ◌*◌, not, ℕ, zero, suc, true, false, [], ◌∷◌, refl, sym, ap, inl, inr, arith, Option, None, Some}
+use Rattle.std.proofs.Common.{⊎_elim, ◌≡◌, ◌≢◌, ◌≤◌, ◌<◌, ◌+◌, ◌*◌, not, ℕ, zero, suc, true, false, [], ◌∷◌, refl, sym, ap, inl, inr, arith, Option, None, Some}
 use Rattle.std.proofs.lemmas.Bool.{false≢true, true≢false}
 use Rattle.std.specs.Option.{option_or}
 use Rattle.log_image.specs.Entries.{direct_meaning}
@@ -41,7 +41,7 @@ walk zero some = record {
   from_first = λ reading. absurd (false≢true reading);
   to_current = λ reading. absurd (false≢true reading);
   read = λ reading. absurd (false≢true reading);
-  kept_words = λ valid. (record { named = refl; inside = omega arith; word_is = inr (refl, refl) }, tt);
+  kept_words = λ valid. (record { named = refl; inside = omega arith; word_is = inr (refl, refl); early = λ at. ⊎_elim (λ e. absurd (omega (arith, e))) (λ e. absurd (omega (arith, e))) at }, tt);
   unpinned = λ invalid. absurd (true≢false invalid);
   walked = λ some stopped. record {
     table = table_zero;
@@ -65,7 +65,7 @@ walk (suc zero) some = record {
   from_first = λ reading. absurd (false≢true reading);
   to_current = λ reading. absurd (false≢true reading);
   read = λ reading. absurd (false≢true reading);
-  kept_words = λ valid. (record { named = refl; inside = omega arith; word_is = inr (refl, refl) }, tt);
+  kept_words = λ valid. (record { named = refl; inside = omega arith; word_is = inr (refl, refl); early = λ at. ⊎_elim (λ e. absurd (omega (arith, e))) (λ e. absurd (omega (arith, e))) at }, tt);
   unpinned = λ invalid. absurd (true≢false invalid);
   walked = λ some stopped. record {
     table = table_one;
