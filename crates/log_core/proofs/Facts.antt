@@ -59,7 +59,6 @@ forgotten s = record s { walk = record (s.walk) { kept = [] } }
 pub without_kept : (o : Origin) (c : Core) (s : Seat) (pin : ℕ) (valid at_tail : Bool) → WalkHolds (around o c) s.hold s.walk →
     WalkHolds (around o c) (record (s.hold) { pin = pin; valid = valid }) (record (s.walk) { kept = []; at_tail = at_tail })
 without_kept o c s pin valid at_tail w = record {
-  unwalked = w.unwalked;
   to_end = w.to_end;
   from_first = w.from_first;
   to_current = w.to_current;
@@ -192,7 +191,6 @@ module _ (o : Origin) (c : Core) (n : ℕ) (s : Seat) (g : Ghost) (pin began : �
   sought_facts block place first ready come_to known = moved_facts (sought block place first) s.calling s.giving.pins_seen s.giving.limbo_held (record {
     map = λ some. (f.fits some).map;
     walk = λ some. (let w = f.walk some in record {
-      unwalked = w.unwalked;
       to_end = w.to_end;
       from_first = w.from_first;
       to_current = w.to_current;
@@ -227,7 +225,6 @@ pins_known o c n s g pin began pins f = record {
   pin_is = f.pin_is;
   pin_holds = f.pin_holds;
   walk = λ some. (let w = f.walk some in record {
-    unwalked = w.unwalked;
     to_end = w.to_end;
     from_first = w.from_first;
     to_current = w.to_current;

@@ -11,7 +11,7 @@ use Rattle.pmem_words.specs.Maps.{map_at as mapped_at}
 use Rattle.log_image.specs.Chains.{is_listed}
 use Rattle.log_core.specs.Entries.{place_in, LogEntry}
 use Rattle.log_core.specs.Views.{View, view_of}
-use Rattle.log_core.specs.Origin.{Origin, shape, first_position, first_generation, LogBlock, Generation}
+use Rattle.log_core.specs.Origin.{Origin, shape, first_generation, LogBlock, Generation}
 use Rattle.log_core.specs.Files.{history_map_at, history_size_at}
 use Rattle.log_core.specs.Cores.{generation_at, is_named, nth_log, log_at, log_blocks, entries_used, is_full}
 
@@ -73,11 +73,9 @@ pub record Around : Type 1 where
   pub recorded : ℕ → List ℕ
   pub kept : ℕ → Type 0
 
--- a view that has not walked is at the start's position. What is read of a snapshot is as far as it goes, as long as that generation
--- is kept. With a valid pin the kept words are those of the pinned chain, and without one there are none. A view that is ready has walked in the chain of its
+-- what is read of a snapshot is as far as it goes, as long as that generation is kept. With a valid pin the kept words are those of the pinned chain, and without one there are none. A view that is ready has walked in the chain of its
 -- generation. The first log block is that chain's, or not known; a block come to on the way to it is one of its snapshot. No position is past the end
 pub record WalkHolds (a : Around) (h : Hold) (w : Walk) : Type 0 where
-  pub unwalked : w.tail_block ≡ 0 → w.reading ≡ false → w.position ≡ first_position a.origin
   pub to_end : w.position ≤ a.end
   pub from_first : w.reading ≡ true → first_generation a.origin ≤ w.reading_generation
   pub to_current : w.reading ≡ true → w.reading_generation < first_generation a.origin + length a.generations

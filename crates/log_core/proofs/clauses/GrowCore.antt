@@ -149,7 +149,6 @@ module _ (o : Origin) (c : Core) (x : Growth) (s : Seat) (g : Ghost) (began : Li
 
   walk_mine : WalkHolds (around o (grown c x)) s.hold s.walk → WalkHolds (around o new) s.hold s.walk
   walk_mine old = record {
-    unwalked = old.unwalked;
     to_end = old.to_end;
     from_first = old.from_first;
     to_current = old.to_current;

@@ -128,7 +128,6 @@ module _ (o : Origin) (c : Core) (x : Growth) (inv : Invariant o c) (grows : Gro
     -- a walk whose valid pin is of a kept generation
     pub walk_grown : (w : Walk) → WalkHolds (around o c) h w → WalkHolds (around o (with_views views began)) h w
     walk_grown w r = record {
-      unwalked = r.unwalked;
       to_end = (let low = r.to_end in let more = grows.history.longer in omega (arith, low, more));
       from_first = r.from_first;
       to_current = r.to_current;

@@ -185,7 +185,6 @@ module _ (o : Origin) (c : Core) (n : ℕ) (s : Seat) (g : Ghost) (pin began bef
       (h : Hold) → PinHolds (first_generation o) (current o c.generations) (cell c.memory head_place) h → (h.valid ≡ true → KeptIn o c (h.generation - first_generation o)) → (w : Walk) →
       WalkHolds (around o c) h w → WalkHolds (around o (moved_core views ends)) h w
   walk_moved views ends kept_before h pinned in_chain w r = record {
-    unwalked = r.unwalked;
     to_end = r.to_end;
     from_first = r.from_first;
     to_current = λ reading. (let low = r.to_current reading in let count = gens_count in omega (arith, low, count));

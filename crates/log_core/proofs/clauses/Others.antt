@@ -74,7 +74,6 @@ module _ (o : Origin) (c : Core) (n : ℕ) (m : Memory) (inv : Invariant o c) (l
   pub walk_left : (views : List View) (owner : ℕ → Owner) (began : List ℕ) → ((place : ℕ) → KeptIn o (record c { memory = m; views = views; owner = owner; began = began }) place → KeptIn o c place) →
       (h : Hold) (w : Walk) → (h.valid ≡ true → KeptIn o c (h.generation - first_generation o)) → WalkHolds (around o c) h w → WalkHolds (around o (record c { memory = m; views = views; owner = owner; began = began })) h w
   walk_left views owner began kept_before h w pinned r = record {
-    unwalked = r.unwalked;
     to_end = r.to_end;
     from_first = r.from_first;
     to_current = r.to_current;

@@ -132,7 +132,6 @@ module _ (o : Origin) (c : Core) (n : ℕ) (s : Seat) (g : Ghost) (m : Memory) (
   -- the walk of the seat, where fewer generations may be kept
   walk_mine : WalkHolds (around o (moved c m owner)) s.hold s.walk → WalkHolds (around o new) s.hold s.walk
   walk_mine old = record {
-    unwalked = old.unwalked;
     to_end = old.to_end;
     from_first = old.from_first;
     to_current = old.to_current;

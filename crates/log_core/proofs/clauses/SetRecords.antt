@@ -88,7 +88,6 @@ module _ (o : Origin) (c : Core) (n : ℕ) (calling : Calling) (put : Option Hea
 
   walk_left : (u : View) → WalkHolds (around o c) u.seat.hold u.seat.walk → WalkHolds (around o new) u.seat.hold u.seat.walk
   walk_left u r = record {
-    unwalked = r.unwalked;
     to_end = r.to_end;
     from_first = r.from_first;
     to_current = r.to_current;

@@ -101,7 +101,6 @@ module _ (o : Origin) (c : Core) (n : â„•) (s : Seat) (g : Ghost) (pin began : â
 
       walk_sealed : WalkHolds (around o c) s.hold (state_after_work s TakesSeal).walk
       walk_sealed = record {
-        unwalked = w.unwalked;
         to_end = w.to_end;
         from_first = w.from_first;
         to_current = w.to_current;
@@ -169,7 +168,6 @@ module _ (o : Origin) (c : Core) (n : â„•) (s : Seat) (g : Ghost) (pin began : â
 
       walk_followed : WalkHolds (around o c) s.hold (state_after_work s Follows).walk
       walk_followed = record {
-        unwalked = Î» none. absurd (linked none);
         to_end = w.to_end;
         from_first = w.from_first;
         to_current = w.to_current;

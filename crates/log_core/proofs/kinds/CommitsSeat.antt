@@ -207,7 +207,6 @@ module _ (o : Origin) (c : Core) (n : ℕ) (s : Seat) (g : Ghost) (pin began wor
       let old = has_walked o c n s g pin began word entry number inv f here unspent used_entry no_seal may empty in
       let last = at_last o c n s g pin began word entry number inv f here unspent used_entry no_seal may empty in
       let open_slot = unclosed o c n s g pin began word entry number inv f here unspent used_entry no_seal may empty in record {
-        unwalked = λ none. absurd (((f.walk unspent).ready_walked may.at_tail.ready).0 none);
         to_end = (let next = position_next in omega (arith, next));
         from_first = k.from_first;
         to_current = k.to_current;

@@ -119,7 +119,6 @@ module _ (o : Origin) (c : Core) (n : ℕ) (s : Seat) (g : Ghost) (pin began wor
 
   walk_holds : WalkHolds (around o (grown c x)) s.hold walk_linked
   walk_holds = (let w = walk_same o c x inv link_grows s g pin began f unspent in record {
-    unwalked = λ none. absurd (some_block none);
     to_end = w.to_end;
     from_first = w.from_first;
     to_current = w.to_current;
@@ -199,12 +198,12 @@ module _ (o : Origin) (c : Core) (n : ℕ) (s : Seat) (g : Ghost) (pin began wor
     owns = owns_left o c x inv link_grows (λ (other : ℕ). other == block) (leaves_one block) s.blocks.owned f.owns.owned;
     owned = (let r = left_hold (λ at. cell x.memory at) x.memory.past x.memory.pending n s g (record g { stored = stored_linked })
         (owned_grown o c x inv link_grows n g s words image f.owns.owned.listed f.owned) (λ (other : ℕ). other == block) refl s.blocks.found in record {
-      contents = r.contents;
-      areas = r.areas;
-      stored = r.stored;
-      filled = λ place inside filled. (let q = r.filled place inside filled in record { owned = q.owned; each = q.each });
-      fenced = r.fenced;
-    });
+          contents = r.contents;
+          areas = r.areas;
+          stored = r.stored;
+          filled = λ place inside filled. (let q = r.filled place inside filled in record { owned = q.owned; each = q.each });
+          fenced = r.fenced;
+        });
     walks = λ some. walk_holds;
     noted = λ some. noted_holds;
     writes = (let r = f.writes in record { recorded = r.recorded; running = r.running });

@@ -71,7 +71,6 @@ module _ (o : Origin) (c : Core) (seat other : ℕ) (inv : Invariant o c) (may :
   -- a walk goes to a hold with no valid pin and the same generation
   walk_goes : (x : Seat) (h : Hold) → x.hold.valid ≡ false → h.valid ≡ false → h.generation ≡ x.hold.generation → WalkHolds (around o c) x.hold x.walk → WalkHolds (around o new) h (record (x.walk) { at_tail = false })
   walk_goes x h none invalid same r = record {
-    unwalked = r.unwalked;
     to_end = r.to_end;
     from_first = r.from_first;
     to_current = r.to_current;
@@ -94,7 +93,6 @@ module _ (o : Origin) (c : Core) (seat other : ℕ) (inv : Invariant o c) (may :
   walks = (each_joined o c seat other inv may) (λ (k : ℕ) (w : View). w.parts ≢ [] → WalkHolds (around o new) w.seat.hold w.seat.walk)
       (λ some. walk_joined further) (λ none. absurd (none refl))
       (λ k not_seat not_other some. (let r = inv.walks k some in record {
-        unwalked = r.unwalked;
         to_end = r.to_end;
         from_first = r.from_first;
         to_current = r.to_current;

@@ -125,7 +125,6 @@ module _ (o : Origin) (c : Core) (n : ℕ) (s : Seat) (g : Ghost) (pin began wor
 
   walk_loaded : (b : Bool) → WalkHolds (around o c) s.hold s.walk → WalkHolds (around o c) (hold_by b s.hold word) (loaded_by b s word).walk
   walk_loaded b w = record {
-    unwalked = w.unwalked;
     to_end = w.to_end;
     from_first = w.from_first;
     to_current = w.to_current;

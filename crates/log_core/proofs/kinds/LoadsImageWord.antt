@@ -89,7 +89,6 @@ module _ (o : Origin) (c : Core) (n : ℕ) (s : Seat) (g : Ghost) (pin began wor
 
   walk_loaded : (at_tail : Bool) → WalkHolds (around o c) s.hold (record (s.walk) { kept = kept_with (words_of s) s.walk.kept word value; at_tail = at_tail })
   walk_loaded at_tail = record {
-    unwalked = w.unwalked;
     to_end = w.to_end;
     from_first = w.from_first;
     to_current = w.to_current;

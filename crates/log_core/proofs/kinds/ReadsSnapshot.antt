@@ -144,7 +144,6 @@ module _ (o : Origin) (c : Core) (n : ℕ) (s : Seat) (g : Ghost) (pin began : �
 
     pub reads_on : (map : List (Option ℕ)) (next slot number : ℕ) → HasRead c.recorded pinned (placed_at map next slot number) → WalkHolds (around o c) s.hold (placed_at map next slot number)
     reads_on map next slot number read_now = record {
-      unwalked = w.unwalked;
       to_end = w.to_end;
       from_first = w.from_first;
       to_current = w.to_current;
@@ -269,7 +268,6 @@ module _ (o : Origin) (c : Core) (n : ℕ) (s : Seat) (g : Ghost) (pin began : �
 
       pub walk_ended : WalkHolds (around o c) s.hold (state_after_work s EndsReading).walk
       walk_ended = record {
-        unwalked = λ none. absurd (no_zero none);
         to_end = w.to_end;
         from_first = λ again. cc;
         to_current = λ again. cc;

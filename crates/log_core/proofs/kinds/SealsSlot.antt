@@ -122,7 +122,6 @@ module _ (o : Origin) (c : Core) (n : ℕ) (s : Seat) (g : Ghost) (pin began wor
 
   walk_holds : WalkHolds (around o (grown c x)) s.hold walk_sealed
   walk_holds = (let w = walk_same o c x inv seal_grows s g pin began f unspent in record {
-    unwalked = w.unwalked;
     to_end = w.to_end;
     from_first = w.from_first;
     to_current = w.to_current;

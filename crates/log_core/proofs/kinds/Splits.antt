@@ -161,11 +161,10 @@ module _ (o : Origin) (c : Core) (inv : Invariant o c) (may : MaySplit o c 0) wh
 
   walks : (k : ℕ) → (view_of views k).parts ≢ [] → WalkHolds (around o new) (view_of views k).seat.hold (view_of views k).seat.walk
   walks = each_grown (λ (k : ℕ) (v : View). v.parts ≢ [] → WalkHolds (around o new) v.seat.hold v.seat.walk)
-      (λ some. fewer first_view (inv.walks 0 some)) (λ some. walks_at (around o new) (first_position o) refl (omega arith)) (λ k other some. fewer (view_of c.views k) (inv.walks k some))
+      (λ some. fewer first_view (inv.walks 0 some)) (λ some. walks_at (around o new) (first_position o) (omega arith)) (λ k other some. fewer (view_of c.views k) (inv.walks k some))
     where
       fewer : (v : View) → WalkHolds (around o c) v.seat.hold v.seat.walk → WalkHolds (around o new) v.seat.hold v.seat.walk
       fewer v r = record {
-        unwalked = r.unwalked;
         to_end = r.to_end;
         from_first = r.from_first;
         to_current = r.to_current;

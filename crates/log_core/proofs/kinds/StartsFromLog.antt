@@ -57,7 +57,6 @@ module _ (o : Origin) (c : Core) (n : ℕ) (s : Seat) (g : Ghost) (pin began : �
 
     walk_begun : WalkHolds (around o c) s.hold (state_after_work s StartsFromLog).walk
     walk_begun = record {
-      unwalked = λ none. absurd (no_zero none);
       to_end = subst (λ (b : ℕ). b ≤ Rattle.log_core.specs.Files.end_of o c.history) (sym base)
           (inv.order.generations_rise.to_end (place o c n s g pin began inv f may.at_front.valid) (kept o c n s g pin began inv f may.at_front.valid).inside);
       from_first = λ reading. cc;

@@ -100,7 +100,6 @@ module _ (o : Origin) (c : Core) (n : ℕ) (s : Seat) (g : Ghost) (pin began : �
 
     walk_begun : WalkHolds (around o c) s.hold (state_after_work s StartsFromSnapshot).walk
     walk_begun = record {
-      unwalked = λ none reading. cc;
       to_end = subst (λ (b : ℕ). b ≤ end_of o c.history) (sym (base_is o c n s g pin began inv f may.at_front some)) (inv.order.generations_rise.to_end at in_chain.inside);
       from_first = λ reading. (let is = from_first o c n s g pin began inv f may.at_front.valid in omega (arith, is));
       to_current = λ reading. (let is = from_first o c n s g pin began inv f may.at_front.valid in let low = in_chain.inside in omega (arith, is, low));

@@ -255,7 +255,6 @@ module _ (o : Origin) (c : Core) (n : ℕ) (s : Seat) (g : Ghost) (pin began : �
 
   walk_taken : WalkHolds (around o c) s.hold new.walk
   walk_taken = record {
-    unwalked = λ none. absurd ((w.ready_walked found.ready).0 none);
     to_end = (let low = within in omega (arith, low));
     from_first = w.from_first;
     to_current = w.to_current;

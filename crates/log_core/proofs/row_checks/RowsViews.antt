@@ -36,7 +36,6 @@ table_one (suc (suc (suc (suc virt)))) = refl
 
 walk : (seat : ℕ) → (view_of collected.views seat).parts ≢ [] → WalkHolds (around image_a collected) (view_of collected.views seat).seat.hold (view_of collected.views seat).seat.walk
 walk zero some = record {
-  unwalked = λ none. absurd (omega (arith, none));
   to_end = omega arith;
   from_first = λ reading. absurd (false≢true reading);
   to_current = λ reading. absurd (false≢true reading);
@@ -60,7 +59,6 @@ walk zero some = record {
   first_known = λ known. record { some = λ none. omega (arith, none); is = refl };
 }
 walk (suc zero) some = record {
-  unwalked = λ none. absurd (omega (arith, none));
   to_end = omega arith;
   from_first = λ reading. absurd (false≢true reading);
   to_current = λ reading. absurd (false≢true reading);

@@ -88,9 +88,8 @@ start_pins o = record { words = words; holds = each_view o (λ n v. PinHolds fir
     words seat inside = each_view o (λ n v. get_or (replicate o.seats 0) n 0 ≡ v.seat.hold.pin) (λ n before. zeros_after [] o.seats n) (λ n. zeros_after [] o.seats n) seat
 
 -- walks
-pub walks_at : (a : Around) (position : ℕ) → position ≡ first_position a.origin → position ≤ a.end → WalkHolds a no_hold (unwalked position)
-walks_at a position same below = record {
-  unwalked = λ no_tail still. same;
+pub walks_at : (a : Around) (position : ℕ) → position ≤ a.end → WalkHolds a no_hold (unwalked position)
+walks_at a position below = record {
   to_end = below;
   from_first = λ reading. absurd (false≢true reading);
   to_current = λ reading. absurd (false≢true reading);
@@ -107,7 +106,7 @@ walks_at a position same below = record {
 
 pub start_walks : (o : Origin) → WalksHold (around o (first_core o)) (first_views o)
 start_walks o = each_view o (λ n v. v.parts ≢ [] → WalkHolds (around o (first_core o)) v.seat.hold v.seat.walk)
-    (λ n before unspent. walks_at (around o (first_core o)) (first_position o) refl (omega arith)) (λ n unspent. absurd (unspent refl))
+    (λ n before unspent. walks_at (around o (first_core o)) (first_position o) (omega arith)) (λ n unspent. absurd (unspent refl))
 
 -- nothing is noted
 pub start_noted : (o : Origin) → AllNoted (around o (first_core o)) (first_views o)
