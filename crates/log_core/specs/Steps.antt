@@ -296,11 +296,10 @@ stored_after stored s (ExchangesLink word block) f = stored_if (f == 0) (stored_
 stored_after stored s (ExchangesHead before next) f = stored_if (f == before) (stored_but (words_of s) (λ block. is_listed (new_snapshots s next) block) stored) stored
 stored_after stored s _ f = stored
 
--- the areas in which the call has found too few blocks: a step on the bitmap may find it, at the tail alone, as what the call lacks is
--- counted by its size and its blocks there
+-- the areas in which the call has found too few blocks: a step on the bitmap may find it
 abbrev pub lacked_after : List Area → Seat → Kind → List Area
-lacked_after lacked s (LoadsBitmapWord word) = lacked ++ filter (λ (area : Area). s.walk.at_tail && is_pass_found s area) (Data ∷ Log ∷ Spare ∷ [])
-lacked_after lacked s (SetsBits word bits) = lacked ++ filter (λ (area : Area). s.walk.at_tail && is_pass_found s area) (Data ∷ Log ∷ Spare ∷ [])
+lacked_after lacked s (LoadsBitmapWord word) = lacked ++ filter (λ (area : Area). is_pass_found s area) (Data ∷ Log ∷ Spare ∷ [])
+lacked_after lacked s (SetsBits word bits) = lacked ++ filter (λ (area : Area). is_pass_found s area) (Data ∷ Log ∷ Spare ∷ [])
 lacked_after lacked s _ = lacked
 
 -- the generation that an exchange of the head found instead of its own

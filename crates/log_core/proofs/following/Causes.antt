@@ -1,5 +1,5 @@
 -- What a running call has found it found at its own steps: a step adds what it finds.
-use Rattle.std.proofs.Common.{◌&&◌, ◌≡◌, ◌≢◌, ◌⊎◌, inl, inr, ⊎_elim, ◌<◌, ◌≤◌, ◌-◌, ◌/◌, ◌%◌, ◌==◌, ◌||◌, not, cond, ℕ, Bool, true, false, List, [], ◌∷◌, ◌++◌, length, take, filter, bit_or, refl, sym, ◌∙◌, ap, subst, arith, slice_index, slice_set, None}
+use Rattle.std.proofs.Common.{◌≡◌, ◌≢◌, ◌⊎◌, inl, inr, ⊎_elim, ◌<◌, ◌≤◌, ◌-◌, ◌/◌, ◌%◌, ◌==◌, ◌||◌, not, cond, ℕ, Bool, true, false, List, [], ◌∷◌, ◌++◌, length, take, filter, bit_or, refl, sym, ◌∙◌, ap, subst, arith, slice_index, slice_set, None}
 use Rattle.std.specs.Int.{bit_at}
 use Rattle.std.specs.List.{list_any, range_with_len}
 use Rattle.std.proofs.lemmas.Nat.Bits.{bit_at_or}
@@ -113,19 +113,19 @@ module _ (o : Origin) (steps : List Step) (n number : ℕ) where
 
   -- a pass that found an area full
   pub more_lacked : (s : Seat) (call : RunningCall) (areas : List Area) → seat_shape s ≡ shape o → Causes o steps n number s.blocks.found s.giving.pins_seen call →
-      Causes o steps n number s.blocks.found s.giving.pins_seen (record call { lacked = call.lacked ++ filter (λ (area : Area). s.walk.at_tail && is_pass_found s area) areas })
+      Causes o steps n number s.blocks.found s.giving.pins_seen (record call { lacked = call.lacked ++ filter (λ (area : Area). is_pass_found s area) areas })
   more_lacked s call areas same causes = record {
     taken = causes.taken;
     lacked = λ area is block inside. either area block inside (list_any (λ (other : Area). is_area other area) call.lacked) refl
-        (sym (list_any-append (λ (other : Area). is_area other area) call.lacked (filter (λ (a : Area). s.walk.at_tail && is_pass_found s a) areas)) ∙ is);
+        (sym (list_any-append (λ (other : Area). is_area other area) call.lacked (filter (λ (a : Area). is_pass_found s a) areas)) ∙ is);
     overtaken = causes.overtaken;
     pins_seen = causes.pins_seen;
   }
     where
       either : (area : Area) (block : ℕ) → is_in_area (shape o) area block ≡ true → (b : Bool) → list_any (λ (other : Area). is_area other area) call.lacked ≡ b →
-          (b || list_any (λ (other : Area). is_area other area) (filter (λ (a : Area). s.walk.at_tail && is_pass_found s a) areas)) ≡ true → IsAtStep o steps n number (FindsTaken block)
+          (b || list_any (λ (other : Area). is_area other area) (filter (λ (a : Area). is_pass_found s a) areas)) ≡ true → IsAtStep o steps n number (FindsTaken block)
       either area block inside true e any = causes.lacked area e block inside
-      either area block inside false e any = causes.taken block (pass_found s area (and_parts s.walk.at_tail (is_pass_found s area) (filtered (λ (a : Area). s.walk.at_tail && is_pass_found s a) area areas any)).1 block (subst (λ (image : Shape). is_in_area image area block ≡ true) (sym same) inside))
+      either area block inside false e any = causes.taken block (pass_found s area (filtered (λ (a : Area). is_pass_found s a) area areas any) block (subst (λ (image : Shape). is_in_area image area block ≡ true) (sym same) inside))
 
   -- one pin more seen
   pub more_pins : (words pins : List ℕ) (call : RunningCall) (seat value : ℕ) → (seat ≡ 0) ⊎ (seat ≡ length pins) → Causes o steps n number words pins call → IsAtStep o steps n number (FindsPin seat value) →

@@ -18,7 +18,7 @@ pub trail_walked : WalkedTrail
 trail_walked = (refl, refl, refl, refl)
 
 pub lacks_blocks : LacksBlocks
-lacks_blocks = (refl, refl, refl, refl, refl, refl, refl, refl, refl, refl, refl, refl, refl, refl, refl, refl, refl, refl, refl, refl, refl, refl)
+lacks_blocks = (refl, refl, refl, refl, refl, refl, refl, refl, refl, refl, refl, refl, refl, refl, refl, refl, refl, refl, refl, refl, refl)
 
 pub quiet_calls : QuietCalls
 quiet_calls = (refl, refl, refl, refl, refl, refl, refl, refl, refl, refl, refl, refl, refl, refl, refl, refl, refl)

@@ -511,7 +511,7 @@ wide_writer count owned found = record (new_seat wide 0 2 0) {
 abbrev pub data_block : ℕ → OwnedBlock
 data_block block = record { block = block; area = Data; filled = false; fenced = false }
 
--- two bytes at 63 touch two blocks: two that are owned have to be in a row; and too few are found where each is taken, at the tail
+-- two bytes at 63 touch two blocks: two that are owned have to be in a row; and too few are found where each is taken
 abbrev pub LacksBlocks : Type 0
 LacksBlocks =
     (is_one_run (1 ∷ 2 ∷ []) ≡ true)
@@ -534,8 +534,7 @@ LacksBlocks =
     × (is_pass_found (wide_writer 2 (data_block 1 ∷ data_block 2 ∷ []) 254) Data ≡ false)
     × (is_pass_found (wide_writer 2 [] 768) Log ≡ true)
     × (is_pass_found (wide_writer 2 [] 512) Log ≡ false)
-    × (lacked_after [] (wide_writer 2 [] 1022) (LoadsBitmapWord 0) ≡ [])
-    × (lacked_after [] (record (wide_writer 2 [] 1022) { walk = record ((wide_writer 2 [] 1022).walk) { at_tail = true } }) (LoadsBitmapWord 0) ≡ Data ∷ Log ∷ [])
+    × (lacked_after [] (wide_writer 2 [] 1022) (LoadsBitmapWord 0) ≡ Data ∷ Log ∷ [])
 
 -- a seat of that image that stands before a used slot of block 10 and keeps these words, with a map of eight virtual blocks
 abbrev pub walker : List KeptWord → Seat
