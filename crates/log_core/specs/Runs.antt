@@ -41,13 +41,11 @@ pub record MayDo (o : Origin) (c : Core) (seat : ℕ) (ask : Ask) (note : Note) 
   pub unspent : (view_of c.views seat).parts ≢ []
   pub step : MayStep o c (view_of c.views seat) (kind_of_ask (q_of_origin o) seat ask) note (found_answer c.memory ask)
 
--- a split: of seat 0, before any call, where fewer seats are made than there may be
+-- a split: of seat 0, before any call (each has a number above 0), where fewer seats are made than there may be
 pub record MaySplit (o : Origin) (c : Core) (seat : ℕ) : Type 0 where
   pub first : seat ≡ 0
   pub made : 0 < length c.views
   pub unspent : (view_of c.views 0).parts ≢ []
-  pub no_record : (view_of c.views 0).done ≡ []
-  pub no_call : op_in (view_of c.views 0).seat ≡ None
   pub never_called : (view_of c.views 0).ghost.call.number ≡ 0
   pub room : (view_of c.views 0).made < o.seats
 
