@@ -15,7 +15,6 @@ pub mod TakeStanding
 pub mod TakeSettles
 pub mod TakeServes
 pub mod TakeWithinCore
-pub mod BlockWords
 pub mod OwnedFlags
 pub mod GivenLemmas
 pub mod GiveSteps
@@ -27,7 +26,6 @@ pub mod FillStores
 pub mod FillMarks
 pub mod FillServes
 pub mod FillWithinCore
-pub mod FewBlocks
 pub mod GiveServes
 pub mod OwnedInCore
 pub mod GiveWithinCore

@@ -2,6 +2,8 @@ pub mod Heads
 pub mod Each
 pub mod Facts
 pub mod BlockLists
+pub mod FewBlocks
+pub mod BlockWords
 pub mod BitmapFacts
 pub mod clauses
 pub mod LogTails

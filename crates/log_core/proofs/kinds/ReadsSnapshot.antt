@@ -117,7 +117,7 @@ module _ (o : Origin) (c : Core) (n : ℕ) (s : Seat) (g : Ghost) (pin began : �
     pub in_snapshot : is_listed pinned.snapshots block ≡ true
     in_snapshot = is_of_snapshot c.recorded pinned s.walk has_read
 
-    listed : is_listed (pinned.snapshots ++ data_names o (entries o c.history) pinned) block ≡ true
+    pub listed : is_listed (pinned.snapshots ++ data_names o (entries o c.history) pinned) block ≡ true
     listed = has_left pinned.snapshots (data_names o (entries o c.history) pinned) block in_snapshot
 
     pub held : IsSnapshotBlock pinned s.walk.reading_place block
@@ -126,7 +126,7 @@ module _ (o : Origin) (c : Core) (n : ℕ) (s : Seat) (g : Ghost) (pin began : �
     pub some_blocks : 0 < length pinned.snapshots
     some_blocks = (let inside = has_read.inside in omega (arith, inside))
 
-    are_blocks : AreSnapshotBlocks (shape o) c.recorded pinned.base pinned.size pinned.snapshots (nth_log c.logs pinned.cut).block
+    pub are_blocks : AreSnapshotBlocks (shape o) c.recorded pinned.base pinned.size pinned.snapshots (nth_log c.logs pinned.cut).block
     are_blocks = Rattle.log_core.proofs.SnapshotLinks.are_blocks o c n s g pin began inv f reading.valid some held
 
     form : is_snapshot_block (shape o) (c.recorded block) ≡ true
@@ -176,12 +176,16 @@ module _ (o : Origin) (c : Core) (n : ℕ) (s : Seat) (g : Ghost) (pin began : �
       among : slot < 3 + entry_count (c.recorded block)
       among = ⊎_elim (λ low. low) (λ past. absurd (used (word_says ∙ after_entries o (c.recorded block) form slot past inside))) (cases_lt slot (3 + entry_count (c.recorded block)))
 
+      -- it has the form of an entry
+      pub run_form : is_snapshot_entry (shape o) (kept_word s block slot) ≡ true
+      run_form = subst (λ (word : ℕ). is_snapshot_entry (shape o) word ≡ true) (sym word_says) (entry_form o (c.recorded block) form slot has_read.from among inside)
+
       abbrev meaning : Meaning
       meaning = direct_meaning (kept_word s block slot)
 
       within : meaning.virt + length meaning.blocks ≤ length s.walk.map
       within = (let fits_map = (f.fits some).map in
-          let most = entry_inside o (kept_word s block slot) (subst (λ (word : ℕ). is_snapshot_entry (shape o) word ≡ true) (sym word_says) (entry_form o (c.recorded block) form slot has_read.from among inside)) in
+          let most = entry_inside o (kept_word s block slot) run_form in
           omega (arith, fits_map, most))
 
       pub more : read_meanings c.recorded pinned.snapshots block (slot + 1) ≡ read_meanings c.recorded pinned.snapshots block slot ++ meaning ∷ []
