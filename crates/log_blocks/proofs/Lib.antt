@@ -1,0 +1,2 @@
+pub mod EntryMaps
+pub mod KeptRuns
