@@ -29,7 +29,6 @@ pub mod FillStores
 pub mod FillMarks
 pub mod FillServes
 pub mod FillWithinCore
-pub mod FewBlocks
 pub mod GiveServes
 pub mod OwnedInCore
 pub mod GiveWithinCore

@@ -11,7 +11,7 @@ use Rattle.log_core.specs.Cores.{Core}
 use Rattle.log_core.specs.Needs.{owned_numbers}
 use Rattle.log_core.specs.Invariant.{Invariant}
 use Rattle.log_core.specs.Knows.{Knows}
-use Rattle.block_bitmap.proofs.FewBlocks.{few_different}
+use Rattle.log_core.proofs.FewBlocks.{few_different}
 
 module _ (o : Origin) (seat : ℕ) (c : Core) (s : Seat) (g : Ghost) (pin began : ℕ) (inv : Invariant o c) (knows : Knows o c seat s g pin began) where
   pub low_block : (b : ℕ) → is_listed (owned_numbers s.blocks.owned) b ≡ true → b < total (shape o)

@@ -1,2 +1,6 @@
 pub mod EntryMaps
 pub mod KeptRuns
+pub mod Loading
+pub mod FoundWords
+pub mod WalkStanding
+pub mod KeptLists

@@ -2,6 +2,7 @@ pub mod Heads
 pub mod Each
 pub mod Facts
 pub mod BlockLists
+pub mod FewBlocks
 pub mod BitmapFacts
 pub mod clauses
 pub mod LogTails

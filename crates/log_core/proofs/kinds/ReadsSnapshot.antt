@@ -109,22 +109,22 @@ module _ (o : Origin) (c : Core) (n : ℕ) (s : Seat) (g : Ghost) (pin began : �
     w : WalkHolds (around o c) s.hold s.walk
     w = f.walk some
 
-    has_read : HasRead c.recorded pinned s.walk
+    pub has_read : HasRead c.recorded pinned s.walk
     has_read = subst (λ (number : ℕ). KeptIn o c (number - first_generation o) → HasRead c.recorded (nth_generation c.generations (number - first_generation o)) s.walk) reading.pinned (w.read reading.reading) in_chain
 
     abbrev block : ℕ
     block = s.walk.reading_block
 
-    in_snapshot : is_listed pinned.snapshots block ≡ true
+    pub in_snapshot : is_listed pinned.snapshots block ≡ true
     in_snapshot = is_of_snapshot c.recorded pinned s.walk has_read
 
-    listed : is_listed (pinned.snapshots ++ data_names o (entries o c.history) pinned) block ≡ true
+    pub listed : is_listed (pinned.snapshots ++ data_names o (entries o c.history) pinned) block ≡ true
     listed = has_left pinned.snapshots (data_names o (entries o c.history) pinned) block in_snapshot
 
-    some_blocks : 0 < length pinned.snapshots
+    pub some_blocks : 0 < length pinned.snapshots
     some_blocks = (let inside = has_read.inside in omega (arith, inside))
 
-    are_blocks : AreSnapshotBlocks (shape o) c.recorded pinned.base pinned.size pinned.snapshots (nth_log c.logs pinned.cut).block
+    pub are_blocks : AreSnapshotBlocks (shape o) c.recorded pinned.base pinned.size pinned.snapshots (nth_log c.logs pinned.cut).block
     are_blocks = ((inv.contents at in_chain).snapshot.whole some_blocks).words
 
     form : is_snapshot_block (shape o) (c.recorded block) ≡ true
@@ -174,12 +174,16 @@ module _ (o : Origin) (c : Core) (n : ℕ) (s : Seat) (g : Ghost) (pin began : �
       among : slot < 3 + entry_count (c.recorded block)
       among = ⊎_elim (λ low. low) (λ past. absurd (used (word_says ∙ after_entries o (c.recorded block) form slot past inside))) (cases_lt slot (3 + entry_count (c.recorded block)))
 
+      -- it has the form of an entry
+      pub run_form : is_snapshot_entry (shape o) (kept_word s block slot) ≡ true
+      run_form = subst (λ (word : ℕ). is_snapshot_entry (shape o) word ≡ true) (sym word_says) (entry_form o (c.recorded block) form slot has_read.from among inside)
+
       abbrev meaning : Meaning
       meaning = direct_meaning (kept_word s block slot)
 
       within : meaning.virt + length meaning.blocks ≤ length s.walk.map
       within = (let fits_map = (f.fits some).map in
-          let most = entry_inside o (kept_word s block slot) (subst (λ (word : ℕ). is_snapshot_entry (shape o) word ≡ true) (sym word_says) (entry_form o (c.recorded block) form slot has_read.from among inside)) in
+          let most = entry_inside o (kept_word s block slot) run_form in
           omega (arith, fits_map, most))
 
       more : read_meanings c.recorded pinned.snapshots block (slot + 1) ≡ read_meanings c.recorded pinned.snapshots block slot ++ meaning ∷ []

@@ -113,7 +113,7 @@ eight_bytes bytes allowed = by (bytes == 64) (bytes == 512) (bytes == 4096) refl
     by false false false is other another some = cc
 
 module _ (o : Origin) (c : Core) (n : ℕ) (s : Seat) (g : Ghost) (pin began : ℕ) (inv : Invariant o c) (unspent : (view_of c.views n).parts ≢ []) (f : Knows o c n s g pin began)
-    (found : HasFoundSlot g s) (no_seal : tail_word s ≢ SEAL) (whole : field ENTRY_KIND (tail_word s) ≡ INDIRECT → IsKeptWhole s (field INDIRECT_BLOCK (tail_word s))) where
+    (found : HasFoundSlot g s) (no_seal : tail_word s ≢ SEAL) where
   abbrev at : ℕ
   at = place o c n s g pin began inv f found.valid
 
@@ -177,7 +177,7 @@ module _ (o : Origin) (c : Core) (n : ℕ) (s : Seat) (g : Ghost) (pin began : �
   used : slot < entries_used block
   used = entry_counts block.slots slot few (λ none. found.used (sym slot_word ∙ none)) (λ seal. no_seal (sym slot_word ∙ seal))
 
-  within : s.walk.position < end_of o c.history
+  pub within : s.walk.position < end_of o c.history
   within = (let position = position_is in let base = log.base_is in let end = log_to_end o c inv number log.inside in let more = used in omega (arith, position, base, end, more))
 
   from_start : start_base o ≤ s.walk.position
@@ -207,138 +207,142 @@ module _ (o : Origin) (c : Core) (n : ℕ) (s : Seat) (g : Ghost) (pin began : �
   said : entry ≡ entry_by c.recorded entry.word
   said = (inv.contents at in_chain).entries_say.same (s.walk.position - start_base o) late inside_log
 
-  form : is_log_entry_by c.recorded (shape o) (tail_word s) ≡ true
+  pub form : is_log_entry_by c.recorded (shape o) (tail_word s) ≡ true
   form = subst (λ (word : ℕ). is_log_entry_by c.recorded (shape o) word ≡ true) entry_word ((inv.contents at in_chain).entries_say.form (s.walk.position - start_base o) late inside_log)
 
   recorded_meaning : entry.meaning ≡ meaning_by c.recorded (tail_word s)
   recorded_meaning = ap (λ (e : LogEntry). e.meaning) said ∙ ap (λ (word : ℕ). meaning_by c.recorded word) entry_word
 
   -- a kept block is as recorded
-  listed_word : (block : ℕ) → is_listed (pinned.snapshots ++ data_names o es pinned) block ≡ true → IsKeptWhole s block → kept_content s block ≡ c.recorded block
+  pub listed_word : (block : ℕ) → is_listed (pinned.snapshots ++ data_names o es pinned) block ≡ true → IsKeptWhole s block → kept_content s block ≡ c.recorded block
   listed_word other listed each = same_number_lists (kept_content s other) (c.recorded other)
       (length-map-range_with_len (λ (k : ℕ). kept_word s other k) 0 (words_of s) ∙ (same_words ∙ sym ((inv.contents at in_chain).whole other (data_is_named o c.logs es pinned other listed))))
       (λ k inside. (let low : k < words_of s = subst (λ (m : ℕ). k < m) (length-map-range_with_len (λ (j : ℕ). kept_word s other j) 0 (words_of s)) inside in
       get_or-map-range_with_len (λ (j : ℕ). kept_word s other j) 0 (words_of s) k k 0 low (omega arith) ∙ chain_says o c n s g pin began inv f found.valid unspent other k listed (each k low)))
 
-  indirect_same : field ENTRY_KIND (tail_word s) ≡ INDIRECT → kept_content s (field INDIRECT_BLOCK (tail_word s)) ≡ c.recorded (field INDIRECT_BLOCK (tail_word s))
-  indirect_same indirect = listed_word (field INDIRECT_BLOCK (tail_word s))
-      (has_right pinned.snapshots (data_names o es pinned) (field INDIRECT_BLOCK (tail_word s))
-      (has_right pinned.shared (entry_names (drop (pinned.base - start_base o) es)) (field INDIRECT_BLOCK (tail_word s))
+  -- the block of an indirect entry is named
+  pub holder_named : field ENTRY_KIND (tail_word s) ≡ INDIRECT → is_listed (data_names o es pinned) (field INDIRECT_BLOCK (tail_word s)) ≡ true
+  holder_named indirect =
+      has_right pinned.shared (entry_names (drop (pinned.base - start_base o) es)) (field INDIRECT_BLOCK (tail_word s))
       (among_names es (pinned.base - start_base o) (s.walk.position - start_base o) (field INDIRECT_BLOCK (tail_word s)) late inside_log
-      (subst (λ (m : Meaning). is_listed (names m) (field INDIRECT_BLOCK (tail_word s)) ≡ true) (sym (recorded_meaning ∙ holder_meaning indirect)) (listed_first (field INDIRECT_BLOCK (tail_word s)) _)))))
-      (whole indirect)
+      (subst (λ (m : Meaning). is_listed (names m) (field INDIRECT_BLOCK (tail_word s)) ≡ true) (sym (recorded_meaning ∙ holder_meaning)) (listed_first (field INDIRECT_BLOCK (tail_word s)) _)))
     where
       listed_first : (number : ℕ) (more : List ℕ) → is_listed (number ∷ more) number ≡ true
       listed_first number more = rw (eq-eqb number number refl) refl
 
-      holder_meaning : field ENTRY_KIND (tail_word s) ≡ INDIRECT → meaning_by c.recorded (tail_word s) ≡ indirect_meaning (field INDIRECT_BLOCK (tail_word s)) (c.recorded (field INDIRECT_BLOCK (tail_word s)))
-      holder_meaning indirect = rw (indirect) refl
+      holder_meaning : meaning_by c.recorded (tail_word s) ≡ indirect_meaning (field INDIRECT_BLOCK (tail_word s)) (c.recorded (field INDIRECT_BLOCK (tail_word s)))
+      holder_meaning = rw (indirect) refl
 
-  -- so what the seat takes in is that entry
-  meaning_is : tail_meaning s ≡ entry.meaning
-  meaning_is = same_meaning (λ (b : ℕ). kept_content s b) c.recorded (shape o) (tail_word s) form indirect_same ∙ sym recorded_meaning
+  -- each word of that block is kept
+  module _ (whole : field ENTRY_KIND (tail_word s) ≡ INDIRECT → IsKeptWhole s (field INDIRECT_BLOCK (tail_word s))) where
+    indirect_same : field ENTRY_KIND (tail_word s) ≡ INDIRECT → kept_content s (field INDIRECT_BLOCK (tail_word s)) ≡ c.recorded (field INDIRECT_BLOCK (tail_word s))
+    indirect_same indirect = listed_word (field INDIRECT_BLOCK (tail_word s)) (has_right pinned.snapshots (data_names o es pinned) (field INDIRECT_BLOCK (tail_word s)) (holder_named indirect)) (whole indirect)
 
-  inside_map : (tail_meaning s).virt + length (tail_meaning s).blocks ≤ length s.walk.map
-  inside_map = (let most = fits_inside (shape o) (longest_of (shape o).block_bytes) (meaning_by c.recorded (tail_word s))
-      (and_parts (if is_direct (tail_word s) then true else is_indirect (tail_word s) && is_in_data (shape o) (field INDIRECT_BLOCK (tail_word s)) && is_indirect_block (shape o) (c.recorded (field INDIRECT_BLOCK (tail_word s))))
-      (fits (shape o) (longest_of (shape o).block_bytes) (meaning_by c.recorded (tail_word s))) form).1 in
-      let same = meaning_is ∙ recorded_meaning in
-      let long = (f.fits unspent).map in
-      subst (λ (m : Meaning). m.virt + length m.blocks ≤ length s.walk.map) (sym same) (omega (arith, most, long)))
+    -- so what the seat takes in is that entry
+    pub meaning_is : tail_meaning s ≡ entry.meaning
+    meaning_is = same_meaning (λ (b : ℕ). kept_content s b) c.recorded (shape o) (tail_word s) form indirect_same ∙ sym recorded_meaning
 
-  abbrev new : Seat
-  new = state_after_work s TakesEntry
+    pub inside_map : (tail_meaning s).virt + length (tail_meaning s).blocks ≤ length s.walk.map
+    inside_map = (let most = fits_inside (shape o) (longest_of (shape o).block_bytes) (meaning_by c.recorded (tail_word s))
+        (and_parts (if is_direct (tail_word s) then true else is_indirect (tail_word s) && is_in_data (shape o) (field INDIRECT_BLOCK (tail_word s)) && is_indirect_block (shape o) (c.recorded (field INDIRECT_BLOCK (tail_word s))))
+        (fits (shape o) (longest_of (shape o).block_bytes) (meaning_by c.recorded (tail_word s))) form).1 in
+        let same = meaning_is ∙ recorded_meaning in
+        let long = (f.fits unspent).map in
+        subst (λ (m : Meaning). m.virt + length m.blocks ≤ length s.walk.map) (sym same) (omega (arith, most, long)))
 
-  walk_taken : WalkHolds (around o c) s.hold new.walk
-  walk_taken = record {
-    unwalked = λ none. absurd ((w.ready_walked found.ready).0 none);
-    to_end = (let low = within in omega (arith, low));
-    from_first = w.from_first;
-    to_current = w.to_current;
-    read = λ reading. (let stopped = (w.ready_walked found.ready).1 in let both : true ≡ false = sym reading ∙ stopped in cc);
-    kept_words = λ valid. tt;
-    unpinned = λ invalid. refl;
-    walked = λ some stopped. record {
-      table = λ virt. entry_taken (tail_meaning s) s.walk.map (λ v. history_map_at o es s.walk.position v) inside_map walked.table virt
-          ∙ (ap (λ (m : Meaning). option_or (block_in m virt) (history_map_at o es s.walk.position virt)) meaning_is ∙ sym (map_next o es s.walk.position from_start inside_log virt));
-      size_is = ap (λ (k : ℕ). max k ((((tail_meaning s).virt + length (tail_meaning s).blocks) * (shape_by s.geometry).block_bytes) - (tail_meaning s).leftover)) walked.size_is
-          ∙ (ap (λ (b : ℕ). max (history_size_at o es s.walk.position) (((tail_meaning s).virt + length (tail_meaning s).blocks) * b - (tail_meaning s).leftover)) (ap (λ (geometry : Geometry). geometry.block_bytes) (f.fits unspent).geometry)
-          ∙ (ap (λ (m : Meaning). max (history_size_at o es s.walk.position) (entry_end (shape o) m)) meaning_is ∙ sym (size_next o es s.walk.position from_start inside_log)));
-      base = walked.base;
-      block = walked.block;
-      from = (let low = walked.from in omega (arith, low));
-      upto = (let high = walked.upto in let other = unclosed in omega (arith, high, other));
-      inside = λ other. (
-        (let position = position_is in let low = walked.from in omega (arith, position, low)),
-        (let more = used in let low = walked.from in
-            let same : entries_used block ≡ entries_used (log_at c.logs s.walk.tail_base) = ap (λ (l : LogBlock). entries_used l) log.log_is in omega (arith, more, low, same)),
-      );
-      at_end = λ last. (
-        full_is last,
-        (let position = position_is in let same : entries_used block ≡ entries_used (log_at c.logs s.walk.tail_base) = ap (λ (l : LogBlock). entries_used l) log.log_is in
-            let all = all_used last in omega (arith, position, same, all)),
-      );
-    };
-    ready_walked = w.ready_walked;
-    ready_base = w.ready_base;
-    ready_tail = w.ready_tail;
-    first_known = w.first_known;
-  }
-    where
-      all_slots : s.walk.tail_slot + 1 ≡ words_in (shape o) → length block.slots + 3 ≡ words_in (shape o)
-      all_slots last = (let more = used in let short = entries_short block.slots in let most = inv.order.log.inside number log.inside in let low = walked.from in omega (arith, last, more, short, most, low))
+    abbrev new : Seat
+    new = state_after_work s TakesEntry
 
-      all_used : s.walk.tail_slot + 1 ≡ words_in (shape o) → entries_used block ≡ slot + 1
-      all_used last = (let more = used in let short = entries_short block.slots in let all = all_slots last in let low = walked.from in omega (arith, last, more, short, all, low))
+    walk_taken : WalkHolds (around o c) s.hold new.walk
+    walk_taken = record {
+      unwalked = λ none. absurd ((w.ready_walked found.ready).0 none);
+      to_end = (let low = within in omega (arith, low));
+      from_first = w.from_first;
+      to_current = w.to_current;
+      read = λ reading. (let stopped = (w.ready_walked found.ready).1 in let both : true ≡ false = sym reading ∙ stopped in cc);
+      kept_words = λ valid. tt;
+      unpinned = λ invalid. refl;
+      walked = λ some stopped. record {
+        table = λ virt. entry_taken (tail_meaning s) s.walk.map (λ v. history_map_at o es s.walk.position v) inside_map walked.table virt
+            ∙ (ap (λ (m : Meaning). option_or (block_in m virt) (history_map_at o es s.walk.position virt)) meaning_is ∙ sym (map_next o es s.walk.position from_start inside_log virt));
+        size_is = ap (λ (k : ℕ). max k ((((tail_meaning s).virt + length (tail_meaning s).blocks) * (shape_by s.geometry).block_bytes) - (tail_meaning s).leftover)) walked.size_is
+            ∙ (ap (λ (b : ℕ). max (history_size_at o es s.walk.position) (((tail_meaning s).virt + length (tail_meaning s).blocks) * b - (tail_meaning s).leftover)) (ap (λ (geometry : Geometry). geometry.block_bytes) (f.fits unspent).geometry)
+            ∙ (ap (λ (m : Meaning). max (history_size_at o es s.walk.position) (entry_end (shape o) m)) meaning_is ∙ sym (size_next o es s.walk.position from_start inside_log)));
+        base = walked.base;
+        block = walked.block;
+        from = (let low = walked.from in omega (arith, low));
+        upto = (let high = walked.upto in let other = unclosed in omega (arith, high, other));
+        inside = λ other. (
+          (let position = position_is in let low = walked.from in omega (arith, position, low)),
+          (let more = used in let low = walked.from in
+              let same : entries_used block ≡ entries_used (log_at c.logs s.walk.tail_base) = ap (λ (l : LogBlock). entries_used l) log.log_is in omega (arith, more, low, same)),
+        );
+        at_end = λ last. (
+          full_is last,
+          (let position = position_is in let same : entries_used block ≡ entries_used (log_at c.logs s.walk.tail_base) = ap (λ (l : LogBlock). entries_used l) log.log_is in
+              let all = all_used last in omega (arith, position, same, all)),
+        );
+      };
+      ready_walked = w.ready_walked;
+      ready_base = w.ready_base;
+      ready_tail = w.ready_tail;
+      first_known = w.first_known;
+    }
+      where
+        all_slots : s.walk.tail_slot + 1 ≡ words_in (shape o) → length block.slots + 3 ≡ words_in (shape o)
+        all_slots last = (let more = used in let short = entries_short block.slots in let most = inv.order.log.inside number log.inside in let low = walked.from in omega (arith, last, more, short, most, low))
 
-      full_is : s.walk.tail_slot + 1 ≡ words_in (shape o) → is_full (shape o) (log_at c.logs s.walk.tail_base).slots ≡ true
-      full_is last = subst (λ (l : LogBlock). is_full (shape o) l.slots ≡ true) log.log_is
-          (or_right (is_sealed block.slots) (length block.slots + 3 == words_in (shape o)) (eq-eqb (length block.slots + 3) (words_in (shape o)) (all_slots last)))
+        all_used : s.walk.tail_slot + 1 ≡ words_in (shape o) → entries_used block ≡ slot + 1
+        all_used last = (let more = used in let short = entries_short block.slots in let all = all_slots last in let low = walked.from in omega (arith, last, more, short, all, low))
 
-  -- the bases that are left are of virtual blocks that the entry does not touch
-  abbrev Running : Type 0
-  Running = (op_of s.calling.job s.calling.bytes ≢ None) × (first_position o ≤ s.walk.position)
+        full_is : s.walk.tail_slot + 1 ≡ words_in (shape o) → is_full (shape o) (log_at c.logs s.walk.tail_base).slots ≡ true
+        full_is last = subst (λ (l : LogBlock). is_full (shape o) l.slots ≡ true) log.log_is
+            (or_right (is_sealed block.slots) (length block.slots + 3 == words_in (shape o)) (eq-eqb (length block.slots + 3) (words_in (shape o)) (all_slots last)))
 
-  eight : o.geometry.block_bytes ≡ 8 * words_of s
-  eight = eight_bytes o.geometry.block_bytes o.geometry.block_allowed ∙ ap (λ (geometry : Geometry). 8 * Rattle.pmem_words.specs.Seats.q_of geometry) (sym (f.fits unspent).geometry)
+    -- the bases that are left are of virtual blocks that the entry does not touch
+    abbrev Running : Type 0
+    Running = (op_of s.calling.job s.calling.bytes ≢ None) × (first_position o ≤ s.walk.position)
 
-  abbrev byte_at : ℕ → ℕ → ℕ → ℕ
-  byte_at position virt k = slice_index (file_at o c.history position) (virt * o.geometry.block_bytes + k)
+    eight : o.geometry.block_bytes ≡ 8 * words_of s
+    eight = eight_bytes o.geometry.block_bytes o.geometry.block_allowed ∙ ap (λ (geometry : Geometry). 8 * Rattle.pmem_words.specs.Seats.q_of geometry) (sym (f.fits unspent).geometry)
 
-  -- whose bytes are the same before and after it
-  same_bytes : Running → (virt k : ℕ) → touches (tail_meaning s) virt ≡ false → k < o.geometry.block_bytes → byte_at s.walk.position virt k ≡ byte_at (s.walk.position + 1) virt k
-  same_bytes running virt k none low =
-      (let first = running.1 in
-      let before = ((inv.contents at in_chain).files s.walk.position (let late_base = w.ready_base found.ready in let tail = w.ready_tail found.ready in let position = position_is in omega (arith, late_base, tail, position)) w.to_end).held first in
-      let after = ((inv.contents at in_chain).files (s.walk.position + 1) (let late_base = w.ready_base found.ready in let tail = w.ready_tail found.ready in let position = position_is in omega (arith, late_base, tail, position))
-      (let high = within in omega (arith, high))).held (omega (arith, first)) in
-      let same_map : history_map_at o es (s.walk.position + 1) virt ≡ history_map_at o es s.walk.position virt =
-      map_next o es s.walk.position from_start inside_log virt
-      ∙ ap (λ (held : Option ℕ). option_or held (history_map_at o es s.walk.position virt)) (ap (λ (m : Meaning). block_in m virt) (sym meaning_is) ∙ untouched (tail_meaning s) virt none) in
-      sym (before.each virt k low) ∙ (ap (λ (held : Option ℕ). byte_in c.recorded held k) (sym same_map) ∙ after.each virt k low))
+    abbrev byte_at : ℕ → ℕ → ℕ → ℕ
+    byte_at position virt k = slice_index (file_at o c.history position) (virt * o.geometry.block_bytes + k)
 
-  bases_were : AreBases (words_of s) o.geometry.block_bytes eight Running (byte_at s.walk.position) s.calling.bases s.calling.base_words
-  bases_were = (let b = f.calls.bases in record { most = b.most; whole = b.whole; bytes = λ running place k inside low within. b.bytes running.0 place k inside low within })
+    -- whose bytes are the same before and after it
+    same_bytes : Running → (virt k : ℕ) → touches (tail_meaning s) virt ≡ false → k < o.geometry.block_bytes → byte_at s.walk.position virt k ≡ byte_at (s.walk.position + 1) virt k
+    same_bytes running virt k none low =
+        (let first = running.1 in
+        let before = ((inv.contents at in_chain).files s.walk.position (let late_base = w.ready_base found.ready in let tail = w.ready_tail found.ready in let position = position_is in omega (arith, late_base, tail, position)) w.to_end).held first in
+        let after = ((inv.contents at in_chain).files (s.walk.position + 1) (let late_base = w.ready_base found.ready in let tail = w.ready_tail found.ready in let position = position_is in omega (arith, late_base, tail, position))
+        (let high = within in omega (arith, high))).held (omega (arith, first)) in
+        let same_map : history_map_at o es (s.walk.position + 1) virt ≡ history_map_at o es s.walk.position virt =
+        map_next o es s.walk.position from_start inside_log virt
+        ∙ ap (λ (held : Option ℕ). option_or held (history_map_at o es s.walk.position virt)) (ap (λ (m : Meaning). block_in m virt) (sym meaning_is) ∙ untouched (tail_meaning s) virt none) in
+        sym (before.each virt k low) ∙ (ap (λ (held : Option ℕ). byte_in c.recorded held k) (sym same_map) ∙ after.each virt k low))
 
-  bases_hold : BasesHold o c.history (view_of c.views n).first (words_of s) new.walk.position new.calling
-  bases_hold =
-      (let b = f.calls.bases in
-      let left = left_bases (words_of s) o.geometry.block_bytes eight Running (byte_at s.walk.position) (byte_at (s.walk.position + 1)) (tail_meaning s) same_bytes s.calling.bases s.calling.base_words bases_were in
-      record {
-        most = left.most;
-        whole = left.whole;
-        from_first = λ some. (let low = b.from_first (were_some some) in omega (arith, low));
-        bytes = λ running place k inside low within. left.bytes (
-          running,
-          subst (λ (first : ℕ). first ≤ s.walk.position) (f.fits unspent).first
-              (b.from_first (λ none. absurd (let more = left_some (words_of s) o.geometry.block_bytes eight Running (tail_meaning s) s.calling.bases (omega (arith, inside)) in
-              let empty : length s.calling.bases ≡ 0 = ap (λ (l : List ℕ). length l) none in omega (arith, more, empty)))),
-        ) place k inside low within;
-      })
-    where
-      were_some : bases_left (tail_meaning s) s.calling.bases ≢ [] → s.calling.bases ≢ []
-      were_some some none = some (ap (λ (l : List ℕ). bases_left (tail_meaning s) l) none)
+    bases_were : AreBases (words_of s) o.geometry.block_bytes eight Running (byte_at s.walk.position) s.calling.bases s.calling.base_words
+    bases_were = (let b = f.calls.bases in record { most = b.most; whole = b.whole; bytes = λ running place k inside low within. b.bytes running.0 place k inside low within })
 
-  pub entry_facts : Knows o c n new g pin began
-  entry_facts = move_with_bases o c n s g pin began new.walk new.calling.bases new.calling.base_words f found.free (inr (w.ready_walked found.ready).1) bases_hold refl
-      (λ some. length_with_entry (tail_meaning s) s.walk.map ∙ (f.fits some).map) (λ some. walk_taken)
+    bases_hold : BasesHold o c.history (view_of c.views n).first (words_of s) new.walk.position new.calling
+    bases_hold =
+        (let b = f.calls.bases in
+        let left = left_bases (words_of s) o.geometry.block_bytes eight Running (byte_at s.walk.position) (byte_at (s.walk.position + 1)) (tail_meaning s) same_bytes s.calling.bases s.calling.base_words bases_were in
+        record {
+          most = left.most;
+          whole = left.whole;
+          from_first = λ some. (let low = b.from_first (were_some some) in omega (arith, low));
+          bytes = λ running place k inside low within. left.bytes (
+            running,
+            subst (λ (first : ℕ). first ≤ s.walk.position) (f.fits unspent).first
+                (b.from_first (λ none. absurd (let more = left_some (words_of s) o.geometry.block_bytes eight Running (tail_meaning s) s.calling.bases (omega (arith, inside)) in
+                let empty : length s.calling.bases ≡ 0 = ap (λ (l : List ℕ). length l) none in omega (arith, more, empty)))),
+          ) place k inside low within;
+        })
+      where
+        were_some : bases_left (tail_meaning s) s.calling.bases ≢ [] → s.calling.bases ≢ []
+        were_some some none = some (ap (λ (l : List ℕ). bases_left (tail_meaning s) l) none)
+
+    pub entry_facts : Knows o c n new g pin began
+    entry_facts = move_with_bases o c n s g pin began new.walk new.calling.bases new.calling.base_words f found.free (inr (w.ready_walked found.ready).1) bases_hold refl
+        (λ some. length_with_entry (tail_meaning s) s.walk.map ∙ (f.fits some).map) (λ some. walk_taken)
