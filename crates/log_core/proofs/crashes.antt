@@ -7,4 +7,6 @@ pub mod LeftEntries
 pub mod LeftSnapshots
 pub mod LeftChains
 pub mod LeftFiles
+pub mod Stopped
+pub mod ClearingSteps
 pub mod Recovered

@@ -10,7 +10,9 @@ pub mod RecordedCalls
 pub mod QuietCalls
 pub mod TailWorks
 pub mod TailMoves
+pub mod PutMoves
 pub mod Seen
+pub mod SeenStart
 pub mod SeenCalls
 pub mod Numbers
 pub mod SeatOrder
@@ -24,5 +26,6 @@ pub mod FoundWorks
 pub mod CausedCalls
 pub mod StoppedRuns
 pub mod StoppedSeats
-pub mod LegalRuns
+pub mod RunningCalls
 pub mod StoppedCollections
+pub mod StoppedHistories

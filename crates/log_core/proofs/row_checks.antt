@@ -34,6 +34,7 @@ pub mod RowsJoined
 pub mod RowsStepped
 pub mod RowsTwoWriters
 pub mod RowsBothPut
+pub mod RowsPrinted
 pub mod RowsCollecting
 pub mod RowsHeadPut
 pub mod RowsGivenBack
@@ -43,4 +44,5 @@ pub mod RowsReadAgain
 pub mod RowsNewHead
 pub mod RowsOldPins
 pub mod RowsCrashed
+pub mod RowsLeft
 pub mod RowsNothingLeft

@@ -7,7 +7,7 @@ use Rattle.log_image.specs.Header.{shape_of}
 use Rattle.log_image.specs.Chains.{IsChain}
 use Rattle.log_image.specs.Stands.{Stands}
 use Rattle.log_image.specs.Tails.{tail_of, IsCleared}
-use Rattle.log_image.specs.Recovered.{Recovered}
+use Rattle.log_image.specs.Recovered.{Recovered, StopInTurn, left_at_last}
 use Rattle.log_image.specs.declared.starts.Start.{Start}
 use Rattle.persistence.specs.Survivors.{Survives}
 use Rattle.log_core.specs.Views.{view_of}
@@ -22,19 +22,23 @@ use Rattle.log_core.specs.Starts.{IsStart}
 abbrev pub file_after_first : Origin → Core → ℕ → List ℕ
 file_after_first o c writes = file_after_writes o.file (take writes c.history)
 
+-- words that are of one file at one position: they stand for it, so no condition of opening refuses them; so do the words that are cleared
+-- after their tail; and each start that is recovered from them is of that file and that position
+pub record OpensAs (words file : List ℕ) (position : ℕ) : Type 0 where
+  pub stands : Stands words file position
+  pub cleared : (chain others : List ℕ) → IsChain words (shape_of words) chain → IsCleared (shape_of words) (tail_of words (shape_of words) chain) words others → Stands others file position
+  pub recovered : (start : Start) (found : List ℕ) (elsewhere : ℕ) → Recovered words start found elsewhere → (found ≡ file) × (elsewhere ≡ position)
+
 -- words that a crash left of a core: they have the first writes of the history, all up to one, among them all up to the synced position, and
--- no other. Each has 64 bits, and they stand for the file after those writes, at its position, so no condition of opening refuses them. So do
--- the words that are cleared after their tail; and each start that is recovered from them is of that file and that position. No sync of any
--- view was answered with a position past the synced one
+-- no other. Each has 64 bits, and they are of the file after those writes, at its position. So are those that clearings of them leave which
+-- are stopped, one after the other. No sync of any view was answered with a position past the synced one
 pub record IsRecovered (o : Origin) (c : Core) (words : List ℕ) : Type 0 where
   pub writes : ℕ
   pub to_end : writes ≤ length c.history
   pub synced : c.synced ≤ first_position o + writes
   pub small : AllByRecursion (λ (word : ℕ). word < 2 ^ 64) words
-  pub stands : Stands words (file_after_first o c writes) (first_position o + writes)
-  pub cleared : (chain others : List ℕ) → IsChain words (shape_of words) chain → IsCleared (shape_of words) (tail_of words (shape_of words) chain) words others →
-      Stands others (file_after_first o c writes) (first_position o + writes)
-  pub recovered : (start : Start) (file : List ℕ) (position : ℕ) → Recovered words start file position → (file ≡ file_after_first o c writes) × (position ≡ first_position o + writes)
+  pub opens : OpensAs words (file_after_first o c writes) (first_position o + writes)
+  pub stopped : (stops : List (List ℕ)) → StopInTurn words stops → OpensAs (left_at_last words stops) (file_after_first o c writes) (first_position o + writes)
   pub answered : (seat : ℕ) → AllByRecursion (λ (call : Call). (position : ℕ) → call.reply ≡ Synced position → position ≤ c.synced) (view_of c.views seat).done
 
 -- so it is of all words that any crash may leave, after every run

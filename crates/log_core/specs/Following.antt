@@ -21,7 +21,7 @@ use Rattle.log_core.specs.Records.{NeverFall}
 use Rattle.log_core.specs.Invariant.{KeptIn}
 use Rattle.log_core.specs.Runs.{IsRun, end}
 use Rattle.log_core.specs.Starts.{IsStart}
-use Rattle.log_core.specs.Histories.{recorded_calls, running_writes, running_collections, Ran, HasCollections}
+use Rattle.log_core.specs.Histories.{recorded_calls, running_writes, running_calls, Ran, HasCollections}
 
 -- a block that a kept generation names
 pub record IsNeeded (o : Origin) (c : Core) (block : ℕ) : Type 0 where
@@ -43,44 +43,32 @@ NoneReused = (o : Origin) (seat : ℕ) (ask : Ask) (note : Note) (steps : List S
 abbrev pub NoCallRuns : Core → Type 0
 NoCallRuns c = (seat : ℕ) → op_in (view_of c.views seat).seat ≡ None
 
--- the calls are one legal history, from the start's file and position to the end of the writes and the file there; each seat's calls stand
--- in it by their numbers; and each generation that the heads came to was put in place by one of them, in turn
-pub record IsOneHistory (o : Origin) (c : Core) (calls : List Call) : Type 0 where
+-- the calls are one legal history, from the start's file and position to the end of the writes and the file there; and each seat's calls
+-- stand in it by their numbers
+pub record IsWholeHistory (o : Origin) (c : Core) (calls : List Call) : Type 0 where
   pub legal : Legal o.geometry.block_bytes o.file (first_position o) calls
   pub to_end : last_position_of (first_position o) calls ≡ end_of o c.history
   pub to_file : last_file o.file calls ≡ file_at o c.history (end_of o c.history)
   pub each_seat : (seat : ℕ) → NeverFall seat 0 0 calls
+
+-- and each generation that the heads came to was put in place by one of them, in turn
+pub record IsOneHistory (o : Origin) (c : Core) (calls : List Call) : Type 0 where
+  pub whole : IsWholeHistory o c calls
   pub collected : HasCollections (first_generation o) (start_base o) calls
 
 -- so are the calls of each run that ends with no call running
 abbrev pub RunsAreLegal : Type 0
 RunsAreLegal = (o : Origin) (calls : List Call) (c : Core) → IsStart o → Ran o calls c → NoCallRuns c → IsOneHistory o c calls
 
--- the calls are one legal history, from the start's file and position to the end of the writes and the file there
-pub record IsWholeHistory (o : Origin) (c : Core) (calls : List Call) : Type 0 where
-  pub legal : Legal o.geometry.block_bytes o.file (first_position o) calls
-  pub to_end : last_position_of (first_position o) calls ≡ end_of o c.history
-  pub to_file : last_file o.file calls ≡ file_at o c.history (end_of o c.history)
-
--- so are the calls of each run wherever it stops, with the writes that running calls have put in, in the order of a report
+-- so are the calls of each run wherever it stops, with the writes and the collections that running calls have put in, in the order of a report
 abbrev pub StoppedRunsAreLegal : Type 0
 StoppedRunsAreLegal = (o : Origin) (calls whole : List Call) (c : Core) → IsStart o → Ran o calls c →
+    IsPermutation (calls ++ running_calls o c) whole → IsInOrder whole → IsOneHistory o c whole
+
+-- and with the writes alone they are a history of the same file
+abbrev pub StoppedWritesAreLegal : Type 0
+StoppedWritesAreLegal = (o : Origin) (calls whole : List Call) (c : Core) → IsStart o → Ran o calls c →
     IsPermutation (calls ++ running_writes o c) whole → IsInOrder whole → IsWholeHistory o c whole
-
--- each of some calls has a smaller number than those of its seat among others
-abbrev pub ComeBefore : List Call → List Call → Type 0
-ComeBefore calls others = AllByRecursion (λ (call : Call). AllByRecursion (λ (other : Call). call.seat ≡ other.seat → call.number < other.number) others) calls
-
--- and each seat's calls stand in it by their numbers, where a quiet call's number is below that of its seat's running call: that one began later
-abbrev pub StoppedSeatsInOrder : Type 0
-StoppedSeatsInOrder = (o : Origin) (calls whole : List Call) (c : Core) → IsStart o → (ran : Ran o calls c) → ComeBefore ran.quiet (running_writes o c) →
-    IsPermutation (calls ++ running_writes o c) whole → IsInOrder whole → (seat : ℕ) → NeverFall seat 0 0 whole
-
--- and with the collections put in, too, whose running calls have put their head in place, each generation was put in place by one call, in
--- turn, and what the other collections say is so
-abbrev pub StoppedCollectionsInTurn : Type 0
-StoppedCollectionsInTurn = (o : Origin) (calls whole : List Call) (c : Core) → IsStart o → Ran o calls c →
-    IsPermutation (calls ++ (running_writes o c ++ running_collections c.views)) whole → IsInOrder whole → HasCollections (first_generation o) (start_base o) whole
 
 -- a seat made a step of its call of this number, asking this, and behind it the position was the end: there a view finds its tail empty.
 -- An accepted write was put in by that step: the end was a smaller one before it

@@ -53,19 +53,25 @@ running_collection v None = []
 abbrev pub running_collections : List View → List Call
 running_collections views = flat_map (λ (v : View). running_collection v v.ghost.call.put) views
 
+-- what running calls have put in that has no record yet
+abbrev pub running_calls : Origin → Core → List Call
+running_calls o c = running_writes o c ++ running_collections c.views
+
 -- the greatest position of some calls, or a first one
 abbrev pub greatest_position : ℕ → List Call → ℕ
 greatest_position position [] = position
 greatest_position position (call ∷ calls) = greatest_position (max position call.position) calls
 
 -- a call that made no step, at a moment of its seat's view: that was not spent, ran no call, and had come to the call's position, by its
--- own records and those that joins gave it. The call stands behind the seat's last one by number, and before the next
-pub record IsMadeBy (v : View) (recorded : List Call) (call : Call) : Type 0 where
+-- own records and those that joins gave it. The call stands behind the seat's last one by number, and before the next; and where the seat
+-- runs a call in the end, before that one, which began later
+pub record IsMadeBy (v last : View) (recorded : List Call) (call : Call) : Type 0 where
   pub unspent : v.parts ≢ []
   pub no_call : op_in v.seat ≡ None
   pub position : call.position ≡ greatest_position v.first v.done
   pub after : v.ghost.call.number < call.number
   pub before : AllByRecursion (λ (other : Call). other.seat ≡ call.seat → (other.number ≤ v.ghost.call.number) ⊎ (call.number < other.number)) recorded
+  pub before_running : op_in last.seat ≢ None → call.number < last.ghost.call.number
 
 -- a quiet call of a run: made at one moment of it, with the reply that comes at its position
 pub record IsQuietCall (o : Origin) (steps : List Step) (core : Core) (call : Call) : Type 0 where
@@ -73,7 +79,7 @@ pub record IsQuietCall (o : Origin) (steps : List Step) (core : Core) (call : Ca
   pub later : List Step
   pub earlier : List Step
   pub moment : steps ≡ later ++ earlier
-  pub made : IsMadeBy (view_of (end o earlier).views call.seat) (recorded_calls core.views) call
+  pub made : IsMadeBy (view_of (end o earlier).views call.seat) (view_of core.views call.seat) (recorded_calls core.views) call
   pub answers : Answers o.geometry.block_bytes call.position (file_at o core.history call.position) call.op call.reply
 
 -- the quiet calls of a run, the newest first: each was made at a moment of it, and the others by then, with smaller numbers where they are of its seat

@@ -30,6 +30,7 @@ pub mod Laws
 pub mod Following
 pub mod Causes
 pub mod Crashes
+pub mod Stops
 pub mod Knows
 pub mod Within
 pub mod Promising

@@ -161,13 +161,14 @@ abbrev pub AreApart : List Meaning → Type 0
 AreApart [] = Unit {0}
 AreApart (meaning ∷ rest) = ((virt : ℕ) → names_virt meaning virt ≡ true → list_any (λ (other : Meaning). names_virt other virt) rest ≡ false) × AreApart rest
 
--- an exchange of the head, in a collection that has won none and left nothing from an earlier one: from the pinned word to the next
+-- an exchange of the head, in a collection at its tail that has won none and left nothing from an earlier one: from the pinned word to the next
 -- generation. Its new blocks are of the log or spare area, owned and fenced, none twice, and hold the map and the size at the view's
 -- position, which is past the old snapshot's; they lead to the tail's block, which begins there. What it replaces is what the
 -- pinned generation names and the next does not
 pub record MayExchangeHead (o : Origin) (c : Core) (g : Ghost) (s : Seat) (before next : ℕ) : Type 0 where
   pub valid : s.hold.valid ≡ true
   pub ready : s.walk.ready ≡ true
+  pub at_tail : s.walk.at_tail ≡ true
   pub job : s.calling.job ≡ Collect
   pub not_put : g.call.put ≡ None
   pub nothing_left : s.giving.replaced ≡ []

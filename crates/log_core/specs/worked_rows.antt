@@ -14,6 +14,7 @@ pub mod Accepted
 pub mod Joined
 pub mod Crashed
 pub mod TwoWriters
+pub mod Printed
 pub mod Collecting
 pub mod GivenBack
 pub mod ReadAgain

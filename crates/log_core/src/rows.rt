@@ -12,11 +12,12 @@ ghost use Rattle.log_core.specs.worked_rows.OldPins.{OldPinRuns};
 ghost use Rattle.log_core.specs.worked_rows.NothingLeft.{NothingLeftRuns};
 ghost use Rattle.log_core.specs.worked_rows.Ended.{CallsEnd, WriteNotPut, SizeBeforeTail, KeptTooEarly};
 ghost use Rattle.log_core.specs.worked_rows.Joined.{SyncRuns, NoMarkOutsideOfSyncs, SeatsAreJoined};
-ghost use Rattle.log_core.specs.worked_rows.Crashed.{WriteMayBeLost, LaterWriteAlone, SyncedWriteStays, EitherHeadStands};
+ghost use Rattle.log_core.specs.worked_rows.Crashed.{WriteMayBeLost, LaterWriteAlone, SyncedWriteStays, EitherHeadStands, SyncedAndUnsynced};
+ghost use Rattle.log_core.specs.worked_rows.Printed.{PrintedInOtherOrder, RefusedBetween};
 ghost use Rattle.log_core.specs.worked_rows.Refused.{OtherEntryPossible, HeadSkips, LogHasMore, BitWithoutOwner, BlockOnTwoLists, ChainBlockFree, OtherContentPossible, PinOfAnother, ViewOfAnother, StoredNotPresent, ReplacedStillNamed, RecordOfNoWrite, SyncedMayBeLost, NamedTwice, SnapshotNamesMore, WriteOfNoSeat};
 ghost use Rattle.log_core.specs.worked_rows.Gaps.{BitPastTheWord, MarkOfOwnedBlock, FloorAhead, SpentViewHolds};
 ghost use Rattle.log_core.specs.worked_rows.CallGaps.{TableOfAnother, BaseFromBefore, BasesDropped, BaseLeftOver, FirstBaseShort, TailNotWalked, HeadOfNoCollection, SyncOfNoSync, CallOfNoNumber};
-ghost use Rattle.log_core.specs.worked_rows.CoreGaps.{BegunPastEnd, PartsOfAnother, MadeMore, OvertakenByNone, SyncedBeforeStart, WriteOfAnotherSize, EntryOfAnotherSize};
+ghost use Rattle.log_core.specs.worked_rows.CoreGaps.{BegunPastEnd, PartsOfAnother, MadeMore, OvertakenByNone, SyncedBeforeStart, WriteOfAnotherSize, EntryOfAnotherSize, HeadBeforeTail};
 ghost use Rattle.log_core.specs.worked_rows.WalkGaps.{PlaceOfAnother, FirstLogOfAnother};
 ghost use Rattle.log_core.specs.worked_rows.Accepted.{PinMayBeStored, WordMayBeLoaded, WordMayBeMarked, EntryMayBePut, OrderStands, PinsStand, ViewsStand, OwnedStands, GivingsStand, RecordsStand, SyncsStand, ContentsStand, OwnersStand, PinRuns, WriteFits, ViewsJoin, ViewsSplit, LateWrite, LateSync, LateWalk, RunsMayBePut, CollectionsInTurn};
 
@@ -99,6 +100,7 @@ pub fn law_gaps()
     ensures synced_before_start { SyncedBeforeStart }
     ensures write_of_another_size { WriteOfAnotherSize }
     ensures entry_of_another_size { EntryOfAnotherSize }
+    ensures head_before_tail { HeadBeforeTail }
     ensures place_of_another { PlaceOfAnother }
     ensures first_log_of_another { FirstLogOfAnother }
 {}
@@ -119,6 +121,8 @@ pub fn law_accepted()
     ensures two_at_one_tail { TwoAtOneTail }
     ensures second_loses { SecondLoses }
     ensures two_writers_run { TwoWritersRun }
+    ensures printed_in_other_order { PrintedInOtherOrder }
+    ensures refused_between { RefusedBetween }
     ensures two_collect { TwoCollect }
     ensures collection_runs { CollectionRuns }
     ensures overtaken_runs { OvertakenRuns }
@@ -156,4 +160,5 @@ pub fn law_left()
     ensures later_write_alone { LaterWriteAlone }
     ensures synced_write_stays { SyncedWriteStays }
     ensures either_head_stands { EitherHeadStands }
+    ensures synced_and_unsynced { SyncedAndUnsynced }
 {}

@@ -2,7 +2,7 @@
 use Rattle.std.specs.Prelude.{ℕ, ◌-◌, ◌^◌, ◌≡◌, [], ◌∷◌, replicate, None, codes}
 use Rattle.std.specs.declared.cmp.Ordering.TheVariants.{Less, Greater}
 use Rattle.log_entry.specs.Legal.{Legal, Answers, write_refusal, touched_blocks}
-use Rattle.log_entry.specs.OfTrace.{OfTrace}
+use Rattle.log_entry.specs.OfTrace.{OfTrace, OfTracePart}
 use Rattle.log_entry.specs.Order.{place_of, place_cmp}
 use Rattle.log_entry.specs.declared.shapes.Area.TheVariants.{Data, Spare}
 use Rattle.log_entry.specs.declared.calls.Op.{Op}
@@ -86,6 +86,13 @@ EachSeatInOrder = OfTrace (at 0 1 Size (FileSize 0) ∷ at 0 2 Sync (Synced 0) �
 -- a call that is printed twice is not the trace's
 abbrev pub CallTwice : Type 0
 CallTwice = OfTrace (at 0 1 Size (FileSize 0) ∷ at 0 1 Size (FileSize 0) ∷ []) (asks 1 Size ∷ []) → ⊥
+
+-- the first of two calls of the trace is a part of it; the second alone is not, and the first is not the whole
+abbrev pub PartOfTrace : Type 0
+PartOfTrace =
+    OfTracePart (at 0 1 Size (FileSize 0) ∷ []) (asks 1 Size ∷ asks 2 Sync ∷ [])
+    × (OfTracePart (at 0 2 Sync (Synced 0) ∷ []) (asks 1 Size ∷ asks 2 Sync ∷ []) → ⊥)
+    × (OfTrace (at 0 1 Size (FileSize 0) ∷ []) (asks 1 Size ∷ asks 2 Sync ∷ []) → ⊥)
 
 -- at one position the write goes before a call with a smaller number
 abbrev pub WriteGoesFirst : Type 0

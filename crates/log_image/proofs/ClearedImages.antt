@@ -12,12 +12,12 @@ use Rattle.log_image.specs.Entries.{Meaning, all_names}
 use Rattle.log_image.specs.Blocks.{is_snapshot, link_of, slots_of, entry_words, is_closed, leads_on}
 use Rattle.log_image.specs.Chains.{LeadsAlong, IsLinked}
 use Rattle.log_image.specs.Stands.{StandsIn, StandsBy}
-use Rattle.log_image.specs.Tails.{Tail, AtSlot, AtLink, last_block, tail_in, tail_of, IsClear, IsCleared}
-use Rattle.log_image.specs.Laws.{StaysCleared, ClearingKeeps}
+use Rattle.log_image.specs.Tails.{Tail, AtSlot, AtLink, last_block, tail_in, tail_of, IsClear, IsSameToTail, IsCleared}
+use Rattle.log_image.specs.Laws.{IsReadAs, TailKeeps, ClearingKeeps}
 use Rattle.log_image.proofs.HoldingLemmas.{both_left, both_right}
 use Rattle.log_image.specs.SameWords.{SameHeader}
 use Rattle.log_image.proofs.HeaderSteps.{header_shape, header_same, long_words}
-use Rattle.log_image.proofs.Clearing.{SameReading, ClearedAt, each_block, other_block, left_alone}
+use Rattle.log_image.proofs.Clearing.{SameReading, SameToSlot, each_block, other_block, left_alone}
 use Rattle.log_image.proofs.ClearedChains.{SameImage}
 use Rattle.log_image.proofs.ClearedEntries.{same_entries_of, same_standing}
 
@@ -43,19 +43,18 @@ no_first : (a b : Bool) → (a || b) ≡ false → a ≡ false
 no_first true b none = cc
 no_first false b none = refl
 
--- words cleared at a slot of a block of the log
-cleared_header : (old new : List ℕ) (shape : Shape) (block : ℕ) → 8 ≤ words_in shape → is_in_log shape block ≡ true → ClearedAt shape block old new → SameHeader old new
+-- words that are the same up to a slot of a block of the log
+cleared_header : (old new : List ℕ) (shape : Shape) (block : ℕ) → 8 ≤ words_in shape → is_in_log shape block ≡ true → SameToSlot shape block old new → SameHeader old new
 cleared_header old new shape block long log is = record {
-  same_length = is.cleared.same_length;
+  same_length = is.same.same_length;
   each = λ place first.
       let past : shape.data_blocks < block = ltb-true shape.data_blocks block (both_left (nat_lt shape.data_blocks block) (nat_lt block (total shape)) log) in
       let times : 1 * words_in shape ≤ block * words_in shape = mul-le-mul_right (words_in shape) (omega (arith, past)) in
-      is.cleared.each place
-      ∙ ap (λ (b : Bool). if b then 0 else get_or old place 0)
+      is.same.each place
       (left_alone shape block (3 + length (entry_words (slots_of (block_words old shape block)))) place (λ e. omega (arith, e, times, long, first)) (inl (omega (arith, times, long, first))));
 }
 
-cleared_image : (old new : List ℕ) (shape : Shape) (block : ℕ) → 8 ≤ words_in shape → is_in_log shape block ≡ true → ClearedAt shape block old new → SameImage shape old new
+cleared_image : (old new : List ℕ) (shape : Shape) (block : ℕ) → 8 ≤ words_in shape → is_in_log shape block ≡ true → SameToSlot shape block old new → SameImage shape old new
 cleared_image old new shape block long log is = record {
   head = ap (λ (w : ℕ). field HEAD_BLOCK w) ((cleared_header old new shape block long log is).each 3 (omega arith));
   reads = each_block shape block old new is;
@@ -69,22 +68,25 @@ cleared_image old new shape block long log is = record {
 tail_as : (block : ℕ) (old new : List ℕ) → SameReading old new → tail_in block new ≡ tail_in block old
 tail_as block old new same = rw (same.closed, same.entries) refl
 
--- nothing stands after the tail
+-- clearing leaves what stands up to the tail, and nothing after it
+pub left_to_tail : (shape : Shape) (tail : Tail) (old new : List ℕ) → IsCleared shape tail old new → IsSameToTail shape tail old new
+left_to_tail shape tail old new cleared = record { same_length = cleared.same_length; each = λ place left. cleared.each place ∙ ap (λ (b : Bool). if b then 0 else get_or old place 0) left }
+
 now_clear : (shape : Shape) (tail : Tail) (old new : List ℕ) → IsCleared shape tail old new → IsClear new shape tail
 now_clear shape tail old new cleared place after = cleared.each place ∙ ap (λ (b : Bool). if b then 0 else get_or old place 0) after
 
 -- the tail is a slot
 kept_at_slot : (old new chain file : List ℕ) (position : ℕ) → (stands : StandsBy old chain file position) → is_closed (slots_of (block_words old (shape_of old) (last_block 0 chain))) ≡ false →
-    IsCleared (shape_of old) (tail_of old (shape_of old) chain) old new → StaysCleared old new chain file position
-kept_at_slot old new chain file position stands opens cleared =
+    IsSameToTail (shape_of old) (tail_of old (shape_of old) chain) old new → IsReadAs old new chain file position
+kept_at_slot old new chain file position stands opens same =
     let long : 8 ≤ words_in (shape_of old) = long_words old stands.header in
     let log : is_in_log (shape_of old) (last_block 0 chain) ≡ true = chain_last (is_in_log (shape_of old)) old (shape_of old) chain stands.stands.is_chain.linked stands.stands.format.areas in
     let slot : tail_of old (shape_of old) chain ≡ AtSlot (last_block 0 chain) (3 + length (entry_words (slots_of (block_words old (shape_of old) (last_block 0 chain))))) = rw opens refl in
-    let at : ClearedAt (shape_of old) (last_block 0 chain) old new = record {
+    let at : SameToSlot (shape_of old) (last_block 0 chain) old new = record {
       long = omega (arith, long);
       log = no_first (is_snapshot (block_words old (shape_of old) (last_block 0 chain))) (is_closed (slots_of (block_words old (shape_of old) (last_block 0 chain))) && not (link_of (block_words old (shape_of old) (last_block 0 chain)) == 0)) (chain_ends old (shape_of old) chain stands.stands.is_chain.linked);
       opens = opens;
-      cleared = subst (λ (h : Tail). IsCleared (shape_of old) h old new) slot cleared;
+      same = subst (λ (h : Tail). IsSameToTail (shape_of old) h old new) slot same;
     } in
     let header : SameHeader old new = cleared_header old new (shape_of old) (last_block 0 chain) long log at in
     let image : SameImage (shape_of old) old new = cleared_image old new (shape_of old) (last_block 0 chain) long log at in
@@ -97,28 +99,32 @@ kept_at_slot old new chain file position stands opens cleared =
       };
       same_names = ap (λ (l : List Meaning). chain ++ all_names l) (same_entries_of (shape_of old) old new image chain stands.stands.format);
       same_tail = tail_as (last_block 0 chain) (block_words old (shape_of old) (last_block 0 chain)) (block_words new (shape_of old) (last_block 0 chain)) (image.reads (last_block 0 chain));
-      clear = now_clear (shape_of old) (tail_of old (shape_of old) chain) old new cleared;
     }
 
 -- the tail is a link: no word changes
 kept_at_link : (old new chain file : List ℕ) (position : ℕ) → StandsBy old chain file position → is_closed (slots_of (block_words old (shape_of old) (last_block 0 chain))) ≡ true →
-    IsCleared (shape_of old) (tail_of old (shape_of old) chain) old new → StaysCleared old new chain file position
-kept_at_link old new chain file position stands closes cleared =
+    IsSameToTail (shape_of old) (tail_of old (shape_of old) chain) old new → IsReadAs old new chain file position
+kept_at_link old new chain file position stands closes left =
     let link : tail_of old (shape_of old) chain ≡ AtLink (last_block 0 chain) = rw closes refl in
-    let unchanged : IsCleared (shape_of old) (AtLink (last_block 0 chain)) old new = subst (λ (h : Tail). IsCleared (shape_of old) h old new) link cleared in
-    let same : old ≡ new = ext_get_or 0 old new (sym unchanged.same_length) (λ place inside. sym (unchanged.each place)) in
-    subst (λ (l : List ℕ). StaysCleared old l chain file position) same (record {
+    let unchanged : IsSameToTail (shape_of old) (AtLink (last_block 0 chain)) old new = subst (λ (h : Tail). IsSameToTail (shape_of old) h old new) link left in
+    let same : old ≡ new = ext_get_or 0 old new (sym unchanged.same_length) (λ place inside. sym (unchanged.each place refl)) in
+    subst (λ (l : List ℕ). IsReadAs old l chain file position) same (record {
       same_shape = refl;
       same_generation = refl;
       stands = stands;
       same_names = refl;
       same_tail = refl;
-      clear = subst (λ (h : Tail). IsClear old (shape_of old) h) (sym link) (λ place after. cc);
     })
 
-pub clearing_keeps : ClearingKeeps
-clearing_keeps old new chain file position stands cleared = go (is_closed (slots_of (block_words old (shape_of old) (last_block 0 chain)))) refl
+pub tail_keeps : TailKeeps
+tail_keeps old new chain file position stands same = go (is_closed (slots_of (block_words old (shape_of old) (last_block 0 chain)))) refl
   where
-    go : (closed : Bool) → is_closed (slots_of (block_words old (shape_of old) (last_block 0 chain))) ≡ closed → StaysCleared old new chain file position
-    go true is = kept_at_link old new chain file position stands is cleared
-    go false is = kept_at_slot old new chain file position stands is cleared
+    go : (closed : Bool) → is_closed (slots_of (block_words old (shape_of old) (last_block 0 chain))) ≡ closed → IsReadAs old new chain file position
+    go true is = kept_at_link old new chain file position stands is same
+    go false is = kept_at_slot old new chain file position stands is same
+
+pub clearing_keeps : ClearingKeeps
+clearing_keeps old new chain file position stands cleared = record {
+  reads = tail_keeps old new chain file position stands (left_to_tail (shape_of old) (tail_of old (shape_of old) chain) old new cleared);
+  clear = now_clear (shape_of old) (tail_of old (shape_of old) chain) old new cleared;
+}

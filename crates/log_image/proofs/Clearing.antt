@@ -8,7 +8,7 @@ use Rattle.log_entry.specs.declared.layouts.TheConstants.{BLOCK_KIND, SNAPSHOT}
 use Rattle.log_image.specs.Image.{Shape, words_in, block_words}
 use Rattle.log_image.specs.Blocks.{link_of, is_snapshot, slots_of, entry_words, is_closed, leads_on}
 use Rattle.log_image.specs.Format.{is_seal_last, is_seal_placed}
-use Rattle.log_image.specs.Tails.{AtSlot, is_after, IsCleared}
+use Rattle.log_image.specs.Tails.{AtSlot, is_after, IsSameToTail}
 use Rattle.log_image.proofs.ImageLemmas.{in_block}
 use Rattle.log_image.proofs.BlockLemmas.{same_long, within}
 
@@ -139,27 +139,26 @@ left_alone shape block slot place other (inr beyond) =
     and_false true = refl
     and_false false = refl
 
--- words that were cleared after the first empty slot of an open log block
-pub record ClearedAt (shape : Shape) (block : ℕ) (old new : List ℕ) : Type 0 where
+-- words that are the same but for what stands after the first empty slot of an open log block
+pub record SameToSlot (shape : Shape) (block : ℕ) (old new : List ℕ) : Type 0 where
   pub long : 4 ≤ words_in shape
   pub log : is_snapshot (block_words old shape block) ≡ false
   pub opens : is_closed (slots_of (block_words old shape block)) ≡ false
-  pub cleared : IsCleared shape (AtSlot block (3 + length (entry_words (slots_of (block_words old shape block))))) old new
+  pub same : IsSameToTail shape (AtSlot block (3 + length (entry_words (slots_of (block_words old shape block))))) old new
 
 -- where a word is left, it is the same
-word_left : (shape : Shape) (block : ℕ) (old new : List ℕ) → (is : ClearedAt shape block old new) → (other index : ℕ) → index < words_in shape →
+word_left : (shape : Shape) (block : ℕ) (old new : List ℕ) → (is : SameToSlot shape block old new) → (other index : ℕ) → index < words_in shape →
     is_after shape (AtSlot block (3 + length (entry_words (slots_of (block_words old shape block))))) (other * words_in shape + index) ≡ false →
     get_or (block_words new shape other) index 0 ≡ get_or (block_words old shape other) index 0
 word_left shape block old new is other index inside left =
     in_block new shape other index inside
-    ∙ is.cleared.each (other * words_in shape + index)
-    ∙ ap (λ (b : Bool). if b then 0 else get_or old (other * words_in shape + index) 0) left
+    ∙ is.same.each (other * words_in shape + index) left
     ∙ sym (in_block old shape other index inside)
 
 -- another block is the same
-pub other_block : (shape : Shape) (block : ℕ) (old new : List ℕ) → ClearedAt shape block old new → (other : ℕ) → other ≢ block → block_words new shape other ≡ block_words old shape other
+pub other_block : (shape : Shape) (block : ℕ) (old new : List ℕ) → SameToSlot shape block old new → (other : ℕ) → other ≢ block → block_words new shape other ≡ block_words old shape other
 other_block shape block old new is other differ =
-    ext_get_or 0 (block_words new shape other) (block_words old shape other) (same_long shape other old new is.cleared.same_length) (λ index inside.
+    ext_get_or 0 (block_words new shape other) (block_words old shape other) (same_long shape other old new is.same.same_length) (λ index inside.
     let small : index < words_in shape = within shape other new index inside in
     word_left shape block old new is other index small (elsewhere index small (nat_lt other block) refl))
   where
@@ -181,14 +180,14 @@ open_inside (slot ∷ slots) opens = go (slot == 0) refl (λ later_opens. open_i
     go true is rest = rw is (omega arith)
     go false is rest = (let after : Later slot slots = later slot slots opens is in rw after.words (omega (arith, rest after.opens)))
 
-pub each_block : (shape : Shape) (block : ℕ) (old new : List ℕ) → ClearedAt shape block old new → (other : ℕ) → SameReading (block_words old shape other) (block_words new shape other)
+pub each_block : (shape : Shape) (block : ℕ) (old new : List ℕ) → SameToSlot shape block old new → (other : ℕ) → SameReading (block_words old shape other) (block_words new shape other)
 each_block shape block old new is other = go (other == block) refl
   where
     go : (same : Bool) → (other == block) ≡ same → SameReading (block_words old shape other) (block_words new shape other)
     go false differs = subst (λ (l : List ℕ). SameReading (block_words old shape other) l) (sym (other_block shape block old new is other (eqb-false other block differs))) (same_block (block_words old shape other))
     go true same =
         subst (λ (b : ℕ). SameReading (block_words old shape b) (block_words new shape b)) (sym (eqb-true other block same))
-        (at_tail (block_words old shape block) (block_words new shape block) is.log is.opens (same_long shape block old new is.cleared.same_length) (λ index some before.
+        (at_tail (block_words old shape block) (block_words new shape block) is.log is.opens (same_long shape block old new is.same.same_length) (λ index some before.
         let room : length (entry_words (slots_of (block_words old shape block))) < length (slots_of (block_words old shape block)) = open_inside (slots_of (block_words old shape block)) is.opens in
         let size : length (slots_of (block_words old shape block)) ≡ length (block_words old shape block) - 3 = length-drop 3 (block_words old shape block) in
         word_left shape block old new is block index (within shape block old index (omega (arith, before, room, size)))

@@ -4,6 +4,7 @@ pub mod HoldingLemmas
 pub mod StandingRows
 pub mod FailingRows
 pub mod StartRows
+pub mod StoppedRows
 pub mod ImageLemmas
 pub mod EmptyLog
 pub mod MadeImages

@@ -8,7 +8,7 @@ use Rattle.log_image.specs.Positions.{position_of, size_at_end, map_at}
 use Rattle.log_image.specs.Format.{HasFormat}
 use Rattle.log_image.specs.Stands.{Stands}
 use Rattle.log_image.specs.JustMade.{made_word}
-use Rattle.log_image.specs.Recovered.{Recovered}
+use Rattle.log_image.specs.Recovered.{Recovered, IsStopped}
 use Rattle.log_image.specs.declared.starts.Start.{Start}
 use Rattle.log_image.specs.Tails.{AtSlot, tail_of, is_after}
 
@@ -103,6 +103,16 @@ BehindTail =
 -- a start of the just-made image is what is recovered from these words: the empty file at position 0
 abbrev pub RecoveredBeforeTail : Type 0
 RecoveredBeforeTail = (start : Start) → start.words.items ≡ two_blocks → Recovered behind_tail start [] 0
+
+-- a clearing of two words after that tail that is stopped after the second, and one that changes the tail's slot, which none does
+abbrev pub two_behind : List ℕ
+two_behind = with_words ((28, one_byte) ∷ (29, one_byte) ∷ []) two_blocks
+
+abbrev pub StoppedBeforeEnd : Type 0
+StoppedBeforeEnd =
+    IsStopped two_behind behind_tail
+    × Stands two_behind [] 0
+    × (IsStopped two_behind (with_words ((27, one_byte) ∷ []) two_behind) → ⊥)
 
 -- one number of the header is wrong: the name of the format, its version, the generation; or a word is missing
 abbrev pub WrongHeader : Type 0

@@ -30,6 +30,11 @@ is_after shape (AtLink block) place = false
 abbrev pub IsClear : List ℕ → Shape → Tail → Type 0
 IsClear words shape tail = (place : ℕ) → is_after shape tail place ≡ true → slice_index words place ≡ 0
 
+-- the same words but for what stands there
+pub record IsSameToTail (shape : Shape) (tail : Tail) (old new : List ℕ) : Type 0 where
+  pub same_length : length new ≡ length old
+  pub each : (place : ℕ) → is_after shape tail place ≡ false → slice_index new place ≡ slice_index old place
+
 -- the same words with 0 there
 pub record IsCleared (shape : Shape) (tail : Tail) (old new : List ℕ) : Type 0 where
   pub same_length : length new ≡ length old

@@ -1,7 +1,7 @@
 //! Laws of the definitions, each the contract of a function that does nothing, and worked rows that they compute.
 
-ghost use Rattle.log_image.specs.Laws.{HaveOneChain, StandForOne, JustMadeStands, ClearingKeeps};
-ghost use Rattle.log_image.specs.Rows.{JustMade, MadeByRule, AcrossBlocks, AfterCollection, RunsInBlock, MapWithRuns, BehindTail, RecoveredBeforeTail, WrongHeader, SealFirst, LinkInCircle, BlockNamedTwice, BytePastEnd, BaseOffByOne, BaseAfterSnapshot, BlockNotInData, UnnamedBit, RunsDoNotAddUp};
+ghost use Rattle.log_image.specs.Laws.{HaveOneChain, StandForOne, JustMadeStands, ClearingKeeps, TailKeeps};
+ghost use Rattle.log_image.specs.Rows.{JustMade, MadeByRule, AcrossBlocks, AfterCollection, RunsInBlock, MapWithRuns, BehindTail, RecoveredBeforeTail, StoppedBeforeEnd, WrongHeader, SealFirst, LinkInCircle, BlockNamedTwice, BytePastEnd, BaseOffByOne, BaseAfterSnapshot, BlockNotInData, UnnamedBit, RunsDoNotAddUp};
 
 /// Worked images: what they stand for, and images that stand for nothing.
 pub fn law_rows()
@@ -13,6 +13,7 @@ pub fn law_rows()
     ensures map_with_runs { MapWithRuns }
     ensures behind_tail { BehindTail }
     ensures recovered_before_tail { RecoveredBeforeTail }
+    ensures stopped_before_end { StoppedBeforeEnd }
     ensures wrong_header { WrongHeader }
     ensures seal_first { SealFirst }
     ensures link_in_circle { LinkInCircle }
@@ -36,7 +37,9 @@ pub fn law_just_made()
     ensures { JustMadeStands }
 {}
 
-/// Clearing what stands after the tail keeps what the words stand for: the chain, the file and the position.
+/// Clearing what stands after the tail keeps what the words stand for: the chain, the file and the position. So it is of words that differ
+/// from others after their tail alone, as a clearing leaves them that was stopped.
 pub fn law_clearing()
-    ensures { ClearingKeeps }
+    ensures cleared { ClearingKeeps }
+    ensures stopped { TailKeeps }
 {}

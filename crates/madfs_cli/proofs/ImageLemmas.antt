@@ -63,7 +63,7 @@ clears_stand bytes chain cleared clears =
 pub opened_stands : (bytes cleared : List ℕ) → OpensTo bytes cleared → StandForAFile cleared
 opened_stands bytes cleared opens =
     let clears = opens.clears in
-    (chain_of clears.words clears.rest, file_of clears.words clears.rest, position_of clears.words (shape_of clears.words) (chain_of clears.words clears.rest), (clears_stand bytes opens.chain cleared clears).stands)
+    (chain_of clears.words clears.rest, file_of clears.words clears.rest, position_of clears.words (shape_of clears.words) (chain_of clears.words clears.rest), (clears_stand bytes opens.chain cleared clears).reads.stands)
 
 within_limit : (blocks bytes : ℕ) → blocks ≤ 65535 → (bytes ≡ 64) ⊎ ((bytes ≡ 512) ⊎ (bytes ≡ 4096)) → 8 * (blocks * (bytes / 8)) ≤ 268431360
 within_limit blocks bytes few is = by_bytes (λ (n : ℕ). 8 * (blocks * (n / 8)) ≤ 268431360) bytes is (omega (arith, few)) (omega (arith, few)) (omega (arith, few))
@@ -81,7 +81,7 @@ pub file_shown : (bytes cleared text : List ℕ) → OpensTo bytes cleared → (
 file_shown bytes cleared text opens shown =
     let clears = opens.clears in
     let same : text ≡ file_of clears.words clears.rest =
-    shown (chain_of clears.words clears.rest) (file_of clears.words clears.rest) (position_of clears.words (shape_of clears.words) (chain_of clears.words clears.rest)) (clears_stand bytes opens.chain cleared clears).stands in (
+    shown (chain_of clears.words clears.rest) (file_of clears.words clears.rest) (position_of clears.words (shape_of clears.words) (chain_of clears.words clears.rest)) (clears_stand bytes opens.chain cleared clears).reads.stands in (
       position_of clears.words (shape_of clears.words) (chain_of clears.words clears.rest),
       record {
         few = few_bytes bytes clears.words clears.accepts.bytes_are (stands_by clears.words clears.rest clears.accepts.accepts).header;
@@ -118,7 +118,7 @@ made_opens shape bytes words stands allowed made same small = record {
 pub dump_shown : (bytes cleared text : List ℕ) → OpensTo bytes cleared → ((chain : List ℕ) → IsChain cleared (shape_of cleared) chain → text ≡ dump_text cleared (shape_of cleared) chain) → IsDumpOf bytes text
 dump_shown bytes cleared text opens shown =
     let clears = opens.clears in
-    let is : IsChain cleared (shape_of cleared) opens.chain = subst (λ (l : List ℕ). IsChain cleared (shape_of cleared) l) (sym clears.chain_is) (clears_stand bytes opens.chain cleared clears).stands.stands.is_chain in
+    let is : IsChain cleared (shape_of cleared) opens.chain = subst (λ (l : List ℕ). IsChain cleared (shape_of cleared) l) (sym clears.chain_is) (clears_stand bytes opens.chain cleared clears).reads.stands.stands.is_chain in
     record { chain = opens.chain; cleared = cleared; clears = clears; text_is = shown opens.chain is }
 
 -- an image has one refusal

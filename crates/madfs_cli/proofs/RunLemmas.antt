@@ -67,7 +67,7 @@ replayed image cleared trace text after fresh jobs opens read runs small fresh_i
     let stays : StaysCleared clears.words cleared opens.chain (file_of clears.words clears.rest) (position_of clears.words (shape_of clears.words) (chain_of clears.words clears.rest)) =
     subst (λ (l : List ℕ). StaysCleared clears.words cleared l (file_of clears.words clears.rest) (position_of clears.words (shape_of clears.words) (chain_of clears.words clears.rest))) (sym clears.chain_is) (clears_stand image opens.chain cleared clears) in
     let run : IsRunOf cleared opens.chain (file_of clears.words clears.rest) (position_of clears.words (shape_of clears.words) (chain_of clears.words clears.rest)) jobs text after =
-    runs opens.chain (file_of clears.words clears.rest) (position_of clears.words (shape_of clears.words) (chain_of clears.words clears.rest)) stays.stands in
+    runs opens.chain (file_of clears.words clears.rest) (position_of clears.words (shape_of clears.words) (chain_of clears.words clears.rest)) stays.reads.stands in
     record {
       chain = opens.chain;
       cleared = cleared;
@@ -80,7 +80,7 @@ replayed image cleared trace text after fresh jobs opens read runs small fresh_i
       read = read;
       after = after;
       run = run;
-      past_header = λ place past inside. run.past_header place past (subst (λ (s : Shape). place < words_in s) (sym stays.same_shape) inside) ∙ first_kept image opens.chain cleared clears place inside;
+      past_header = λ place past inside. run.past_header place past (subst (λ (s : Shape). place < words_in s) (sym stays.reads.same_shape) inside) ∙ first_kept image opens.chain cleared clears place inside;
       small = small;
       fresh_is = fresh_is;
       opens = file_opens fresh after run.longer (last_file (file_of clears.words clears.rest) run.calls)

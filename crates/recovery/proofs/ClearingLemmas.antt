@@ -122,12 +122,12 @@ keeps_by geometry old new taken generation position size tail cleared holds =
     record {
       chain = chain;
       file = holds.file;
-      stands = stays.stands;
+      stands = stays.reads.stands;
       same_size = holds.same_size;
-      same_geometry = subst (λ (s : Shape). HasShape geometry s.data_blocks s.log_blocks s.block_bytes) (sym stays.same_shape) holds.same_geometry;
-      same_generation = stays.same_generation ∙ holds.same_generation;
-      clear = subst (λ (s : Shape). IsClear new s (tail_of new s chain)) (sym stays.same_shape) (subst (λ (h : ImageTail). IsClear new (shape_of old) h) (sym stays.same_tail) stays.clear);
-      bitmap = taken_after old new (shape_of old) (shape_of new) chain taken holds.bitmap stays.same_shape stays.same_names;
+      same_geometry = subst (λ (s : Shape). HasShape geometry s.data_blocks s.log_blocks s.block_bytes) (sym stays.reads.same_shape) holds.same_geometry;
+      same_generation = stays.reads.same_generation ∙ holds.same_generation;
+      clear = subst (λ (s : Shape). IsClear new s (tail_of new s chain)) (sym stays.reads.same_shape) (subst (λ (h : ImageTail). IsClear new (shape_of old) h) (sym stays.reads.same_tail) stays.clear);
+      bitmap = taken_after old new (shape_of old) (shape_of new) chain taken holds.bitmap stays.reads.same_shape stays.reads.same_names;
     }
 
 pub kept_after : (geometry : Geometry) (old new taken : List ℕ) (generation position size : ℕ) (tail : Tail) → IsCleared (shape_by geometry) (as_tail tail) old new →
@@ -141,4 +141,4 @@ recovered_by geometry old taken generation position size tail start cleared kept
     let same : (holds : IsOpened geometry old taken generation position size tail) → chain_of old holds.rest ≡ chain = λ holds. one_chain old (shape_of old) (chain_of old holds.rest) chain holds.stands.stands.is_chain stands.stands.is_chain in
     let here : IsCleared (shape_of old) (tail_of old (shape_of old) chain) old start.words.items =
     ∥∥₁_elim kept (hlevel ℕ_set) (λ holds. subst (λ (l : List ℕ). IsCleared (shape_of old) (tail_of old (shape_of old) l) old start.words.items) (same holds) (cleared_by geometry old start.words.items taken generation position size tail holds cleared)) in
-    record { chain = chain; of_words = stands.stands.is_chain; cleared = here; stands = (chain, (clearing_keeps old start.words.items chain file at stands here).stands) }
+    record { chain = chain; of_words = stands.stands.is_chain; cleared = here; stands = (chain, (clearing_keeps old start.words.items chain file at stands here).reads.stands) }

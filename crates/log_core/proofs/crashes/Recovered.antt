@@ -7,13 +7,7 @@ use Rattle.log_entry.specs.declared.layouts.TheConstants.{HEAD_GENERATION, HEAD_
 use Rattle.log_image.specs.Image.{Shape, words_in, total}
 use Rattle.log_image.specs.Header.{shape_of, head_block, HasHeader}
 use Rattle.log_image.specs.declared.header.TheConstants.{HEADER_VERSION, HEADER_BLOCK_POWER, HEADER_UNNAMED, HEADER_DATA, HEADER_LOG}
-use Rattle.log_image.specs.Chains.{IsChain}
 use Rattle.log_image.specs.Stands.{StandsIn, StandsBy, Stands}
-use Rattle.log_image.specs.Tails.{tail_of, IsCleared}
-use Rattle.log_image.specs.Recovered.{Recovered}
-use Rattle.log_image.specs.declared.starts.Start.{Start}
-use Rattle.log_image.proofs.OneChain.{one_chain, one_meaning}
-use Rattle.log_image.proofs.ClearedImages.{clearing_keeps}
 use Rattle.persistence.specs.Memory.{Memory, cell}
 use Rattle.persistence.proofs.ValueLemmas.{index_at-most}
 use Rattle.persistence.specs.Survivors.{IsPossible, Survives}
@@ -33,6 +27,7 @@ use Rattle.log_core.proofs.ChainPlaces.{head_inside}
 use Rattle.log_core.proofs.starts.StartFacts.{same_shape}
 use Rattle.log_core.proofs.starts.StartMeets.{start_meets}
 use Rattle.log_core.proofs.kinds.RunHolds.{run_from}
+use Rattle.log_core.proofs.crashes.Stopped.{opens_as, stops_open}
 use Rattle.log_core.proofs.crashes.LeftWords.{certain_left, words_small}
 use Rattle.log_core.proofs.crashes.LeftBlocks.{possible, long}
 use Rattle.log_core.proofs.crashes.LeftChains.{chain, position, to_end, from_synced, from_end}
@@ -108,18 +103,6 @@ module _ (o : Origin) (c : Core) (start : IsStart o) (inv : Invariant o c) (word
     stands = subst (λ (s : Shape). StandsIn words s blocks file there) (sym shape_is) (stands o c inv place kept words left head_left.above front_is);
   }
 
-  -- clearing keeps it
-  cleared_by : (other others : List ℕ) → IsChain words (shape_of words) other → IsCleared (shape_of words) (tail_of words (shape_of words) other) words others → StandsBy others blocks file there
-  cleared_by other others of_words cleared = (clearing_keeps words others blocks file there stands_by
-      (subst (λ (l : List ℕ). IsCleared (shape_of words) (tail_of words (shape_of words) l) words others) (one_chain words (shape_of words) other blocks of_words stands_by.stands.is_chain) cleared)).stands
-
-  -- and what is recovered is that file
-  one_recovered : (begun : Start) (found : List ℕ) (elsewhere : ℕ) → Recovered words begun found elsewhere → (found ≡ file) × (elsewhere ≡ there)
-  one_recovered begun found elsewhere is = (one.1, one.2)
-    where
-      one : (is.stands.0 ≡ blocks) × (found ≡ file) × (elsewhere ≡ there)
-      one = one_meaning begun.words.items is.stands.0 blocks found file elsewhere there is.stands.1 (cleared_by is.chain begun.words.items is.of_words is.cleared)
-
   -- how many writes that is
   abbrev many : ℕ
   many = there - first_position o
@@ -136,8 +119,8 @@ module _ (o : Origin) (c : Core) (start : IsStart o) (inv : Invariant o c) (word
   file_is : file ≡ file_after_first o c many
   file_is = late_file o c.history there late
 
-  as_said : (others : List ℕ) → StandsBy others blocks file there → Stands others (file_after_first o c many) (first_position o + many)
-  as_said others by = (blocks, subst (λ (found : List ℕ). StandsBy others blocks found (first_position o + many)) file_is (subst (λ (position : ℕ). StandsBy others blocks file position) there_is by))
+  stands_as_said : StandsBy words blocks (file_after_first o c many) (first_position o + many)
+  stands_as_said = subst (λ (found : List ℕ). StandsBy words blocks found (first_position o + many)) file_is (subst (λ (position : ℕ). StandsBy words blocks file position) there_is stands_by)
 
   pub recovered : IsRecovered o c words
   recovered = record {
@@ -145,15 +128,14 @@ module _ (o : Origin) (c : Core) (start : IsStart o) (inv : Invariant o c) (word
     to_end = (let upto = to_end o c inv place kept words left head_left.above in omega (arith, upto));
     synced = (let low = enough in let is = there_is in omega (arith, low, is));
     small = words_small o c.memory (length c.views) inv.sizes.words words left;
-    stands = as_said words stands_by;
-    cleared = λ other others of_words cleared. as_said others (cleared_by other others of_words cleared);
-    recovered = λ begun found elsewhere is. (let one = one_recovered begun found elsewhere is in (one.0 ∙ file_is, one.1 ∙ there_is));
+    opens = opens_as words blocks (file_after_first o c many) (first_position o + many) stands_as_said;
+    stopped = λ stops in_turn. stops_open words blocks (file_after_first o c many) (first_position o + many) stops stands_as_said in_turn;
     answered = λ seat. (inv.syncs.views_hold seat).answered;
   }
 
   -- with each present value all writes are left
   pub all_writes : words ≡ c.memory.now.words → Stands words (file_after_first o c (length c.history)) (end_of o c.history)
-  all_writes present = subst (λ (writes : ℕ). Stands words (file_after_first o c writes) (first_position o + writes)) many_is (as_said words stands_by)
+  all_writes present = subst (λ (writes : ℕ). Stands words (file_after_first o c writes) (first_position o + writes)) many_is (blocks, stands_as_said)
     where
       many_is : many ≡ length c.history
       many_is = (let all = from_end o c inv place kept words left head_left.above present in let upto = to_end o c inv place kept words left head_left.above in omega (arith, all, upto))

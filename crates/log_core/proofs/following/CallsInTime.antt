@@ -5,14 +5,13 @@ use Rattle.std.proofs.lemmas.List.{append_assoc}
 use Rattle.std.proofs.lemmas.List.Elements.{All-from_recursion, recursion_from_All}
 use Rattle.std.proofs.lemmas.List.Sorted.{All-permutation, sum_by-IsPermutation}
 use Rattle.std.proofs.lemmas.List.Sums.{sum_by-cons}
-use Rattle.log_entry.specs.Order.{IsInOrder}
 use Rattle.log_entry.specs.declared.calls.Call.{Call}
 use Rattle.log_image.proofs.ListLemmas.{each_join}
 use Rattle.log_core.specs.Views.{View, view_of}
 use Rattle.log_core.specs.Origin.{Origin}
 use Rattle.log_core.specs.Cores.{Core}
 use Rattle.log_core.specs.Steps.{Step}
-use Rattle.log_core.specs.Records.{one_if, NeverFall}
+use Rattle.log_core.specs.Records.{one_if}
 use Rattle.log_core.specs.Runs.{IsRun, end}
 use Rattle.log_core.specs.Starts.{IsStart}
 use Rattle.log_core.specs.Invariant.{Invariant}
@@ -24,8 +23,8 @@ use Rattle.log_core.proofs.following.RecordedCalls.{each_view, each_record}
 use Rattle.log_core.proofs.following.Seen.{IsCallSeen}
 use Rattle.log_core.proofs.following.SeenCalls.{records_are_seen}
 use Rattle.log_core.proofs.following.SeatOrder.{AreInTime, both_seen, seen_quiet, quiet_seen, both_quiet, past_last}
-use Rattle.log_core.proofs.following.NumbersRise.{InTime, is_call, count_calls, never_fall_in_order}
-use Rattle.log_core.proofs.following.CountedCalls.{positive_numbers, all_counted}
+use Rattle.log_core.proofs.following.NumbersRise.{InTime, is_call, count_calls}
+use Rattle.log_core.proofs.following.CountedCalls.{positive_numbers}
 
 -- a quiet call of an earlier moment is one of the run
 abbrev quiet_from : (o : Origin) (core : Core) (steps later here : List Step) (call : Call) → steps ≡ later ++ here → IsQuietCall o here core call → IsQuietCall o steps core call
@@ -132,11 +131,3 @@ module _ (o : Origin) (steps : List Step) (start : IsStart o) (run : IsRun o ste
         (each_record (λ (call : Call). 0 < call.number) c.views (each_view (λ (v : View). AllByRecursion (λ (call : Call). 0 < call.number) v.done) c.views
         (λ k. positive_numbers (view_of c.views k).done (λ seat. inv.records.never_fall k seat))))
         (each_weaker IsQuiet (λ (call : Call). 0 < call.number) quiet (λ call is. (let after = is.made.after in omega (arith, after))) each)
-
-    -- so in the order of a report they never fall
-    pub calls_never_fall : (calls : List Call) → IsPermutation all calls → IsInOrder calls → (seat : ℕ) → NeverFall seat 0 0 calls
-    calls_never_fall calls same order seat = never_fall_in_order seat calls order
-        (each_weaker (λ (b : Call). AllByRecursion (λ (a : Call). AreInTime a b) all) (λ (b : Call). AllByRecursion (λ (a : Call). AreInTime a b) calls) calls (λ b before. each_permuted (λ (a : Call). AreInTime a b) all calls same before)
-        (each_permuted (λ (b : Call). AllByRecursion (λ (a : Call). AreInTime a b) all) all calls same in_time))
-        (λ of number. (let permuted = counted_permuted of number all calls same in let once = all_counted o c inv steps quiet are each of number in omega (arith, permuted, once)))
-        (each_permuted (λ (call : Call). 0 < call.number) all calls same some_numbers)

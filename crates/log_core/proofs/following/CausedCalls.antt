@@ -26,7 +26,7 @@ use Rattle.log_core.proofs.kinds.Splits.{each_grown}
 use Rattle.log_core.proofs.kinds.JoinedViews.{each_joined}
 use Rattle.log_core.proofs.following.RecordedCalls.{each_view, each_record}
 use Rattle.log_core.proofs.following.Seen.{AllSeen}
-use Rattle.log_core.proofs.following.SeenCalls.{seen_run, moves, left_number, last_is, kind, f, step, left, last}
+use Rattle.log_core.proofs.following.SeenCalls.{seen_run, moves, left_number, last_is, kind, f, step, left}
 use Rattle.log_core.proofs.following.Numbers.{op_going}
 use Rattle.log_core.proofs.following.Causes.{found_bit, Causes, causes_later}
 use Rattle.log_core.proofs.following.FoundWorks.{IsOfFound, pins_stay_all, found_stays_all, found_next_all}
@@ -215,7 +215,7 @@ caused_start o = record {
 }
   where
     idle : (seat : ℕ) → IsIdleView (view_of (first_core o).views seat)
-    idle seat = Rattle.log_core.proofs.following.SeenCalls.view_or_spent IsIdleView (first_core o).views seat (refl, refl) (all_idle o (range_with_len 0 o.made))
+    idle seat = Rattle.log_core.proofs.following.SeenStart.view_or_spent IsIdleView (first_core o).views seat (refl, refl) (all_idle o (range_with_len 0 o.made))
 
 caused_run : (o : Origin) (steps : List Step) → Invariant o (first_core o) → IsRun o steps → AllCaused o steps
 caused_run o [] start run = caused_start o

@@ -1,5 +1,5 @@
--- The records of all views of a core, with the writes that running calls have put in: each stands in the history, and each write is there once;
--- and so is each generation, once no call runs.
+-- The records of all views of a core, with the writes that running calls have put in: each stands in the history, and each write is there once.
+-- Once no call runs, none has put in anything.
 use Rattle.std.proofs.Common.{◌≡◌, ◌≢◌, ◌⊎◌, inl, inr, ⊎_elim, ◌<◌, ◌≤◌, ◌+◌, ◌-◌, ◌==◌, ◌||◌, ◌&&◌, if◌then◌else◌, ℕ, suc, Bool, true, false, List, [], ◌∷◌, ◌++◌, length, refl, sym, ◌∙◌, ap, subst, arith, Option, Some, None}
 use Rattle.std.specs.List.{AllByRecursion, flat_map}
 use Rattle.std.proofs.lemmas.Bool.{lt-ltb, false_from_ne_true}
@@ -11,11 +11,11 @@ use Rattle.log_image.specs.Chains.{is_listed}
 use Rattle.log_image.proofs.ListLemmas.{each_join}
 use Rattle.pmem_words.specs.declared.keeps.Task.{Task}
 use Rattle.log_core.specs.Views.{View, HeadPut, view_of, op_in, op_of}
-use Rattle.log_core.specs.Origin.{Origin, first_position, first_generation, Generation}
+use Rattle.log_core.specs.Origin.{Origin, first_position, Generation}
 use Rattle.log_core.specs.Files.{Write, no_write, write_at, call_of, accepted_reply, file_at, end_of}
-use Rattle.log_core.specs.Cores.{Core, current}
+use Rattle.log_core.specs.Cores.{Core}
 use Rattle.log_core.specs.Records.{one_if, writes_at, count_in, parts_with, collected_in, collected_by, putting, running_at, SaysOfGenerations, RecordHolds}
-use Rattle.log_core.specs.Histories.{recorded_calls, running_write, running_writes, running_collection, running_collections}
+use Rattle.log_core.specs.Histories.{recorded_calls, running_write, running_writes, running_collection, running_collections, running_calls}
 use Rattle.log_core.specs.Following.{NoCallRuns}
 use Rattle.log_core.specs.Invariant.{Invariant}
 use Rattle.log_core.proofs.Each.{each_weaker, each_both, each_at}
@@ -228,14 +228,12 @@ module _ (o : Origin) (c : Core) (inv : Invariant o c) where
         (let runs : op_in (view_of c.views k).seat ≡ Some CollectOp = ap (λ (job : Task). op_of job (view_of c.views k).seat.calling.bytes) ((inv.records.calls k).task.put_collects some) in
         let mixed : Some CollectOp ≡ None = sym runs ∙ idle k in cc))
 
-    pub none_running : running_writes o c ≡ []
-    none_running = none_of_views put_in c.views (each_view (λ (v : View). put_in v ≡ []) c.views (λ k. none_put_in (view_of c.views k) (not_won k)))
+    none_writing : running_writes o c ≡ []
+    none_writing = none_of_views put_in c.views (each_view (λ (v : View). put_in v ≡ []) c.views (λ k. none_put_in (view_of c.views k) (not_won k)))
 
-    -- and each generation above the first is recorded once
-    pub put_once : (generation : ℕ) → first_generation o < generation → generation ≤ current o c.generations → collected_in generation (recorded_calls c.views) ≡ 1
-    put_once generation low upto =
-        (let over = collected_over generation c.views in
-        let once = inv.records.collected_once generation low upto in
-        let none = ap (λ (calls : List Call). collected_in generation calls) (none_of_views (λ (v : View). running_collection v v.ghost.call.put) c.views
-        (each_view (λ (v : View). running_collection v v.ghost.call.put ≡ []) c.views (λ k. ap (λ (put : Option HeadPut). running_collection (view_of c.views k) put) (not_put k)))) in
-        omega (arith, over, once, none))
+    none_collecting : running_collections c.views ≡ []
+    none_collecting = none_of_views (λ (v : View). running_collection v v.ghost.call.put) c.views
+        (each_view (λ (v : View). running_collection v v.ghost.call.put ≡ []) c.views (λ k. ap (λ (put : Option HeadPut). running_collection (view_of c.views k) put) (not_put k)))
+
+    pub none_running : running_calls o c ≡ []
+    none_running = ap (λ (writes : List Call). writes ++ running_collections c.views) none_writing ∙ none_collecting

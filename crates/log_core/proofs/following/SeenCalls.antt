@@ -1,19 +1,20 @@
 -- Each record of a run is of a position that was the end at a step of its own call: by an induction over runs.
-use Rattle.std.proofs.Common.{◌≡◌, ⊎_elim, ◌<◌, ℕ, zero, suc, Bool, true, false, List, [], ◌∷◌, length, map, refl, sym, ◌∙◌, ap, subst, arith, slice_index, Option, Some, None}
-use Rattle.std.specs.List.{AllByRecursion, range_with_len}
+use Rattle.std.proofs.Common.{◌≡◌, ⊎_elim, ◌<◌, ℕ, Bool, true, false, List, [], ◌∷◌, length, refl, sym, ◌∙◌, ap, subst, arith, slice_index, Option, Some, None}
+use Rattle.std.specs.List.{AllByRecursion}
 use Rattle.std.proofs.lemmas.List.{get_or-set_same}
 use Rattle.log_entry.specs.declared.calls.Op.{Op}
+use Rattle.log_entry.specs.declared.calls.Op.TheVariants.{Collect as CollectOp}
 use Rattle.log_entry.specs.declared.calls.Call.{Call}
 use Rattle.log_image.proofs.ListLemmas.{each_join}
 use Rattle.pmem_words.specs.Seats.{Seat}
 use Rattle.asks.specs.declared.ask.Ask.{Ask}
 use Rattle.persistence.specs.Memory.{found, found_answer}
-use Rattle.log_core.specs.Views.{View, RunningCall, view_of, spent_view, new_view, op_in}
-use Rattle.log_core.specs.Origin.{Origin, q_of_origin, first_position, made_by}
+use Rattle.log_core.specs.Views.{View, HeadPut, RunningCall, view_of, spent_view, op_in}
+use Rattle.log_core.specs.Origin.{Origin, q_of_origin}
 use Rattle.log_core.specs.Files.{end_of}
 use Rattle.log_core.specs.Cores.{Core, first_core}
 use Rattle.log_core.specs.Works.{ended}
-use Rattle.log_core.specs.Steps.{Note, Step, Does, Splits, Joins, Kind, kind_of_ask, is_begun, call_if, view_after, walk_of}
+use Rattle.log_core.specs.Steps.{Note, Step, Does, Splits, Joins, Kind, kind_of_ask, is_begun, call_if, put_unless, view_after, walk_of}
 use Rattle.log_core.specs.After.{after, history_after}
 use Rattle.log_core.specs.Answers.{MayAddAll}
 use Rattle.log_core.specs.Runs.{MayNumber, MayStep, MaySplit, MayJoin, Allowed, ghost_at, effect_at, ghost_left, IsRun, end}
@@ -27,8 +28,10 @@ use Rattle.log_core.proofs.kinds.RunHolds.{step_keeps, run_from}
 use Rattle.log_core.proofs.kinds.Splits.{each_grown}
 use Rattle.log_core.proofs.kinds.JoinedViews.{each_joined}
 use Rattle.log_core.proofs.following.RecordedCalls.{each_view, each_record}
-use Rattle.log_core.proofs.following.Seen.{IsTailSeen, IsCallSeen, AllSeen, seen_later, tail_later, records_later, seen_as}
+use Rattle.log_core.proofs.following.Seen.{IsTailSeen, IsCallSeen, IsPutSeen, AllSeen, seen_later, tail_later, put_later, records_later, seen_as}
 use Rattle.log_core.proofs.following.TailWorks.{IsSameTail, StandsWon, computed_tail, computed_won}
+use Rattle.log_core.proofs.following.SeenStart.{seen_start}
+use Rattle.log_core.proofs.following.PutMoves.{CollectsAt, put_moves, put_goes_on}
 use Rattle.log_core.proofs.following.TailMoves.{TailMoves, moves_by_ask}
 use Rattle.log_core.proofs.Replies.{unwon_no_write}
 use Rattle.log_entry.specs.Legal.{is_write}
@@ -164,6 +167,29 @@ module _ (o : Origin) (steps : List Step) (inv : Invariant o (end o steps)) (see
         by [] won = (let was = computed_won (ghost_left v note kind f) left last step.enters.computed won in was.1 (moves.stands was.0))
         by (call ∷ calls) won = (let never : false ≡ true = won in cc)
 
+    -- what has put a head in place was at its tail then, or was seen before
+    put_seen : (head : HeadPut) → (ghost_left v note kind f).call.put ≡ Some head → IsSeen o (this ∷ steps) n note.number head.base CollectOp false
+    put_seen head is = ⊎_elim old new (put_moves o c (ghost_at v note) note.before (ghost_at v note).call.put head kind f step.may is)
+      where
+        begun : Bool
+        begun = is_begun (op_in v.seat) (op_in note.before)
+
+        old : (call_if begun v.ghost.call note.number).put ≡ Some head → IsSeen o (this ∷ steps) n note.number head.base CollectOp false
+        old had = (let goes_on = put_goes_on begun v.ghost.call note.number head step.number had in
+            seen_as o (this ∷ steps) n v.ghost.call.number note.number head.base head.base CollectOp false false (sym goes_on.1) refl (λ won. won)
+            (seen_later o steps this n v.ghost.call.number head.base CollectOp false (seen.puts n head goes_on.0)))
+
+        new : CollectsAt note.before head.base → IsSeen o (this ∷ steps) n note.number head.base CollectOp false
+        new at = (let before = computed_tail v.ghost v.seat note.before step.begins at.0 in
+            let none_begins : begun ≡ false = ap (λ (asked : Option Op). is_begun (op_in v.seat) asked) before.1 ∙ same_begun (op_in v.seat) in
+            seen_as o (this ∷ steps) n v.ghost.call.number note.number v.seat.walk.position head.base CollectOp v.seat.calling.won false
+            (sym (same_number begun v.ghost.call.number note.number none_begins step.number)) (sym before.0.1 ∙ sym at.1) (λ never. cc)
+            (seen_later o steps this n v.ghost.call.number v.seat.walk.position CollectOp v.seat.calling.won (seen.tails n before.0.0 CollectOp (sym before.1 ∙ at.2))))
+
+    put_entered : (adds : List Call) (head : HeadPut) → put_unless adds (ghost_left v note kind f).call.put ≡ Some head → IsSeen o (this ∷ steps) n (ghost_left v note kind f).call.number head.base CollectOp false
+    put_entered [] head is = seen_as o (this ∷ steps) n note.number (ghost_left v note kind f).call.number head.base head.base CollectOp false false (sym left_number) refl (λ won. won) (put_seen head is)
+    put_entered (call ∷ calls) head is = (let never : None ≡ Some head = is in cc)
+
     seen_does : AllSeen o (this ∷ steps)
     seen_does = record {
       tails = each_set (λ (k : ℕ) (w : View). IsTailSeen o (this ∷ steps) k w) c.views n (view_after v kind note f) allowed.made
@@ -171,6 +197,7 @@ module _ (o : Origin) (steps : List Step) (inv : Invariant o (end o steps)) (see
           (tail_entered note.adds note.seat step.enters.seat_is at op asks))
           (λ k other. tail_later o steps this k (view_of c.views k) (seen.tails k));
       stands = each_set (λ (k : ℕ) (w : View). StandsWon w.seat) c.views n (view_after v kind note f) allowed.made (stands_entered note.adds note.seat step.enters.seat_is) (λ k other. seen.stands k);
+      puts = each_set (λ (k : ℕ) (w : View). IsPutSeen o (this ∷ steps) k w) c.views n (view_after v kind note f) allowed.made (put_entered note.adds) (λ k other. put_later o steps this k (view_of c.views k) (seen.puts k));
       records = each_set (λ (k : ℕ) (w : View). AllByRecursion (IsCallSeen o (this ∷ steps)) w.done) c.views n (view_after v kind note f) allowed.made
           (each_join (IsCallSeen o (this ∷ steps)) v.done note.adds (records_later o steps this v.done (seen.records n)) (added_seen note.adds step.enters.adds_are))
           (λ k other. records_later o steps this (view_of c.views k).done (seen.records k));
@@ -182,6 +209,8 @@ module _ (o : Origin) (steps : List Step) (inv : Invariant o (end o steps)) (see
     tails = each_grown o c inv may (λ (k : ℕ) (w : View). IsTailSeen o (Splits 0 ∷ steps) k w) (tail_later o steps (Splits 0) 0 (view_of c.views 0) (seen.tails 0)) (λ at op asks. (let never : false ≡ true = at in cc))
         (λ k other. tail_later o steps (Splits 0) k (view_of c.views k) (seen.tails k));
     stands = each_grown o c inv may (λ (k : ℕ) (w : View). StandsWon w.seat) (seen.stands 0) (λ won. (let never : false ≡ true = won in cc)) (λ k other. seen.stands k);
+    puts = each_grown o c inv may (λ (k : ℕ) (w : View). IsPutSeen o (Splits 0 ∷ steps) k w) (put_later o steps (Splits 0) 0 (view_of c.views 0) (seen.puts 0)) (λ head is. (let never : None ≡ Some head = is in cc))
+        (λ k other. put_later o steps (Splits 0) k (view_of c.views k) (seen.puts k));
     records = each_grown o c inv may (λ (k : ℕ) (w : View). AllByRecursion (IsCallSeen o (Splits 0 ∷ steps)) w.done) (records_later o steps (Splits 0) (view_of c.views 0).done (seen.records 0)) tt
         (λ k other. records_later o steps (Splits 0) (view_of c.views k).done (seen.records k));
   }
@@ -198,6 +227,8 @@ module _ (o : Origin) (steps : List Step) (inv : Invariant o (end o steps)) (see
         (λ at op asks. (let never : false ≡ true = at in cc))
         (λ k not_seat not_other. tail_later o steps (Joins seat other) k (view_of c.views k) (seen.tails k));
     stands = each_joined o c seat other inv may (λ (k : ℕ) (w : View). StandsWon w.seat) (λ won. (let never : false ≡ true = sym may.idle.not_won ∙ won in cc)) (λ won. (let never : false ≡ true = won in cc)) (λ k not_seat not_other. seen.stands k);
+    puts = each_joined o c seat other inv may (λ (k : ℕ) (w : View). IsPutSeen o (Joins seat other ∷ steps) k w) (λ head is. (let never : None ≡ Some head = sym may.idle.no_head ∙ is in cc)) (λ head is. (let never : None ≡ Some head = is in cc))
+        (λ k not_seat not_other. put_later o steps (Joins seat other) k (view_of c.views k) (seen.puts k));
     records = each_joined o c seat other inv may (λ (k : ℕ) (w : View). AllByRecursion (IsCallSeen o (Joins seat other ∷ steps)) w.done)
         (each_join (IsCallSeen o (Joins seat other ∷ steps)) (view_of c.views seat).done (view_of c.views other).done
         (records_later o steps (Joins seat other) (view_of c.views seat).done (seen.records seat)) (records_later o steps (Joins seat other) (view_of c.views other).done (seen.records other)))
@@ -209,30 +240,6 @@ module _ (o : Origin) (steps : List Step) (inv : Invariant o (end o steps)) (see
   seen_step (Does n ask note) allowed = seen_does n ask note allowed
   seen_step (Splits seat) allowed = subst (λ (k : ℕ). MaySplit o c k → AllSeen o (Splits k ∷ steps)) (sym allowed.first) seen_splits allowed
   seen_step (Joins seat other) allowed = seen_joins seat other allowed
-
--- a fact of a view of a list, or of a spent one
-pub view_or_spent : (P : View → Type 0) (views : List View) (k : ℕ) → P spent_view → AllByRecursion P views → P (view_of views k)
-view_or_spent P [] k spent all = spent
-view_or_spent P (v ∷ views) zero spent all = all.0
-view_or_spent P (v ∷ views) (suc k) spent all = view_or_spent P views k spent all.1
-
--- no view has walked at the start
-abbrev IsFresh : View → Type 0
-IsFresh v = (v.seat.walk.at_tail ≡ false) × (v.done ≡ []) × (v.seat.calling.won ≡ false)
-
-all_fresh : (o : Origin) (numbers : List ℕ) → AllByRecursion IsFresh (map (λ (number : ℕ). new_view o.geometry o.seats (first_position o) (made_by o.made number) number) numbers)
-all_fresh o [] = tt
-all_fresh o (number ∷ numbers) = ((refl, refl, refl), all_fresh o numbers)
-
-seen_start : (o : Origin) → AllSeen o []
-seen_start o = record {
-  tails = λ seat at op asks. (let never : false ≡ true = sym (fresh seat).0 ∙ at in cc);
-  stands = λ seat won. (let never : false ≡ true = sym (fresh seat).2 ∙ won in cc);
-  records = λ seat. subst (λ (calls : List Call). AllByRecursion (IsCallSeen o []) calls) (sym (fresh seat).1) tt;
-}
-  where
-    fresh : (seat : ℕ) → IsFresh (view_of (first_core o).views seat)
-    fresh seat = view_or_spent IsFresh (first_core o).views seat (refl, refl, refl) (all_fresh o (range_with_len 0 o.made))
 
 pub seen_run : (o : Origin) (steps : List Step) → Invariant o (first_core o) → IsRun o steps → AllSeen o steps
 seen_run o [] start run = seen_start o

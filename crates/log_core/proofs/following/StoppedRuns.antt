@@ -17,14 +17,13 @@ use Rattle.log_core.specs.Runs.{IsRun, end}
 use Rattle.log_core.specs.Starts.{IsStart}
 use Rattle.log_core.specs.Invariant.{Invariant}
 use Rattle.log_core.specs.Histories.{recorded_calls, running_writes, IsQuietCall, AreQuiet}
-use Rattle.log_core.specs.Following.{IsWholeHistory, StoppedRunsAreLegal}
 use Rattle.log_core.proofs.Each.{each_weaker}
 use Rattle.log_core.proofs.clauses.JoinedParts.{writes_join}
 use Rattle.log_core.proofs.starts.StartMeets.{start_meets}
 use Rattle.log_core.proofs.kinds.RunHolds.{run_from}
 use Rattle.log_core.proofs.following.Rising.{place_number, AllFrom, rises_in_order}
 use Rattle.log_core.proofs.following.Stands.{Stands, LeadsTo, legal_from}
-use Rattle.log_core.proofs.following.RecordedCalls.{records_stand, running_stand, written_once}
+use Rattle.log_core.proofs.following.RecordedCalls.{records_stand, written_once}
 use Rattle.log_core.proofs.following.CallsInTime.{each_quiet, each_permuted}
 use Rattle.log_core.proofs.following.QuietCalls.{no_write_quiet, quiet_stands}
 
@@ -36,7 +35,7 @@ writes_sum position (call ∷ calls) = (let rest = writes_sum position calls in 
 writes_permuted : (position : ℕ) (calls others : List Call) → IsPermutation calls others → writes_at position others ≡ writes_at position calls
 writes_permuted position calls others same = writes_sum position others ∙ (sum_by-IsPermutation (λ (c : Call). one_if (is_write c.op c.reply && (c.position == position))) calls others same ∙ sym (writes_sum position calls))
 
-no_writes : (position : ℕ) (calls : List Call) → AllByRecursion (λ (call : Call). is_write call.op call.reply ≡ false) calls → writes_at position calls ≡ 0
+pub no_writes : (position : ℕ) (calls : List Call) → AllByRecursion (λ (call : Call). is_write call.op call.reply ≡ false) calls → writes_at position calls ≡ 0
 no_writes position [] none = refl
 no_writes position (call ∷ calls) none = (let rest = no_writes position calls none.1 in let here = ap (λ (b : Bool). one_if (b && (call.position == position))) none.0 in omega (arith, rest, here))
 
@@ -62,24 +61,27 @@ module _ (o : Origin) (start : IsStart o) (steps : List Step) (run : IsRun o ste
       (each_join (Stands o c.history c.generations) (recorded_calls c.views) quiet (records_stand o c inv)
       (each_weaker (IsQuietCall o steps c) (Stands o c.history c.generations) quiet (λ call is. quiet_stands o steps start run c.generations call is) are_quiet))
 
-  module _ (whole : List Call) (put_in : IsPermutation (calls ++ running_writes o c) whole) (order : IsInOrder whole) where
-    stand : AllByRecursion (Stands o c.history c.generations) whole
-    stand = each_permuted (Stands o c.history c.generations) (calls ++ running_writes o c) whole put_in
-        (each_join (Stands o c.history c.generations) calls (running_writes o c) calls_stand (running_stand o c inv))
+  -- with further calls that stand in it, among them the writes that running calls have put in
+  module _ (late : List Call) (late_stand : AllByRecursion (Stands o c.history c.generations) late) (late_writes : (position : ℕ) → writes_at position late ≡ writes_at position (running_writes o c))
+      (whole : List Call) (put_in : IsPermutation (calls ++ late) whole) (order : IsInOrder whole) where
+    pub whole_stand : AllByRecursion (Stands o c.history c.generations) whole
+    whole_stand = each_permuted (Stands o c.history c.generations) (calls ++ late) whole put_in
+        (each_join (Stands o c.history c.generations) calls late calls_stand late_stand)
 
     writes_once : (position : ℕ) → first_position o < position → position ≤ end_of o c.history → writes_at position whole ≡ 1
-    writes_once position late upto =
-        (let permuted_whole = writes_permuted position (calls ++ running_writes o c) whole put_in in
-        let both_whole = writes_join position calls (running_writes o c) in
+    writes_once position from upto =
+        (let permuted_whole = writes_permuted position (calls ++ late) whole put_in in
+        let both_whole = writes_join position calls late in
+        let same_late = late_writes position in
         let permuted = writes_permuted position (recorded_calls c.views ++ quiet) calls same in
         let both = writes_join position (recorded_calls c.views) quiet in
-        let once = written_once o c inv position late upto in
+        let once = written_once o c inv position from upto in
         let none = no_writes position quiet (each_weaker (IsQuietCall o steps c) (λ (call : Call). is_write call.op call.reply ≡ false) quiet (λ call is. no_write_quiet o steps start run c.generations call is) are_quiet) in
-        omega (arith, permuted_whole, both_whole, permuted, both, once, none))
+        omega (arith, permuted_whole, both_whole, same_late, permuted, both, once, none))
 
     -- each stands at or behind the start's position, and where it is a write behind it
     after_start : AllFrom (first_position o + first_position o + 1) whole
-    after_start = each_weaker (Stands o c.history c.generations) (λ (call : Call). first_position o + first_position o + 1 ≤ place_number call) whole (λ call stands. go call (is_write call.op call.reply) stands.holds.write_after stands.holds.from_first) stand
+    after_start = each_weaker (Stands o c.history c.generations) (λ (call : Call). first_position o + first_position o + 1 ≤ place_number call) whole (λ call stands. go call (is_write call.op call.reply) stands.holds.write_after stands.holds.from_first) whole_stand
       where
         go : (call : Call) (write : Bool) → (write ≡ true → first_position o < call.position) → first_position o ≤ call.position →
             first_position o + first_position o + 1 ≤ call.position + call.position + one_if (not write)
@@ -90,19 +92,12 @@ module _ (o : Origin) (start : IsStart o) (steps : List Step) (run : IsRun o ste
     leads = legal_from o c.history c.generations (first_position o) whole (record {
       from_first = omega arith;
       to_end = omega arith;
-      all = stand;
+      all = whole_stand;
       rises = rises_in_order whole order;
       behind = after_start;
       once = writes_once;
     })
 
-    pub whole_history : IsWholeHistory o c whole
-    whole_history = (let there = subst (λ (file : List ℕ). LeadsTo o.geometry.block_bytes file (first_position o) whole (file_at o c.history (end_of o c.history)) (end_of o c.history)) (start_file o c) leads in
-        record { legal = there.legal; to_end = there.end_is; to_file = there.last_is })
-
-pub stopped_runs_are_legal : StoppedRunsAreLegal
-stopped_runs_are_legal o calls whole core start ran put_in order = subst (λ (c : Core). IsWholeHistory o c whole) ran.ends
-    (whole_history o start ran.steps ran.is_run ran.quiet calls
-    (subst (λ (c : Core). AreQuiet o c ran.steps ran.quiet) (sym ran.ends) ran.are_quiet)
-    (subst (λ (c : Core). IsPermutation (recorded_calls c.views ++ ran.quiet) calls) (sym ran.ends) ran.same_calls)
-    whole (subst (λ (c : Core). IsPermutation (calls ++ running_writes o c) whole) (sym ran.ends) put_in) order)
+    -- so they lead from the start's file to the end and the file there
+    pub whole_leads : LeadsTo o.geometry.block_bytes o.file (first_position o) whole (file_at o c.history (end_of o c.history)) (end_of o c.history)
+    whole_leads = subst (λ (file : List ℕ). LeadsTo o.geometry.block_bytes file (first_position o) whole (file_at o c.history (end_of o c.history)) (end_of o c.history)) (start_file o c) leads

@@ -62,10 +62,10 @@ lost_reached = enters_reached image_a one_put 1 1 (Exchange (Image 27) 0 to_seco
     ((record { free = record { not_won = refl; none_laid = refl; no_sync = refl; no_head = refl }; valid = refl; ready = refl; inside = λ same. omega (arith, same); used = λ same. omega (arith, same) }, (λ same. omega (arith, same)), λ indirect. absurd (omega (arith, indirect))), tt)
     refl tt
 
-found_reached : IsReached image_a next_found
+pub found_reached : IsReached image_a next_found
 found_reached = step_reached image_a second_lost 1 1 (Load (Image 28)) [] lost_reached (omega arith) (one_part 1) tt refl (record { valid = refl; named = refl })
 
-may_put_next : MayCommit image_a next_found.history (view_of next_found.views 1).seat 28 to_second
+pub may_put_next : MayCommit image_a next_found.history (view_of next_found.views 1).seat 28 to_second
 may_put_next = record {
   at_tail = record { valid = refl; ready = refl; not_won = refl; at_tail = refl };
   slot = refl;

@@ -1,11 +1,16 @@
 -- What one clause alone refuses of cores: ends, parts, seats made, generations found, the synced position, and writes of the history.
-use Rattle.std.proofs.Common.{ℕ, zero, suc, List, length, refl, ap, arith}
+use Rattle.std.proofs.Common.{◌≡◌, ◌==◌, ◌&&◌, ◌||◌, not, ℕ, zero, suc, false, List, [], ◌∷◌, length, refl, ap, arith}
 use Rattle.std.proofs.lemmas.Bool.{false≢true}
+use Rattle.std.proofs.lemmas.Bool.Decides.{nat_tests}
+use Rattle.log_image.specs.Image.{is_in_log}
+use Rattle.log_core.specs.May.{is_fenced}
+use Rattle.log_core.specs.worked_rows.Refused.{right_snapshot}
+use Rattle.log_core.proofs.row_checks.RowChecks.{in_all}
 use Rattle.log_entry.specs.declared.calls.Call.{Call}
 use Rattle.persistence.specs.Memory.{cell}
 use Rattle.log_core.specs.Synced.{IsSynced}
 use Rattle.log_core.specs.worked_rows.Samples.{small_shape}
-use Rattle.log_core.specs.worked_rows.CoreGaps.{synced_short, BegunPastEnd, PartsOfAnother, MadeMore, OvertakenByNone, SyncedBeforeStart, WriteOfAnotherSize, EntryOfAnotherSize}
+use Rattle.log_core.specs.worked_rows.CoreGaps.{synced_short, BegunPastEnd, PartsOfAnother, MadeMore, OvertakenByNone, SyncedBeforeStart, WriteOfAnotherSize, EntryOfAnotherSize, HeadBeforeTail}
 use Rattle.log_core.proofs.row_checks.RowTells.{said, offset_said}
 use Rattle.log_core.proofs.row_checks.RowsWrong.{one_part}
 
@@ -74,4 +79,38 @@ entry_of_another_size = (
   refl,
   λ holds. (let size = ap said holds.answers in omega (arith, size)),
   λ holds. (let size = holds.sizes 1 (omega arith) (omega arith) in omega (arith, size)),
+)
+
+-- what the first generation names and the second does not, where the second entry is the first again
+left_here : (block : ℕ) → ((3 == block) || false) ≡ (((3 == block) || ((4 == block) || ((1 == block) || ((1 == block) || false)))) && not ((5 == block) || ((4 == block) || ((1 == block) || ((1 == block) || false)))))
+left_here block = grind (arith, nat_tests)
+
+pub head_before_tail : HeadBeforeTail
+head_before_tail = (
+  refl,
+  refl,
+  refl,
+  (λ holds. (let low = holds.from_first in omega (arith, low)), tt),
+  λ may. false≢true may.at_tail,
+  record {
+    valid = refl;
+    ready = refl;
+    at_tail = refl;
+    job = refl;
+    not_put = refl;
+    nothing_left = refl;
+    pinned = refl;
+    generation = refl;
+    below_limit = omega arith;
+    next_is = refl;
+    above = omega arith;
+    cut = refl;
+    cut_block = refl;
+    owned = λ block named. in_all (λ b. is_fenced right_snapshot.blocks.owned b) (5 ∷ []) block refl named;
+    in_log = λ block named. in_all (λ b. is_in_log small_shape b) (5 ∷ []) block refl named;
+    once = refl;
+    snapshot = record { some = omega arith; words = (refl, refl, refl, refl, tt); map_is = λ virt. refl };
+    apart = (λ virt touched. refl, tt);
+    replaced = left_here;
+  },
 )

@@ -13,21 +13,19 @@ use Rattle.log_image.specs.Stands.{Stands}
 use Rattle.log_image.proofs.OneChain.{one_linked}
 use Rattle.persistence.specs.Memory.{Memory, cell}
 use Rattle.persistence.specs.Survivors.{IsPossible, Survives}
-use Rattle.log_core.specs.Views.{view_of, op_of}
+use Rattle.log_core.specs.Views.{MarkedWord, view_of, op_of}
 use Rattle.log_core.specs.Origin.{Origin, first_position}
 use Rattle.log_core.specs.Cores.{Core}
 use Rattle.log_core.specs.Works.{Begins, is_quiet}
 use Rattle.log_core.specs.After.{op_or_size}
-use Rattle.log_core.specs.May.{OfHead, OfTrail, walked_trail, is_marked}
+use Rattle.log_core.specs.May.{OfHead, OfTrail, is_marked}
 use Rattle.log_core.specs.Runs.{IsReached}
 use Rattle.log_core.specs.Crashes.{file_after_first, IsRecovered}
 use Rattle.log_core.specs.worked_rows.Samples.{image_a}
-use Rattle.log_core.specs.worked_rows.Refused.{seat_zero}
 use Rattle.log_core.specs.worked_rows.Written.{own_put}
 use Rattle.log_core.specs.worked_rows.TwoWriters.{both_put}
 use Rattle.log_core.specs.worked_rows.Collecting.{head_put}
 use Rattle.log_core.specs.worked_rows.Crashed.{without_slot, with_old_head, EitherHeadStands, own_syncing, own_head_marked, own_entry_marked, own_synced, WriteMayBeLost, LaterWriteAlone, SyncedWriteStays}
-use Rattle.log_core.proofs.Trails.{is_on}
 use Rattle.log_core.proofs.clauses.OneView.{same_or_other}
 use Rattle.log_core.proofs.crashes.Recovered.{recovered, present_left}
 use Rattle.log_core.proofs.row_checks.RowsWrong.{one_part}
@@ -39,7 +37,7 @@ use Rattle.log_core.proofs.row_checks.RowsBothPut.{both_reached}
 use Rattle.log_core.proofs.row_checks.RowsHeadPut.{head_reached}
 
 -- words that a crash may leave, and with one that a word may be
-set_left : (memory : Memory) (words : List ℕ) (word value : ℕ) → Survives memory words → word < length words → IsPossible (cell memory word) value → Survives memory (set words word value)
+pub set_left : (memory : Memory) (words : List ℕ) (word value : ℕ) → Survives memory words → word < length words → IsPossible (cell memory word) value → Survives memory (set words word value)
 set_left memory words word value left inside possible = record {
   same_length = length-set words word value ∙ left.same_length;
   each = λ other small. same_or_other other word
@@ -51,18 +49,18 @@ set_left memory words word value left inside possible = record {
 
 -- what is left is after as many writes as its chain says
 module _ (o : Origin) (c : Core) (words : List ℕ) (is : IsRecovered o c words) (chain : List ℕ) (count : ℕ) (linked : IsLinked words (shape_of words) chain) (at : position_of words (shape_of words) chain ≡ first_position o + count) where
-  same_chain : is.stands.0 ≡ chain
-  same_chain = one_linked words (shape_of words) is.stands.0 chain is.stands.1.stands.is_chain.linked linked
+  same_chain : is.opens.stands.0 ≡ chain
+  same_chain = one_linked words (shape_of words) is.opens.stands.0 chain is.opens.stands.1.stands.is_chain.linked linked
 
-  many : is.writes ≡ count
-  many = (let ends : position_of words (shape_of words) chain ≡ first_position o + is.writes = subst (λ (l : List ℕ). position_of words (shape_of words) l ≡ first_position o + is.writes) same_chain is.stands.1.stands.ends_at in
+  pub many : is.writes ≡ count
+  many = (let ends : position_of words (shape_of words) chain ≡ first_position o + is.writes = subst (λ (l : List ℕ). position_of words (shape_of words) l ≡ first_position o + is.writes) same_chain is.opens.stands.1.stands.ends_at in
       omega (arith, ends, at))
 
-  stands_after : Stands words (file_after_first o c count) (first_position o + count)
-  stands_after = subst (λ (k : ℕ). Stands words (file_after_first o c k) (first_position o + k)) many is.stands
+  pub stands_after : Stands words (file_after_first o c count) (first_position o + count)
+  stands_after = subst (λ (k : ℕ). Stands words (file_after_first o c k) (first_position o + k)) many is.opens.stands
 
 -- after a run
-left_after : (c : Core) (words : List ℕ) → IsReached image_a c → Survives c.memory words → IsRecovered image_a c words
+pub left_after : (c : Core) (words : List ℕ) → IsReached image_a c → Survives c.memory words → IsRecovered image_a c words
 left_after c words reached left = recovered image_a c image_starts (reached_holds image_a c image_starts reached) words left
 
 put_lost : Survives own_put.memory (without_slot own_put 27)
@@ -91,15 +89,15 @@ later_write_alone = (
   refl,
 )
 
-sync_steps : (op : Op) → op_of Sync [] ≡ Some op → is_quiet 64 op ≡ false
+pub sync_steps : (op : Op) → op_of Sync [] ≡ Some op → is_quiet 64 op ≡ false
 sync_steps op same = subst (λ (other : Op). is_quiet 64 other ≡ false) (ap op_or_size same) refl
 
 -- the words that a walk of one entry has read are marked with that
-one_marked : (place : ℕ) → is_on (walked_trail image_a own_entry_marked (seat_zero own_entry_marked)) place ≡ true → is_marked (view_of own_entry_marked.views 0).ghost.marks place ≡ true
-one_marked place on = by (27 == place) refl on
+pub one_marked : (marks : List MarkedWord) → is_marked marks 27 ≡ true → (place : ℕ) → ((27 == place) || false) ≡ true → is_marked marks place ≡ true
+one_marked marks marked place on = by (27 == place) refl on
   where
-    by : (same : Bool) → (27 == place) ≡ same → (same || false) ≡ true → is_marked (view_of own_entry_marked.views 0).ghost.marks place ≡ true
-    by true is found = subst (λ (k : ℕ). is_marked (view_of own_entry_marked.views 0).ghost.marks k ≡ true) (eqb-true 27 place is) refl
+    by : (same : Bool) → (27 == place) ≡ same → (same || false) ≡ true → is_marked marks place ≡ true
+    by true is found = subst (λ (k : ℕ). is_marked marks k ≡ true) (eqb-true 27 place is) marked
     by false is found = cc
 
 synced_reached : IsReached image_a own_synced
@@ -108,21 +106,22 @@ synced_reached =
     (record { none_runs = refl; not_won = refl; no_head = refl; no_marks = refl; none_laid = refl; steps = sync_steps }, tt) (omega arith) (record { valid = refl; named = refl }) in
     let head : IsReached image_a own_head_marked = step_reached image_a own_syncing 0 2 (Mark 3) [] begun (omega arith) (one_part 0) tt refl (OfHead refl refl refl) in
     let entry : IsReached image_a own_entry_marked = step_reached image_a own_head_marked 0 2 (Mark 27) [] head (omega arith) (one_part 0) tt refl (OfTrail refl refl refl) in
-    step_reached image_a own_entry_marked 0 2 Fence [] entry (omega arith) (one_part 0) tt refl (record { in_sync = λ job tail none. (refl, refl, record { head = refl; each = one_marked }) })
+    step_reached image_a own_entry_marked 0 2 Fence [] entry (omega arith) (one_part 0) tt refl (record { in_sync = λ job tail none. (refl, refl, record { head = refl; each = one_marked (view_of own_entry_marked.views 0).ghost.marks refl }) })
 
 marked_lost : Survives own_entry_marked.memory (without_slot own_entry_marked 27)
 marked_lost = set_left own_entry_marked.memory own_entry_marked.memory.now.words 27 0 (present_left own_entry_marked.memory) (omega arith) (record { index = 0; above = omega arith; inside = omega arith; same = refl })
 
-not_lost : Survives own_synced.memory (without_slot own_synced 27) → ⊥
-not_lost left = (let is : IsRecovered image_a own_synced (without_slot own_synced 27) = left_after own_synced (without_slot own_synced 27) synced_reached left in
-    let none = many image_a own_synced (without_slot own_synced 27) is (3 ∷ []) 0 (refl, refl) refl in
+-- without its first entry the log of a run with a synced one says that none is left
+pub not_lost : (c : Core) → IsReached image_a c → c.synced ≡ 1 → IsLinked (without_slot c 27) (shape_of (without_slot c 27)) (3 ∷ []) →
+    position_of (without_slot c 27) (shape_of (without_slot c 27)) (3 ∷ []) ≡ first_position image_a + 0 → Survives c.memory (without_slot c 27) → ⊥
+not_lost c reached to linked at left = (let is : IsRecovered image_a c (without_slot c 27) = left_after c (without_slot c 27) reached left in
+    let none = many image_a c (without_slot c 27) is (3 ∷ []) 0 linked at in
     let synced = is.synced in
-    let to : own_synced.synced ≡ 1 = refl in
     let first : first_position image_a ≡ 0 = refl in
     omega (arith, none, synced, to, first))
 
 pub synced_write_stays : SyncedWriteStays
-synced_write_stays = (synced_reached, refl, refl, marked_lost, not_lost)
+synced_write_stays = (synced_reached, refl, refl, marked_lost, not_lost own_synced synced_reached refl (refl, refl) refl)
 
 -- where a collection's head is not fenced yet
 entry_lost : Survives head_put.memory (without_slot head_put 27)

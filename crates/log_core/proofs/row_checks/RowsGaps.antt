@@ -30,6 +30,7 @@ snapshot_names_more = (
   record {
     valid = refl;
     ready = refl;
+    at_tail = refl;
     job = refl;
     not_put = refl;
     nothing_left = refl;

@@ -89,6 +89,7 @@ may_put : MayExchangeHead image_a other_fenced (view_of other_fenced.views 0).gh
 may_put = record {
   valid = refl;
   ready = refl;
+  at_tail = refl;
   job = refl;
   not_put = refl;
   nothing_left = refl;

@@ -74,6 +74,7 @@ may_put : MayExchangeHead image_a snapshot_fenced (view_of snapshot_fenced.views
 may_put = record {
   valid = refl;
   ready = refl;
+  at_tail = refl;
   job = refl;
   not_put = refl;
   nothing_left = refl;

@@ -45,6 +45,7 @@ may_try : MayExchangeHead image_a (kept_from put_core) (view_of (kept_from put_c
 may_try = record {
   valid = refl;
   ready = refl;
+  at_tail = refl;
   job = refl;
   not_put = refl;
   nothing_left = refl;

@@ -1,29 +1,34 @@
 -- Wrong cores that one clause alone refuses, and what a step would make of each without it.
-use Rattle.std.specs.Prelude.{◌≡◌, true, List, [], ◌∷◌, slice_set}
+use Rattle.std.specs.Prelude.{◌≡◌, true, false, List, [], ◌∷◌, slice_set, Some, None}
+use Rattle.std.specs.List.{AllByRecursion}
 use Rattle.log_entry.specs.declared.calls.Call.{Call}
 use Rattle.log_entry.specs.declared.calls.CollectRefusal.TheVariants.{Overtaken}
 use Rattle.log_entry.specs.declared.calls.Op.TheVariants.{Pwrite as PwriteOp, Append as AppendOp, Size as SizeOp}
-use Rattle.log_entry.specs.declared.calls.Reply.TheVariants.{Appended, Size as FileSize, NotCollected}
+use Rattle.log_entry.specs.declared.calls.Reply.TheVariants.{Appended, Size as FileSize, Collected, NotCollected}
 use Rattle.asks.specs.declared.ask.Ask.TheVariants.{Exchange}
 use Rattle.asks.specs.declared.ask.Place.TheVariants.{Image}
 use Rattle.pmem_words.specs.declared.keeps.Task.TheVariants.{Append}
 use Rattle.pmem_words.specs.Seats.{Seat}
 use Rattle.persistence.specs.Memory.{cell}
 use Rattle.log_core.specs.Views.{Ghost, view_of}
+use Rattle.log_core.specs.Origin.{Origin, first_position}
 use Rattle.log_core.specs.Files.{Write, entries, end_of, write_at, call_of, history_size_at}
 use Rattle.log_core.specs.Cores.{Core, first_core}
 use Rattle.log_core.specs.Steps.{Joins}
 use Rattle.log_core.specs.After.{after}
+use Rattle.log_core.specs.May.{MayExchangeHead}
 use Rattle.log_core.specs.Runs.{MayJoin}
+use Rattle.log_core.specs.Starts.{origin_of}
+use Rattle.log_core.specs.Histories.{running_collection}
 use Rattle.log_core.specs.Answers.{MayAdd}
 use Rattle.log_core.specs.Sizes.{Sizes}
 use Rattle.log_core.specs.Records.{WritesFit, WritesOnce, SeatsOnce, PutFits, RecordHolds, TailHolds}
 use Rattle.log_core.specs.Writes.{HistoryHolds}
 use Rattle.log_core.specs.Synced.{IsSynced}
 use Rattle.log_core.specs.Invariant.{Syncs}
-use Rattle.log_core.specs.worked_rows.Samples.{small_shape, image_a, stepping, walking}
+use Rattle.log_core.specs.worked_rows.Samples.{small, small_shape, image_a, stepping, walking}
 use Rattle.log_core.specs.worked_rows.Rows.{pinned, racing, won, linked, to_first, first_call, first_write, collect_call, image_c}
-use Rattle.log_core.specs.worked_rows.Refused.{seat_zero, with_past, RecordsOf}
+use Rattle.log_core.specs.worked_rows.Refused.{seat_zero, with_past, right_snapshot, RecordsOf}
 
 -- a call's first step counts as made where the end was 5, which there is not; and its seat walks to the tail
 abbrev pub begun_past : Core
@@ -118,3 +123,25 @@ EntryOfAnotherSize =
     (history_size_at image_a (entries image_a longer_write) 1 ≡ 1)
     × (RecordHolds image_a longer_write won.generations (record { position = 1; seat = 0; number = 2; op = SizeOp; reply = FileSize 1 }) → ⊥)
     × (HistoryHolds image_a longer_write → ⊥)
+
+-- a start at position 2: its first log block is sealed after an entry, and the next one has another
+abbrev pub two_logs : Origin
+two_logs = origin_of small 2 1 (slice_set linked.memory.now.words 35 to_first) (27 ∷ []) (3 ∷ 4 ∷ []) (170 ∷ [])
+
+-- a seat that has followed the link and not read on, with the snapshot at that position ready
+abbrev pub behind : Seat
+behind = record right_snapshot { walk = record (right_snapshot.walk) { at_tail = false } }
+
+abbrev pub behind_collection : List Call
+behind_collection = running_collection (record (view_of linked.views 0) { seat = behind }) (Some (record { generation = 2; base = 1; replaced = 1; limbo = 0 }))
+
+-- its collection would stand before the start's position, where no history has it. That a head is put in place at the tail alone refuses it; all
+-- else may be
+abbrev pub HeadBeforeTail : Type 0
+HeadBeforeTail =
+    (first_position two_logs ≡ 2)
+    × (behind.walk.position ≡ 1)
+    × (behind_collection ≡ collect_call (Collected (record { generation = 2; freed = 1; kept = 0; held = None })) ∷ [])
+    × AllByRecursion (λ (call : Call). RecordHolds two_logs [] (first_core two_logs).generations call → ⊥) behind_collection
+    × (MayExchangeHead two_logs (first_core two_logs) (view_of linked.views 0).ghost behind 4294967299 8589934597 → ⊥)
+    × MayExchangeHead two_logs (first_core two_logs) (view_of linked.views 0).ghost right_snapshot 4294967299 8589934597

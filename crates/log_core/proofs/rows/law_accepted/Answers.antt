@@ -14,6 +14,7 @@ use Rattle.log_core.proofs.row_checks.RowsWritten.{write_runs, entries_not_put}
 use Rattle.log_core.proofs.row_checks.RowsLinked.{link_runs}
 use Rattle.log_core.proofs.row_checks.RowsTwoWriters.{two_at_one_tail}
 use Rattle.log_core.proofs.row_checks.RowsBothPut.{second_loses, two_writers_run}
+use Rattle.log_core.proofs.row_checks.RowsPrinted.{printed_in_other_order, refused_between}
 use Rattle.log_core.proofs.row_checks.RowsCollecting.{two_collect}
 use Rattle.log_core.proofs.row_checks.RowsOvertaken.{collection_runs, overtaken_runs}
 use Rattle.log_core.proofs.row_checks.RowsReadAgain.{read_again_runs, used_again_runs}
@@ -39,6 +40,8 @@ returns c = record {
   two_at_one_tail = two_at_one_tail;
   second_loses = second_loses;
   two_writers_run = two_writers_run;
+  printed_in_other_order = printed_in_other_order;
+  refused_between = refused_between;
   two_collect = two_collect;
   collection_runs = collection_runs;
   overtaken_runs = overtaken_runs;
