@@ -19,7 +19,7 @@ use Rattle.block_bitmap.specs.Filling.{fill_script, block_next, marked_after}
 use Rattle.block_bitmap.specs.Filled.{filled_anew, filled_from}
 use Rattle.block_bitmap.specs.FillWithin.{IsCalm, IsFilled}
 use Rattle.block_bitmap.proofs.FillStanding.{IsStored, MarkStands, FillStands}
-use Rattle.block_bitmap.proofs.BlockWords.{q_range}
+use Rattle.log_core.proofs.BlockWords.{q_range}
 use Rattle.block_bitmap.proofs.OwnedFlags.{unfilled_many}
 use Rattle.block_bitmap.proofs.OwnedInCore.{few_owned}
 use Rattle.block_bitmap.proofs.FillOwned.{marked_here, marked_other, head_unmarked}

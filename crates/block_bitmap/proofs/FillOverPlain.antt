@@ -14,7 +14,7 @@ use Rattle.block_bitmap.specs.declared.fill.Fill.TheVariants.{Store, Mark, Fence
 use Rattle.block_bitmap.specs.OwnedWords.{owned_block_at, image_word, content_at, unfilled, with_filled_block, all_fenced}
 use Rattle.block_bitmap.specs.Filling.{fill_of, fill_script, block_next}
 use Rattle.block_bitmap.specs.Filled.{with_block_words_from, with_blocks, filled_anew, filled_seat, HasWordsOf}
-use Rattle.block_bitmap.proofs.BlockWords.{q_range}
+use Rattle.log_core.proofs.BlockWords.{q_range}
 use Rattle.block_bitmap.proofs.OwnedFlags.{owning, stored_in, unfilled_each, unfilled_many, anew_each, anew_many, still_unfilled}
 
 -- the first of more words than one is not the last

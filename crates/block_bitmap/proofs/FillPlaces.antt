@@ -15,7 +15,7 @@ use Rattle.log_core.proofs.clauses.OwnedLists.{block_of}
 use Rattle.block_bitmap.specs.OwnedWords.{owned_block_at, image_word, content_at, unfilled}
 use Rattle.block_bitmap.specs.Filling.{HasBlocks}
 use Rattle.block_bitmap.proofs.FillStanding.{IsAtBlock}
-use Rattle.block_bitmap.proofs.BlockWords.{q_range}
+use Rattle.log_core.proofs.BlockWords.{q_range}
 use Rattle.block_bitmap.proofs.OwnedFlags.{both_marks, owning}
 use Rattle.block_bitmap.proofs.FillOwned.{has_at, set_by_number}
 

@@ -16,7 +16,7 @@ use Rattle.block_bitmap.specs.Filling.{fill_script, stored_next}
 use Rattle.block_bitmap.specs.Filled.{filled_from}
 use Rattle.block_bitmap.specs.FillWithin.{IsFilled}
 use Rattle.block_bitmap.proofs.FillStanding.{IsStored, stored_to, IsAtBlock, StoreStands, FillStands}
-use Rattle.block_bitmap.proofs.BlockWords.{q_range}
+use Rattle.log_core.proofs.BlockWords.{q_range}
 use Rattle.block_bitmap.proofs.OwnedFlags.{unfilled_each, unfilled_many}
 use Rattle.block_bitmap.proofs.OwnedInCore.{few_owned}
 use Rattle.block_bitmap.proofs.FillOwned.{stored_here}

@@ -14,7 +14,7 @@ use Rattle.block_bitmap.specs.Filling.{fill_of, fill_script, fill_lowers}
 use Rattle.block_bitmap.specs.Filled.{filled_seat}
 use Rattle.block_bitmap.specs.FillWithin.{MayFill, IsFilled, FillsWithin, FilledAreCertain}
 use Rattle.block_bitmap.proofs.FillStanding.{StoreStands, FillStands}
-use Rattle.block_bitmap.proofs.BlockWords.{q_range}
+use Rattle.log_core.proofs.BlockWords.{q_range}
 use Rattle.block_bitmap.proofs.FilledSeats.{fenced_many, filled_geometry, same_word, same_content}
 use Rattle.block_bitmap.proofs.FillServes.{fill_serves}
 

@@ -15,7 +15,6 @@ pub mod TakeStanding
 pub mod TakeSettles
 pub mod TakeServes
 pub mod TakeWithinCore
-pub mod BlockWords
 pub mod OwnedFlags
 pub mod FillOverPlain
 pub mod FillSteps

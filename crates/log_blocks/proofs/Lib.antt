@@ -4,3 +4,4 @@ pub mod Loading
 pub mod FoundWords
 pub mod WalkStanding
 pub mod KeptLists
+pub mod WalkWay

@@ -12,7 +12,7 @@ use Rattle.asks.specs.declared.ask.Place.TheVariants.{Image}
 use Rattle.pmem_words.specs.declared.keeps.KeptWord.{KeptWord}
 use Rattle.pmem_words.specs.declared.machine.Turn.TheVariants.{Go, Done}
 use Rattle.pmem_words.specs.Seats.{Seat, q_of}
-use Rattle.pmem_words.specs.Scripts.{Script}
+use Rattle.pmem_words.specs.Scripts.{After, Script}
 use Rattle.persistence.specs.Memory.{found_answer}
 use Rattle.log_core.specs.Entries.{place_in, head_place}
 use Rattle.log_core.specs.Views.{Ghost, view_of}
@@ -55,6 +55,17 @@ known_from_zero o c n s g pin began f = record {
   marks = f.marks;
   syncs = f.syncs;
 }
+
+-- a state comes from an earlier one by these computations of a call
+pub record IsComputed (g : Ghost) (e : Seat) (works : List Work) (t : Seat) : Type 0 where
+  pub may : MayWorkAll g e works
+  pub going_on : list_all is_going_on works ≡ true
+  pub gives : t ≡ state_after_all_work e works
+
+-- where the word is not the empty tail, the view has found none with it
+pub no_tail : (at_tail found : Bool) → found ≡ false → (at_tail || found) ≡ at_tail
+no_tail true found none = refl
+no_tail false found none = none
 
 module _ (o : Origin) (seat : ℕ) (s : Seat) (g : Ghost) (block slot : ℕ) where
   -- the pinned generation names the block in each core that knows the seat so
@@ -116,32 +127,32 @@ module _ (o : Origin) (seat : ℕ) (s : Seat) (g : Ghost) (block slot : ℕ) whe
           (image_facts o c seat s g pin 0 at_place inv (known_from_zero o c seat s g pin began knows) unspent may_image (omega arith)))
 
     -- a machine that loads it is lawful where it admits what may be found, and what it makes of the seat is what is computed with that
-    module _ {M Out : Type 0} (script : Script M Out) (P : M → Seat → Ghost → Type 0) (R : Out → Seat → Ghost → Type 0) (m : M) (asks : script.asks m s ≡ Load (Image at_place)) (works : ℕ → List Work) where
+    module _ {M Out : Type 0} (script : Script M Out) (P : M → Seat → Ghost → Type 0) (R : Out → Seat → Ghost → Type 0) (m : M) (asks : script.asks m s ≡ Load (Image at_place)) (works : ℕ → List Work)
+        (told : ℕ → After M Out) (after : (f : ℕ) → script.after m s f ≡ told f) where
       abbrev pub Found : ℕ → Type 0
       Found f = IsFound o seat s g (Load (Image at_place)) f
 
-      -- what is computed with the word
-      pub record Computed (f : ℕ) : Type 0 where
-        pub may : MayWorkAll g (seen f) (works f)
-        pub going_on : list_all is_going_on (works f) ≡ true
-        pub gives : (script.after m s f).seat ≡ state_after_all_work (seen f) (works f)
-
       pub lawful_load : ((c : Core) (pin began : ℕ) → Invariant o c → (view_of c.views seat).parts ≢ [] → Knows o c seat s g pin began → script.admits m s (found_answer c.memory (Load (Image at_place))))
-          → ((f : ℕ) → Found f → script.admits m s f → Computed f)
-          → ((f : ℕ) → Found f → script.admits m s f → (script.after m s f).turn ≡ Go → P (script.after m s f).machine (script.after m s f).seat g)
-          → ((f : ℕ) (out : Out) → Found f → script.admits m s f → (script.after m s f).turn ≡ Done out → R out (script.after m s f).seat g)
+          → ((f : ℕ) → Found f → script.admits m s f → IsComputed g (seen f) (works f) (told f).seat)
+          → ((f : ℕ) → Found f → script.admits m s f → (told f).turn ≡ Go → P (told f).machine (told f).seat g)
+          → ((f : ℕ) (out : Out) → Found f → script.admits m s f → (told f).turn ≡ Done out → R out (told f).seat g)
           → Lawful o seat script no_record P R m s g
       lawful_load admitted computed goes ends = record {
         may = λ c pin began inv unspent knows. subst (λ (ask : Ask). May o c g s (kind_of_ask (q_of_origin o) seat ask)) (sym asks) (may_known c pin began inv unspent knows);
         admitted = λ c pin began inv unspent knows. subst (λ (ask : Ask). script.admits m s (found_answer c.memory ask)) (sym asks) (admitted c pin began inv unspent knows);
         enters = λ f found admits. (let here = by_ask f found in
-            subst (λ (k : Kind). Enters (ghost_after g s (effect g.marks s k f) k f) (effect g.marks s k f) (script.after m s f).seat (adds_at no_record (script.after m s f).seat (script.after m s f).turn)) (sym (kind_found f here))
-            (subst (λ (e : Seat). Enters g e (script.after m s f).seat (adds_at no_record (script.after m s f).seat (script.after m s f).turn)) (sym (effect_is f))
-            (subst (λ (adds : List Call). Enters g (seen f) (script.after m s f).seat adds) (sym (none_at (script.after m s f).seat (script.after m s f).turn))
+            subst (λ (r : After M Out). Enters (ghost_found o seat (script.asks m s) s g f) (seat_found o seat (script.asks m s) s g f) r.seat (adds_at no_record r.seat r.turn)) (sym (after f))
+            (subst (λ (k : Kind). Enters (ghost_after g s (effect g.marks s k f) k f) (effect g.marks s k f) (told f).seat (adds_at no_record (told f).seat (told f).turn)) (sym (kind_found f here))
+            (subst (λ (e : Seat). Enters g e (told f).seat (adds_at no_record (told f).seat (told f).turn)) (sym (effect_is f))
+            (subst (λ (adds : List Call). Enters g (seen f) (told f).seat adds) (sym (none_at (told f).seat (told f).turn))
             (let is = computed f here admits in
-            subst (λ (t : Seat). Enters g (seen f) t []) (sym is.gives) (enters_works g (seen f) (works f) is.may is.going_on)))));
-        goes = λ f found admits go. (let here = by_ask f found in subst (λ (h : Ghost). P (script.after m s f).machine (script.after m s f).seat h) (sym (ghost_same f here)) (goes f here admits go));
-        ends = λ f out found admits done. (let here = by_ask f found in subst (λ (h : Ghost). R out (script.after m s f).seat h) (sym (ghost_same f here)) (ends f out here admits done));
+            subst (λ (t : Seat). Enters g (seen f) t []) (sym is.gives) (enters_works g (seen f) (works f) is.may is.going_on))))));
+        goes = λ f found admits. (let here = by_ask f found in
+            subst (λ (h : Ghost). (script.after m s f).turn ≡ Go → P (script.after m s f).machine (script.after m s f).seat h) (sym (ghost_same f here))
+            (subst (λ (r : After M Out). r.turn ≡ Go → P r.machine r.seat g) (sym (after f)) (goes f here admits)));
+        ends = λ f out found admits. (let here = by_ask f found in
+            subst (λ (h : Ghost). (script.after m s f).turn ≡ Done out → R out (script.after m s f).seat h) (sym (ghost_same f here))
+            (subst (λ (r : After M Out). r.turn ≡ Done out → R out r.seat g) (sym (after f)) (ends f out here admits)));
       }
         where
           by_ask : (f : ℕ) → IsFound o seat s g (script.asks m s) f → Found f

@@ -3,6 +3,7 @@ pub mod Each
 pub mod Facts
 pub mod BlockLists
 pub mod FewBlocks
+pub mod BlockWords
 pub mod BitmapFacts
 pub mod clauses
 pub mod LogTails

@@ -1,6 +1,6 @@
 use Rattle.std.proofs.Common.{◌≡◌, ◌≤◌, ◌*◌, arith, ap, ◌∙◌}
 use Rattle.pmem_words.specs.Seats.{q_of}
-use Rattle.block_bitmap.proofs.BlockWords.{q_range, few_words}
+use Rattle.log_core.proofs.BlockWords.{q_range, few_words}
 use Rattle.block_bitmap.proofs.words.image_word.Goals as goal
 
 pub overflow_mul-result : goal.overflow_mul-result
