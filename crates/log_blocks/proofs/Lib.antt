@@ -5,3 +5,5 @@ pub mod FoundWords
 pub mod WalkStanding
 pub mod KeptLists
 pub mod WalkWay
+pub mod WalkFront
+pub mod WalkSnapshot
