@@ -7,3 +7,4 @@ pub mod KeptLists
 pub mod WalkWay
 pub mod WalkFront
 pub mod WalkSnapshot
+pub mod FoundTail
