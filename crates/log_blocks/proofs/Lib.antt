@@ -8,3 +8,5 @@ pub mod WalkWay
 pub mod WalkFront
 pub mod WalkSnapshot
 pub mod FoundTail
+pub mod WalkTail
+pub mod WalkIndirect

@@ -54,6 +54,7 @@ pub record IsInBlock (block count : ℕ) (s : Seat) : Type 0 where
   pub words : List ℕ
   pub kept : s.walk.kept ≡ record { block = s.walk.tail_block; slot = s.walk.tail_slot; word = word } ∷ rows block 0 words
   pub count_is : length words ≡ count
+  pub apart : (count ≡ 0) ⊎ (block ≢ s.walk.tail_block)
 
 pub record IsAtBegin (s : Seat) : Type 0 where
   pub none_kept : s.walk.kept ≡ []
