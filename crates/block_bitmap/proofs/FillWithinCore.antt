@@ -1,13 +1,14 @@
 -- The law of filling owned blocks within a core; and what a fill leaves has one possible value in each word.
-use Rattle.std.proofs.Common.{◌≡◌, ◌<◌, ℕ, true, List, length, refl, ap, ◌∙◌, subst, arith}
+use Rattle.std.proofs.Common.{◌≡◌, ◌<◌, ℕ, true, List, length, refl, ap, subst, arith}
 use Rattle.pmem_words.specs.Owned.{owned_at}
 use Rattle.pmem_words.specs.Seats.{Seat, q_of}
 use Rattle.persistence.specs.Memory.{Cell, Replaced, PendingMark, cell}
-use Rattle.log_core.specs.Views.{View, Ghost}
+use Rattle.log_core.specs.Views.{Ghost}
 use Rattle.log_core.specs.Owned.{OwnedHold}
 use Rattle.log_core.specs.Certain.{IsCertain}
 use Rattle.log_core.proofs.machines.MachineLaws.{Law, promised}
 use Rattle.log_core.proofs.machines.Serving.{reached_keeps}
+use Rattle.log_core.proofs.machines.GoneOn.{knows_on}
 use Rattle.log_core.proofs.starts.StartMeets.{start_meets}
 use Rattle.block_bitmap.specs.OwnedWords.{image_word, content_at}
 use Rattle.block_bitmap.specs.Filling.{fill_of, fill_script, fill_lowers}
@@ -63,8 +64,8 @@ pub filled_are_certain : FilledAreCertain
 filled_are_certain o start seat first count rest begun s v left c reached at place word low high inside =
     (let inv = reached_keeps o (start_meets o start) c reached in
     let cells : ℕ → Cell = (λ (k : ℕ). cell c.memory k) in
-    let here : OwnedHold cells c.memory.past c.memory.pending seat v.ghost v.seat = subst (λ (u : View). OwnedHold cells c.memory.past c.memory.pending seat u.ghost u.seat) at (inv.owned seat) in
-    let is : v.seat ≡ filled_seat begun first count = left.seat ∙ left.fits.seat in
+    let known = knows_on o c seat inv v at left.unspent s left.seat in
+    let here : OwnedHold cells c.memory.past c.memory.pending seat v.ghost s = known.owned in
     let each = left.fits.each place low high in
-    filled_certain cells c.memory.past c.memory.pending seat first count begun v.ghost (subst (λ (t : Seat). OwnedHold cells c.memory.past c.memory.pending seat v.ghost t) is here) place word
+    filled_certain cells c.memory.past c.memory.pending seat first count begun v.ghost (subst (λ (t : Seat). OwnedHold cells c.memory.past c.memory.pending seat v.ghost t) left.fits.seat here) place word
     (subst (λ (t : Seat). (place < length t.blocks.owned) × ((owned_at t.blocks.owned place).filled ≡ true) × ((owned_at t.blocks.owned place).fenced ≡ true)) left.fits.seat each) inside)

@@ -16,8 +16,6 @@ pub mod TakeSettles
 pub mod TakeServes
 pub mod TakeWithinCore
 pub mod OwnedFlags
-pub mod FillOverPlain
-pub mod FillSteps
 pub mod GivenLemmas
 pub mod GiveSteps
 pub mod FillOwned

@@ -45,9 +45,7 @@ unmarked_twice owned p inside =
 abbrev pub owning : Seat → List OwnedBlock → Seat
 owning s owned = record s { blocks = record s.blocks { owned = owned } }
 
--- the owned blocks after a store, and after the last mark
-abbrev pub stored_in : Seat → ℕ → List OwnedBlock
-stored_in s p = with_fenced (with_filled s.blocks.owned p false) p false
+-- the owned blocks after a store, and after the last mark, are the same ones
 
 pub unfilled_each : (s : Seat) (p k : ℕ) → owned_block_at (unfilled s p) k ≡ owned_block_at s k
 unfilled_each s p k =

@@ -1,17 +1,11 @@
-//! The machines driven over a plain memory, where no other seat makes a step.
+//! Blocks taken over a plain memory, where no other seat makes a step.
 
 ghost use Rattle.std.specs.Prelude.{◌≡◌, ◌+◌, ◌*◌, ◌<◌, ◌≤◌, length, take};
 ghost use Rattle.log_entry.specs.Shape.{total_of};
-ghost use Rattle.pmem_words.specs.Seats.{q_of, owned_room};
-ghost use Rattle.pmem_words.specs.Courses.{over};
-ghost use Rattle.pmem_words.specs.Drives.{EndsIn};
-ghost use Rattle.pmem_words.specs.PlainWords.{plain};
+ghost use Rattle.pmem_words.specs.Seats.{owned_room};
 ghost use Rattle.block_bitmap.specs.TakeScript.{with_taken_blocks};
 ghost use Rattle.block_bitmap.specs.TakeAlone.{free_blocks, outcome, found_as, AreSet, HasPassed};
-ghost use Rattle.block_bitmap.specs.Filling.{fill_of, fill_script};
-ghost use Rattle.block_bitmap.specs.Filled.{HasWordsOf, filled_seat, with_blocks};
 
-use crate::fill::Fill;
 use crate::take::{Take, Taken};
 use log_entry::Area;
 use pmem_words::{Plain, SeatState, drive};
@@ -30,18 +24,4 @@ pub fn take_alone(seat: &mut SeatState, memory: &mut Plain, area: Area, count: u
 {
     let _words = seat.found().len();
     drive(Take::new(area, count), seat, memory)
-}
-
-/// Fills `count` owned blocks, at least one, from place `first` of their list on, in 2q steps each and a fence. The image has
-/// their words. Where the list has a block twice, the later one's content stays.
-pub fn fill_alone(seat: &mut SeatState, memory: &mut Plain, first: u16, count: u16)
-    requires some { 0 < count }
-    requires owned { first + count ≤ length seat.old.blocks.owned }
-    requires few { first + count ≤ 65536 }
-    requires inside { HasWordsOf seat.old first count memory.old.words }
-    ensures seat { seat.new ≡ filled_seat seat.old first count }
-    ensures memory { memory.new ≡ record memory.old { words = with_blocks seat.old first count memory.old.words } }
-    ensures steps { EndsIn (2 * q_of seat.old.geometry * count + 1) fill_script (over fill_script plain) (fill_of first count) seat.old memory.old result seat.new memory.new }
-{
-    drive(Fill::new(first, count), seat, memory)
 }

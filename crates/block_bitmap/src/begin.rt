@@ -31,5 +31,6 @@ pub fn begin_alone(seat: &mut SeatState, task: Task)
     seat.set_lost(0);
     seat.set_won(false);
     seat.set_sync_to(None);
+    seat.set_noting(false);
     seat.clear_found();
 }

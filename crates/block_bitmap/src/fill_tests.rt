@@ -4,39 +4,6 @@ use pmem_words::{Ask, Machine, Memory, OwnedBlock, Place, Plain, SeatState, Task
 use std::test::Fail;
 
 #[test]
-fn a_fill_stores_the_words_of_its_blocks(rt: HostRuntime) -> Result<(), Fail> {
-    let Ok(geometry) = Geometry::new(40, 4, 64) else {
-        return Ok(());
-    };
-    let mut seat = SeatState::new(rt.alloc(), geometry, 0, 1, 0)?;
-    seat.own(1, Area::Data);
-    seat.own(3, Area::Data);
-    seat.set_word(0, 0, 5);
-    seat.set_word(0, 7, 6);
-    seat.set_word(1, 0, 7);
-    seat.set_word(1, 7, 8);
-    let mut plain = Plain::new(
-        rt.alloc(),
-        vec![in rt.alloc(); 0u64; 32]?,
-        Vec::new(rt.alloc()),
-    )?;
-    fill_alone(&mut seat, &mut plain, 0, 2);
-    assert_eq!(rt; plain.perform(Ask::Load(Place::Image(8))), 5);
-    assert_eq!(rt; plain.perform(Ask::Load(Place::Image(15))), 6);
-    assert_eq!(rt; plain.perform(Ask::Load(Place::Image(24))), 7);
-    assert_eq!(rt; plain.perform(Ask::Load(Place::Image(31))), 8);
-    let first = OwnedBlock {
-        block: 1,
-        area: Area::Data,
-        filled: true,
-        fenced: true,
-    };
-    let second = OwnedBlock { block: 3, ..first };
-    assert_eq!(rt; seat.owned(), [first, second].as_slice());
-    Ok(())
-}
-
-#[test]
 fn a_fill_stores_word_by_word(rt: HostRuntime) -> Result<(), Fail> {
     let Ok(geometry) = Geometry::new(40, 4, 64) else {
         return Ok(());

@@ -17,7 +17,7 @@ mod take_bits;
 mod take_tests;
 mod words;
 
-pub use alone::{fill_alone, take_alone};
+pub use alone::take_alone;
 pub use begin::begin_alone;
 pub use fill::Fill;
 pub use give::{Give, GiveFrom};

@@ -1,5 +1,5 @@
 -- A machine that leads to its end within a core does so in a world, turn by turn.
-use Rattle.std.proofs.Common.{◌≡◌, ◌≢◌, ◌<◌, ℕ, List, [], length, refl, sym, ◌∙◌, ap, subst, arith, slice_set}
+use Rattle.std.proofs.Common.{◌≡◌, ◌≢◌, ◌<◌, ℕ, List, length, refl, sym, ◌∙◌, ap, subst, arith, slice_set}
 use Rattle.std.proofs.Math.Logic.{∥∥₁_elim, ∥∥₁_map}
 use Rattle.std.proofs.Math.Bridge.{le_prop}
 use Rattle.std.proofs.lemmas.List.{get_or-set_same, get_or-set_other, length-set}
@@ -23,9 +23,9 @@ use Rattle.log_core.specs.Within.{no_record, note_of, Did, IsReadyIn, within, Is
 use Rattle.log_core.specs.Promising.{StartCondition, EndCondition, Promises}
 use Rattle.log_core.proofs.clauses.OneView.{same_or_other}
 use Rattle.crash_model.specs.Worlds.{WorldNow, StandsForCore, FitsCore, HasFitting, seat_of, world_after, answer_in, told_in, turned}
-use Rattle.crash_model.specs.Led.{Held, Rests, Runs, Ended, IsIn, AmongIn, IsAmong, IsEach, IsLed, HasEndedInWorld, IsResting, HasLeft, IsTurnOf}
+use Rattle.crash_model.specs.Led.{Held, IsComputed, Rests, Runs, Ended, IsIn, AmongIn, IsAmong, IsEach, IsLed, HasEndedInWorld, IsResting, HasLeft, HasEndedAs, IsTurnOf}
 use Rattle.crash_model.proofs.Standing.{stands_after, stands_with}
-use Rattle.crash_model.proofs.Resting.{IsKnown, left_computed, number_next, next_may, known_in}
+use Rattle.crash_model.proofs.Resting.{IsKnown, number_next, next_may, known_in}
 
 module _ {M Out : Type 0} (F : Held) (seat : ℕ) (script : Script M Out) (rec : Out → Seat → List Call) (Q : Out → Seat → View → Type 0) (m : M) (w : WorldNow) where
   module _ (o : Origin) (c : Core) (led : AmongIn F seat (Runs script rec Q m) w o c) where
@@ -44,26 +44,26 @@ module _ {M Out : Type 0} (F : Held) (seat : ℕ) (script : Script M Out) (rec :
     ready : IsReadyIn o seat number script rec m s v
     ready = ready_now script (within o seat number script rec) Q led.here.holds.leads
 
-    allowed : Allowed o c (Does seat (script.asks m s) (note_of script rec number m s f))
+    allowed : Allowed o c (Does seat (script.asks m s) (note_of o seat number script rec m s v.ghost f))
     allowed = ready.can c led.stands.reached led.here.made refl
 
-    fits : FitsCore w seat (script.asks m s) o c (note_of script rec number m s f)
+    fits : FitsCore w seat (script.asks m s) o c (note_of o seat number script rec m s v.ghost f)
     fits = record { stands = led.stands; step = allowed; before = refl }
 
     answer_same : f ≡ answer_in script w seat m
     answer_same = ap (λ (x : Memory). found_answer x (script.asks m s)) led.stands.memory
 
     abbrev next : Core
-    next = after o c (Does seat (script.asks m s) (note_of script rec number m s f))
+    next = after o c (Does seat (script.asks m s) (note_of o seat number script rec m s v.ghost f))
 
     left : View
-    left = view_after v (kind_of_ask (q_of_origin o) seat (script.asks m s)) (note_of script rec number m s f) f
+    left = view_after v (kind_of_ask (q_of_origin o) seat (script.asks m s)) (note_of o seat number script rec m s v.ghost f) f
 
     view_next : view_of next.views seat ≡ left
     unfolding left
     view_next = get_or-set_same c.views seat left spent_view led.here.made
 
-    did : Did o seat v (script.asks m s) (note_of script rec number m s) f (view_of next.views seat)
+    did : Did o seat v (script.asks m s) (note_of o seat number script rec m s v.ghost) f (view_of next.views seat)
     unfolding left
     did = record { core = c; reached = led.stands.reached; made = led.here.made; at = refl; answer = refl; left = view_next }
 
@@ -72,14 +72,14 @@ module _ {M Out : Type 0} (F : Held) (seat : ℕ) (script : Script M Out) (rec :
 
     -- the seat is there, so it has what it was told
     seat_here : seat < length w.seats
-    seat_here = Rattle.crash_model.proofs.Standing.seat_made w seat (script.asks m s) ∣ (o, c, note_of script rec number m s f, fits) ∣₁
+    seat_here = Rattle.crash_model.proofs.Standing.seat_made w seat (script.asks m s) ∣ (o, c, note_of o seat number script rec m s v.ghost f, fits) ∣₁
 
     told : seat_of (turned script w seat m) seat ≡ (script.after m s f).seat
     told = get_or-set_same w.seats seat (told_in script w seat m).seat (new_seat no_geometry 0 0 0) seat_here ∙ ap (λ (a : ℕ). (script.after m s a).seat) (sym answer_same)
 
     stands_next : StandsForCore (turned script w seat m) o next
     stands_next = stands_with (world_after w seat (script.asks m s)) (slice_set w.seats seat (told_in script w seat m).seat) (length-set w.seats seat (told_in script w seat m).seat) o next
-        (stands_after w seat (script.asks m s) o c (note_of script rec number m s f) fits)
+        (stands_after w seat (script.asks m s) o c (note_of o seat number script rec m s v.ghost f) fits)
 
     made_next : seat < length next.views
     unfolding left
@@ -125,7 +125,7 @@ module _ {M Out : Type 0} (F : Held) (seat : ℕ) (script : Script M Out) (rec :
 
   -- the ask is a step that a fitting core state allows
   pub fits_among : IsAmong F seat (Runs script rec Q m) w → HasFitting w seat (script.asks m (seat_of w seat))
-  fits_among led = ∥∥₁_map led (λ l. (l.0, l.1, note_of script rec l.2.here.holds.number m (seat_of w seat) (found_answer l.1.memory (script.asks m (seat_of w seat))), fits l.0 l.1 l.2))
+  fits_among led = ∥∥₁_map led (λ l. (l.0, l.1, note_of l.0 seat l.2.here.holds.number script rec m (seat_of w seat) (view_of l.1.views seat).ghost (found_answer l.1.memory (script.asks m (seat_of w seat))), fits l.0 l.1 l.2))
 
   -- the answer is admitted
   pub admits_among : IsProp (script.admits m (seat_of w seat) (answer_in script w seat m)) → IsAmong F seat (Runs script rec Q m) w → script.admits m (seat_of w seat) (answer_in script w seat m)
@@ -185,20 +185,22 @@ among_weaker F E seat G H w of_seat of_others among = ∥∥₁_map among (λ a.
   },
 ))
 
--- where a machine leaves the seat its view's state, the seat is at rest after it
-pub rests_after : {Out : Type 0} (F : Held) (seat : ℕ) (Q : Out → Seat → View → Type 0) (out : Out) (w : WorldNow) → ((t : Seat) (v : View) → Q out t v → (v.parts ≢ []) × (t ≡ v.seat)) →
+-- where a machine leaves the seat a state that is computed from its view's, the seat is at rest after it
+pub rests_after : {Out : Type 0} (F : Held) (seat : ℕ) (Q : Out → Seat → View → Type 0) (out : Out) (w : WorldNow) → ((t : Seat) (v : View) → Q out t v → IsComputed v t) →
     IsAmong F seat (Ended Q out) w → IsAmong F seat Rests w
-rests_after F seat Q out w leaves ended = among_weaker F F seat (Ended Q out) Rests w (λ o s v left. (let l = leaves s v left in left_computed v s l.0 l.1)) (λ o other s v apart holds. holds) ended
+rests_after F seat Q out w leaves ended = among_weaker F F seat (Ended Q out) Rests w (λ o s v left. leaves s v left) (λ o other s v apart holds. holds) ended
 
-pub rests_ended : {Out : Type 0} (seat : ℕ) (Q : Out → Seat → View → Type 0) (out : Out) (w : WorldNow) → ((t : Seat) (v : View) → Q out t v → (v.parts ≢ []) × (t ≡ v.seat)) → HasEndedInWorld seat Q out w → IsResting w
+pub rests_ended : {Out : Type 0} (seat : ℕ) (Q : Out → Seat → View → Type 0) (out : Out) (w : WorldNow) → ((t : Seat) (v : View) → Q out t v → IsComputed v t) → HasEndedInWorld seat Q out w → IsResting w
 rests_ended seat Q out w leaves ended = put_back Rests seat Rests Rests w (λ o s v rests. rests) (λ o other s v apart rests. rests) (rests_after Rests seat Q out w leaves ended)
 
--- a machine that the core promises begins at a seat at rest, whatever the others are in the middle of, and leaves the seat its view's state
-pub begins_among : {M Out : Type 0} (F : Held) (seat : ℕ) (script : Script M Out) (m : M) (P : StartCondition) (R : EndCondition Out) (w : WorldNow) → Promises script P R m →
-    ((o : Origin) (c : Core) (g : Ghost) → IsKnown w o c seat g → P o seat (seat_of w seat) g) → IsAmong F seat Rests w → IsAmong F seat (Runs script no_record (λ out t v. HasLeft out t v) m) w
-begins_among {M} {Out} F seat script m P R w promises holds among = ∥∥₁_map among (λ a. (a.0, a.1, begin a.0 a.1 a.2))
+-- a machine that the core promises begins at a seat at rest, whatever the others are in the middle of, and leaves the seat a state that is
+-- computed from its view's, of which the promise's end holds
+pub begins_as : {M Out : Type 0} (F : Held) (seat : ℕ) (script : Script M Out) (m : M) (P : StartCondition) (R : EndCondition Out) (w : WorldNow) → Promises script P R m →
+    ((o : Origin) (c : Core) (g : Ghost) → IsKnown w o c seat g → P o seat (seat_of w seat) g) → IsAmong F seat Rests w →
+    IsAmong F seat (Runs script no_record (λ out t v. HasEndedAs R seat (seat_of w seat) out t v) m) w
+begins_as {M} {Out} F seat script m P R w promises holds among = ∥∥₁_map among (λ a. (a.0, a.1, begin a.0 a.1 a.2))
   where
-    begin : (o : Origin) (c : Core) → AmongIn F seat Rests w o c → AmongIn F seat (Runs script no_record (λ out t v. HasLeft out t v) m) w o c
+    begin : (o : Origin) (c : Core) → AmongIn F seat Rests w o c → AmongIn F seat (Runs script no_record (λ out t v. HasEndedAs R seat (seat_of w seat) out t v) m) w o c
     begin o c rests =
         (let at = rests.here in
         let v = view_of c.views seat in
@@ -210,8 +212,8 @@ begins_among {M} {Out} F seat script m P R w promises holds among = ∥∥₁_ma
             made = at.made;
             holds = record {
               number = number;
-              leads = leads_weaker script (within o seat number script no_record) (IsLeft v.done no_record (R o seat (seat_of w seat) g)) (λ out t u. HasLeft out t u)
-                  (λ out t u left. record { unspent = left.unspent; same = sym left.seat })
+              leads = leads_weaker script (within o seat number script no_record) (IsLeft v.done no_record (R o seat (seat_of w seat) g)) (λ out t u. HasEndedAs R seat (seat_of w seat) out t u)
+                  (λ out t u left. record { origin = o; ghost = g; left = record { unspent = left.unspent; begins = left.seat.computed }; ends = left.fits })
                   (promises o rests.stands.start seat number v.done (seat_of w seat) v (record {
                     unspent = at.holds.unspent;
                     begins = at.holds.begins;
@@ -224,12 +226,23 @@ begins_among {M} {Out} F seat script m P R w promises holds among = ∥∥₁_ma
           others = rests.others;
         })
 
+runs_weaker : {M Out : Type 0} (script : Script M Out) (rec : Out → Seat → List Call) (Q E : Out → Seat → View → Type 0) → ((out : Out) (t : Seat) (v : View) → Q out t v → E out t v) → (m : M) (o : Origin) (seat : ℕ) (s : Seat) (v : View) →
+    Runs script rec Q m o seat s v → Runs script rec E m o seat s v
+runs_weaker script rec Q E less m o seat s v runs = record { number = runs.number; leads = leads_weaker script (within o seat runs.number script rec) Q E less runs.leads }
+
+pub begins_among : {M Out : Type 0} (F : Held) (seat : ℕ) (script : Script M Out) (m : M) (P : StartCondition) (R : EndCondition Out) (w : WorldNow) → Promises script P R m →
+    ((o : Origin) (c : Core) (g : Ghost) → IsKnown w o c seat g → P o seat (seat_of w seat) g) → IsAmong F seat Rests w → IsAmong F seat (Runs script no_record (λ out t v. HasLeft out t v) m) w
+begins_among F seat script m P R w promises holds among =
+    among_weaker F F seat (Runs script no_record (λ out t v. HasEndedAs R seat (seat_of w seat) out t v) m) (Runs script no_record (λ out t v. HasLeft out t v) m) w
+    (λ o s v runs. runs_weaker script no_record (λ out t u. HasEndedAs R seat (seat_of w seat) out t u) (λ out t u. HasLeft out t u) (λ out t u ended. ended.left) m o seat s v runs) (λ o other s v apart holds. holds)
+    (begins_as F seat script m P R w promises holds among)
+
 pub begins_led : {M Out : Type 0} (seat : ℕ) (script : Script M Out) (m : M) (P : StartCondition) (R : EndCondition Out) (w : WorldNow) → Promises script P R m →
     ((o : Origin) (c : Core) (g : Ghost) → IsKnown w o c seat g → P o seat (seat_of w seat) g) → seat < length w.seats → IsResting w → IsLed seat script no_record (λ out t v. HasLeft out t v) m w
 begins_led seat script m P R w promises holds inside resting = begins_among Rests seat script m P R w promises holds (at_hand Rests seat w inside resting)
 
-pub left_all : {Out : Type 0} (out : Out) (t : Seat) (v : View) → HasLeft out t v → (v.parts ≢ []) × (t ≡ v.seat)
-left_all out t v left = (left.unspent, left.same)
+pub left_all : {Out : Type 0} (out : Out) (t : Seat) (v : View) → HasLeft out t v → IsComputed v t
+left_all out t v left = record { unspent = left.unspent; begins = left.begins }
 
 -- marks are a seat's own
 others_marks : (m : Memory) (seat other : ℕ) (ask : Ask) → other ≢ seat → pending_of other (memory_after m seat ask).pending ≡ pending_of other m.pending
@@ -255,7 +268,7 @@ module _ {M Out : Type 0} (script : Script M Out) (w : WorldNow) (seat : ℕ) (m
     may = λ may. subst (λ (s : Seat). May seat s) (sym told_seat) (keeps may);
   }
 
--- a turn of a machine that leaves the seat its view's state at its end: it is a turn, and after the last one each seat is at rest
+-- a turn of a machine that leaves the seat so at its end: it is a turn, and after the last one each seat is at rest
 module _ {M Out : Type 0} (script : Script M Out) (w : WorldNow) (seat : ℕ) (m : M) (led : IsLed seat script no_record (λ out t v. HasLeft out t v) m w) where
   pub turn_led : (May : ℕ → Seat → Type 0) → 0 < w.cells.room → (May seat (seat_of w seat) → May seat (told_in script w seat m).seat) → IsTurnOf May w (turned script w seat m) seat
   turn_led May some keeps = is_turn script w seat m (inside_led seat script no_record (λ out t v. HasLeft out t v) m w led) May some keeps

@@ -7,11 +7,12 @@ use Rattle.pmem_words.specs.Seats.{Seat}
 use Rattle.pmem_words.specs.Scripts.{Script}
 use Rattle.pmem_words.specs.Leads.{Leads}
 use Rattle.persistence.specs.Memory.{pending_of}
-use Rattle.log_core.specs.Views.{View, view_of, op_in, op_of}
+use Rattle.log_core.specs.Views.{View, Ghost, view_of, op_in, op_of}
 use Rattle.log_core.specs.Origin.{Origin}
 use Rattle.log_core.specs.Cores.{Core}
 use Rattle.log_core.specs.Works.{Computes, laid_bytes, is_quiet}
 use Rattle.log_core.specs.Within.{within}
+use Rattle.log_core.specs.Promising.{EndCondition}
 use Rattle.crash_model.specs.Worlds.{WorldNow, StandsForCore, seat_of}
 
 -- a view that is not spent is computed on to this state
@@ -79,10 +80,17 @@ pub record MayBeginAt (w : WorldNow) (seat : ℕ) (task : Task) (bytes : List �
   pub none_laid : laid_bytes task bytes ≡ []
   pub steps : (op : Op) → op_of task bytes ≡ Some op → is_quiet (seat_of w seat).geometry.block_bytes op ≡ false
 
--- a machine has left the seat its view's state
+-- a machine has left the seat a state that is computed from its view's
 pub record HasLeft {Out : Type 0} (out : Out) (t : Seat) (v : View) : Type 0 where
   pub unspent : v.parts ≢ []
-  pub same : t ≡ v.seat
+  pub begins : Computes v.ghost v.seat t
+
+-- and R holds there of that state, with what contracts alone see at the view, since some state with what they saw then
+pub record HasEndedAs {Out : Type 0} (R : EndCondition Out) (seat : ℕ) (from : Seat) (out : Out) (t : Seat) (v : View) : Type 0 where
+  pub origin : Origin
+  pub ghost : Ghost
+  pub left : HasLeft out t v
+  pub ends : R origin seat from ghost out t v.ghost
 
 -- a turn of a seat leaves the other seats and their marks, takes room for one step, and keeps what May says of the seat by its number
 pub record IsTurnOf (May : ℕ → Seat → Type 0) (w v : WorldNow) (seat : ℕ) : Type 0 where

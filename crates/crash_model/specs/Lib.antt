@@ -1,3 +1,4 @@
+pub mod Images
 pub mod Worlds
 pub mod Lending
 pub mod Led

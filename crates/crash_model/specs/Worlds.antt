@@ -1,23 +1,20 @@
--- A world: the memory of several seats, their states, and the two positions; and the core states that it stands for.
-use Rattle.std.specs.Prelude.{ℕ, ◌+◌, ◌≡◌, ◌==◌, ◌&&◌, not, Bool, true, false, List, length, map, slice_index_or, slice_set}
+-- A world: an image that several seats share, and their states; and the core states that it stands for.
+use Rattle.std.specs.Prelude.{ℕ, ◌≡◌, List, length, map, slice_index_or, slice_set}
 use Rattle.std.specs.List.{range_with_len}
-use Rattle.log_entry.specs.declared.layouts.TheConstants.{SEAL}
 use Rattle.log_entry.specs.declared.shapes.Geometry.{Geometry}
-use Rattle.log_image.specs.Stands.{Stands}
-use Rattle.pmem_words.specs.Seats.{Seat, new_seat, q_of}
+use Rattle.pmem_words.specs.Seats.{Seat, new_seat}
 use Rattle.pmem_words.specs.Scripts.{After, Script}
 use Rattle.asks.specs.declared.ask.Ask.{Ask}
 use Rattle.persistence.specs.Memory.{found_answer}
-use Rattle.persistence.specs.Cells.{CellsNow, cells_after, fresh_memory}
+use Rattle.persistence.specs.Cells.{CellsNow, fresh_memory}
 use Rattle.log_core.specs.Views.{no_geometry}
 use Rattle.log_core.specs.Origin.{Origin}
 use Rattle.log_core.specs.Files.{end_of}
 use Rattle.log_core.specs.Cores.{Core}
-use Rattle.log_core.specs.Steps.{Note, Does, Kind, ExchangesSlot, Fences, kind_of_ask, sync_fenced}
-use Rattle.log_core.specs.After.{after, synced_to}
+use Rattle.log_core.specs.Steps.{Note, Does}
 use Rattle.log_core.specs.Runs.{Allowed, IsReached}
 use Rattle.log_core.specs.Starts.{IsStart}
-use Rattle.log_core.specs.Crashes.{IsRecovered, file_after_first}
+use Rattle.crash_model.specs.Images.{SharedNow, image_after}
 
 -- the shape of the image; the memory with its room; the states of the seats, a seat's number being its place; the position that the
 -- log has come to; and the one up to which no crash loses an entry
@@ -56,30 +53,16 @@ pub record StandsForCore (w : WorldNow) (o : Origin) (c : Core) : Type 0 where
   pub position : end_of o c.history ≡ w.position
   pub synced : c.synced ≡ w.synced
 
--- how far the position rises with a step that has this answer: by an exchange that puts an entry in
-abbrev pub rise_if : Bool → ℕ
-rise_if true = 1
-rise_if false = 0
+-- the image of a world, and a world of an image and of states
+abbrev pub image_of : WorldNow → SharedNow
+image_of w = record { geometry = w.geometry; cells = w.cells; position = w.position; synced = w.synced }
 
-abbrev pub rises : Kind → ℕ → ℕ
-rises (ExchangesSlot word entry) f = rise_if ((f == 0) && not (entry == SEAL))
-rises _ f = 0
-
--- the synced position after a step of a seat with this state: it rises with the fence that a sync makes at its tail
-abbrev pub synced_by : ℕ → Seat → Kind → ℕ
-synced_by synced s Fences = synced_to synced s.calling.sync_to (sync_fenced s.calling.job s.walk.at_tail s.walk.position s.calling.sync_to)
-synced_by synced s _ = synced
+abbrev pub world_of : SharedNow → List Seat → WorldNow
+world_of i seats = record { geometry = i.geometry; cells = i.cells; seats = seats; position = i.position; synced = i.synced }
 
 -- the world after an ask of a seat: the seats' states stay, until their machines are told the answer
-abbrev pub kind_in : WorldNow → ℕ → Ask → Kind
-kind_in w seat ask = kind_of_ask (q_of w.geometry) seat ask
-
 abbrev pub world_after : WorldNow → ℕ → Ask → WorldNow
-world_after w seat ask = record w {
-  cells = cells_after w.cells seat ask;
-  position = w.position + rises (kind_in w seat ask) (found_answer w.cells.memory ask);
-  synced = synced_by w.synced (seat_of w seat) (kind_in w seat ask);
-}
+world_after w seat ask = world_of (image_after (image_of w) seat (seat_of w seat) ask) w.seats
 
 -- a core state fits an ask of a seat: the world stands for it, the ask is a step of that seat in it, and what the seat has computed
 -- since its last step makes its view's state the world's
@@ -91,24 +74,6 @@ pub record FitsCore (w : WorldNow) (seat : ℕ) (ask : Ask) (o : Origin) (c : Co
 -- there is one
 abbrev pub HasFitting : WorldNow → ℕ → Ask → Type 0
 HasFitting w seat ask = ∥ ((o : Origin) × (c : Core) × (note : Note) × FitsCore w seat ask o c note) ∥₁
-
--- for each, the answer is the one that comes there, and the world afterwards stands for the core state after the step
-abbrev pub StandsAfter : WorldNow → ℕ → Ask → ℕ → WorldNow → Type 0
-StandsAfter w seat ask answered later =
-    (o : Origin) (c : Core) (note : Note) → FitsCore w seat ask o c note → (found_answer c.memory ask ≡ answered) × StandsForCore later o (after o c (Does seat ask note))
-
--- a run from some start reaches a core state that the world stands for
-abbrev pub StandsForSome : WorldNow → Type 0
-StandsForSome w = ∥ ((o : Origin) × (c : Core) × StandsForCore w o c) ∥₁
-
--- words that a crash left of the world are recovered, of whichever run it stands for: they stand for the file after its first writes, among
--- them all up to the synced position
-abbrev pub AreRecovered : WorldNow → List ℕ → Type 0
-AreRecovered w words = (o : Origin) (c : Core) → StandsForCore w o c → IsRecovered o c words
-
--- words that stand for the file after all writes of the run that the world stands for, at its position
-abbrev pub HaveAllWrites : WorldNow → List ℕ → Type 0
-HaveAllWrites w words = (o : Origin) (c : Core) → StandsForCore w o c → Stands words (file_after_first o c (length c.history)) w.position
 
 -- a turn of a seat with a machine: what its ask finds, and the world after the machine was told
 abbrev pub answer_in : {M Out : Type 0} → Script M Out → WorldNow → ℕ → M → ℕ

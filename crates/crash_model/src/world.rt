@@ -3,39 +3,28 @@
 ghost use Rattle.std.specs.Prelude.{◌≡◌, ◌<◌, ◌≤◌, ◌^◌, ℕ, slice_index, max, length, IfOk, IsErr, map};
 ghost use Rattle.std.specs.List.{range_with_len};
 ghost use Rattle.pmem_words.specs.Seats.{new_seat};
-ghost use Rattle.log_core.specs.Steps.{kind_of_ask};
-ghost use Rattle.crash_model.specs.Worlds.{rises, synced_by};
 
+use crate::shared::SharedImage;
 use log_entry::Geometry;
-use log_entry::layouts::SEAL;
 use log_image::Start;
 use persistence::{Cells, Choice};
-use pmem_words::{Ask, Machine, Place, SeatState, Task, Turn};
+use pmem_words::{Ask, Machine, Memory, SeatState, Turn};
 use std::alloc::{AllocError, Global};
 use std::marker::Model;
 
-/// The image word that is the head.
-const HEAD_WORD: u32 = 3;
-
-/// The memory of several seats and their states. The positions are that of the log's last entry, and the one up to which no crash
-/// loses an entry.
+/// An image that several seats share, and their states.
 #[derive(Drop)]
 pub struct World {
-    geometry: Geometry,
-    cells: Cells,
+    image: SharedImage,
     seats: Vec<SeatState>,
-    position: u64,
-    synced: u64,
 }
 
 impl Model for World {
-    ghost use Rattle.crash_model.specs.Worlds.{WorldNow, StandsForSome};
+    ghost use Rattle.crash_model.specs.Worlds.{WorldNow, world_of};
 
     ghost Value = { WorldNow };
 
-    ghost view = { λ w. record { geometry = w.geometry; cells = w.cells; seats = w.seats.items; position = w.position; synced = w.synced } };
-
-    ghost invariant = { λ w. StandsForSome (record { geometry = w.geometry; cells = w.cells; seats = w.seats.items; position = w.position; synced = w.synced }) };
+    ghost view = { λ w. world_of w.image w.seats.items };
 }
 
 impl World {
@@ -45,7 +34,8 @@ impl World {
     ghost use Rattle.std.specs.Borrow.{sem};
     ghost use Rattle.persistence.specs.Memory.{found_answer};
     ghost use Rattle.persistence.specs.declared.survivors.Choice.TheVariants.{Newest};
-    ghost use Rattle.crash_model.specs.Worlds.{new_world, world_after, HasFitting, StandsAfter, seat_of, set_seat, answer_in, told_in, turned, AreRecovered, HaveAllWrites};
+    ghost use Rattle.crash_model.specs.Worlds.{new_world, world_of, image_of, HasFitting, world_after, seat_of, set_seat, answer_in, told_in, turned};
+    ghost use Rattle.crash_model.specs.Images.{AreRecovered, HaveAllWrites};
     ghost use Rattle.crash_model.specs.Led.{IsResting};
     ghost use Rattle.crash_model.specs.Lending.{LendsSeat};
 
@@ -53,14 +43,14 @@ impl World {
     pub fn position(&self) -> u64
         ensures { result ≡ self.now.position }
     {
-        self.position
+        self.image.position()
     }
 
     /// The position up to which no crash loses an entry.
     pub fn synced(&self) -> u64
         ensures { result ≡ self.now.synced }
     {
-        self.synced
+        self.image.synced()
     }
 
     /// Makes room for at least `steps` further steps. Only want of memory refuses it, and then nothing is changed.
@@ -68,7 +58,7 @@ impl World {
         ensures ok { IfOk result (λ _. self.new ≡ record self.old { cells = record self.old.cells { room = max self.old.cells.room steps } }) }
         ensures err { IsErr result → self.new ≡ self.old }
     {
-        self.cells.reserve(steps)
+        self.image.reserve(steps)
     }
 
     /// The words of the image as one crash may leave them, by a choice of the value of each word. They stand for the file after the first
@@ -77,10 +67,10 @@ impl World {
     pub fn survivors(&self, alloc: Global, choice: Choice) -> Result<Vec<u64>, AllocError>
         ensures chosen { IfOk result (λ words. words.items ≡ chosen choice self.now.cells.memory) }
         ensures survives { IfOk result (λ words. Survives self.now.cells.memory words.items) }
-        ensures recovered { IfOk result (λ words. AreRecovered self.now words.items) }
-        ensures newest { choice ≡ Newest → IfOk result (λ words. HaveAllWrites self.now words.items) }
+        ensures recovered { IfOk result (λ words. AreRecovered (image_of self.now) words.items) }
+        ensures newest { choice ≡ Newest → IfOk result (λ words. HaveAllWrites (image_of self.now) words.items) }
     {
-        self.cells.survivors(alloc, choice)
+        self.image.survivors(alloc, choice)
     }
 
     /// A world in which nothing was done on this image, with this many seats, from 1 to 16, each at rest. Only want of memory refuses
@@ -98,33 +88,28 @@ impl World {
         let states = new_seats(alloc, geometry, seats, position)?;
         let cells = Cells::new(alloc, words, taken, seats)?;
         Ok(World {
-            geometry,
-            cells,
+            image: SharedImage::fresh(geometry, cells, position),
             seats: states,
-            position,
-            synced: position,
         })
     }
 
-    /// Performs one step of a seat, and gives its answer. It needs room for a step. It also needs that there is a fitting core state:
-    /// one that a run from the start of the image reaches and that the world stands for, in which the ask is a step of that seat,
-    /// whose view with what was computed since its last step is the seat's state. For each of these the world afterwards stands for
-    /// the core state after the step. It takes no memory.
-    #[inline(always)]
-    pub fn perform(&mut self, seat: u8, ask: Ask) -> u64
-        requires room { 0 < self.old.cells.room }
-        requires fits { HasFitting self.old seat ask }
-        ensures answer { result ≡ found_answer self.old.cells.memory ask }
-        ensures same { self.new ≡ world_after self.old seat ask }
-        ensures stands { StandsAfter self.old seat ask result self.new }
+    /// The image, and the states of the seats: so a seat's machine is driven to its end.
+    pub fn into_parts(self) -> (SharedImage, Vec<SeatState>)
+        ensures image { result.0 ≡ image_of self }
+        ensures seats { result.1.items ≡ self.seats }
     {
-        let answer = self.cells.perform(seat, ask);
-        self.position += rise(self.geometry.q(), seat, ask, answer);
-        self.synced = synced_by(self.synced, &self.seats[seat as usize], ask);
-        answer
+        (self.image, self.seats)
     }
 
-    /// One turn of a seat: its machine asks, the step is performed as by `perform`, and the machine is told the answer.
+    /// A world of an image and the states of its seats.
+    pub fn from_parts(image: SharedImage, seats: Vec<SeatState>) -> World
+        ensures { result ≡ world_of image seats.items }
+    {
+        World { image, seats }
+    }
+
+    /// One turn of a seat: its machine asks, the image performs it, and the machine is told the answer. It needs room for a
+    /// step, and a core state that fits the ask (`SharedImage::perform`).
     pub fn turn<M: Machine>(&mut self, seat: u8, machine: &mut M) -> Turn<M::Out>
         requires room { 0 < self.old.cells.room }
         requires fits { HasFitting self.old seat (M.script.asks machine.old (seat_of self.old seat)) }
@@ -144,6 +129,17 @@ impl World {
         ensures { result ≡ M.script.asks machine.now (seat_of self.now seat) }
     {
         machine.ask(&self.seats[seat as usize])
+    }
+
+    /// Performs one step of a seat, and gives its answer.
+    #[inline(always)]
+    fn perform(&mut self, seat: u8, ask: Ask) -> u64
+        requires room { 0 < self.old.cells.room }
+        requires fits { HasFitting self.old seat ask }
+        ensures answer { result ≡ found_answer self.old.cells.memory ask }
+        ensures same { self.new ≡ world_after self.old seat ask }
+    {
+        self.image.perform(&self.seats[seat as usize], ask)
     }
 
     /// Tells a seat's machine an answer.
@@ -181,45 +177,6 @@ fn new_seats(
         states.push(SeatState::new(alloc, geometry, number, seats, position)?)?;
     }
     Ok(states)
-}
-
-/// How far the position rises with a step: by 1 where an exchange put an entry in a slot. `q` is the words of a block.
-fn rise(q: u32, seat: u8, ask: Ask, answer: u64) -> u64
-    requires { 0 < q }
-    ensures { result ≡ rises (kind_of_ask q seat ask) answer }
-{
-    match ask {
-        Ask::Exchange {
-            place: Place::Image(word),
-            old,
-            new,
-        } => {
-            if word == HEAD_WORD || old != 0 || word % q == 0 {
-                0
-            } else if answer == 0 && new != SEAL {
-                1
-            } else {
-                0
-            }
-        }
-        _ => 0,
-    }
-}
-
-/// The synced position after a step of a seat: it rises with the fence that a sync makes at its tail.
-fn synced_by(synced: u64, state: &SeatState, ask: Ask) -> u64
-    ensures { (q seat : ℕ) → result ≡ synced_by synced state.now (kind_of_ask q seat ask) }
-{
-    match ask {
-        Ask::Fence => {
-            if state.job() == Task::Sync && state.at_tail() && state.sync_to().is_none() {
-                synced.max(state.position())
-            } else {
-                synced
-            }
-        }
-        _ => synced,
-    }
 }
 
 /// Does nothing: its contract says of words that they have 64 bits, which a contract over a list of numbers has to be told.

@@ -2,9 +2,9 @@
 
 ghost use Rattle.drive_bench.specs.Blocks.{OwnsOne, HasBits};
 
-use block_bitmap::{Taken, fill_alone, take_alone};
+use block_bitmap::{Fill, Taken, take_alone};
 use log_entry::{Area, Geometry};
-use pmem_words::{Plain, SeatState};
+use pmem_words::{Plain, SeatState, drive};
 use std::alloc::{AllocError, Global};
 
 /// The words of a block, and of a bitmap of nearly 65,535 blocks.
@@ -17,7 +17,7 @@ fn fill_once(seat: &mut SeatState, memory: &mut Plain)
     requires { OwnsOne seat.old memory.old }
     ensures { OwnsOne seat.new memory.new }
 {
-    fill_alone(seat, memory, 0, 1);
+    drive(Fill::new(0, 1), seat, memory)
 }
 
 /// The same so many times.

@@ -26,8 +26,8 @@ impl Memory for Closed {
     ghost store = { plain };
 
     #[inline(never)]
-    fn perform(&mut self, ask: Ask) -> u64 {
-        self.plain.perform(ask)
+    fn perform(&mut self, seat: &SeatState, ask: Ask) -> u64 {
+        self.plain.perform(seat, ask)
     }
 }
 

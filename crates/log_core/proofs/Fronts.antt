@@ -148,4 +148,5 @@ module _ (o : Origin) (c : Core) (inv : Invariant o c) where
           inside = held.inside;
           word_is = subst (λ (b : ℕ). (word ≡ slice_index c.memory.now.words (place_in (shape o) b 1)) ⊎ ((word ≡ 0) × (is_listed (log_blocks (drop g.cut c.logs)) b ≡ true)))
               (ap (λ (l : List ℕ). first_or l (nth_log c.logs g.cut).block) none) word_is;
+          early = λ at. subst (λ (b : ℕ). word ≡ slice_index c.memory.now.words (place_in (shape o) b 1)) (ap (λ (l : List ℕ). first_or l (nth_log c.logs g.cut).block) none) (held.early at);
         }) is_snapshot)

@@ -21,6 +21,11 @@ pub mod PinnedChains
 pub mod WalkMaps
 pub mod BaseWords
 pub mod SnapshotReads
+pub mod SnapshotLinks
+pub mod NotedBits
+pub mod NotedNames
+pub mod NotedGrown
+pub mod NamesApart
 pub mod SnapshotNames
 pub mod ChainEntries
 pub mod MappedBlocks

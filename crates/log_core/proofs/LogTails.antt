@@ -38,6 +38,13 @@ log_at_base (log ∷ logs) zero inside apart = rw (eq-eqb log.base log.base refl
 log_at_base (log ∷ logs) (suc number) inside apart = rw (ne_eqb log.base (nth_log logs number).base (apart 0 (omega arith)))
     (log_at_base logs number (omega (arith, inside)) (λ other less. apart (suc other) (omega (arith, less))))
 
+-- and its number is the one of that base
+pub number_at_base : (logs : List LogBlock) (number : ℕ) → number < length logs → ((other : ℕ) → other < number → (nth_log logs other).base ≢ (nth_log logs number).base) → number_at logs (nth_log logs number).base ≡ number
+number_at_base [] number inside apart = absurd (omega (arith, inside))
+number_at_base (log ∷ logs) zero inside apart = rw (eq-eqb log.base log.base refl) refl
+number_at_base (log ∷ logs) (suc number) inside apart = rw (ne_eqb log.base (nth_log logs number).base (apart 0 (omega arith)))
+    (let rest = number_at_base logs number (omega (arith, inside)) (λ other less. apart (suc other) (omega (arith, less))) in omega (arith, rest))
+
 -- used slots have no more entries than they are; where each is one, none is a seal; and the first is one, where it is neither empty nor a seal
 pub entries_short : (slots : List ℕ) → length (entry_words slots) ≤ length slots
 entries_short [] = omega arith
@@ -125,6 +132,9 @@ module _ (o : Origin) (c : Core) (inv : Invariant o c) where
   -- so it is the one with its base
   pub log_again : (number : ℕ) → number < length c.logs → log_at c.logs (nth number).base ≡ nth number
   log_again number inside = log_at_base c.logs number inside (λ other less same. (let rise = bases_rise number other less inside in omega (arith, rise, same)))
+
+  pub number_again : (number : ℕ) → number < length c.logs → number_at c.logs (nth number).base ≡ number
+  number_again number inside = number_at_base c.logs number inside (λ other less same. (let rise = bases_rise number other less inside in omega (arith, rise, same)))
 
   -- no entry of a log block is past the end
   pub log_to_end : (number : ℕ) → number < length c.logs → (nth number).base + entries_used (nth number) ≤ end_of o c.history

@@ -109,12 +109,12 @@ module _ (content : ℕ → List ℕ) where
 
 -- a block of a snapshot links to the first log block, or to the block at the next place
 pub next_at : (image : Shape) (content : ℕ → List ℕ) (base size following : ℕ) (blocks : List ℕ) (place : ℕ) → AreSnapshotBlocks image content base size blocks following → place < length blocks →
-    (slice_index (content (slice_index blocks place)) 0 ≡ following) ⊎ ((place + 1 < length blocks) × (slice_index blocks (place + 1) ≡ slice_index (content (slice_index blocks place)) 0))
+    ((place + 1 ≡ length blocks) × (slice_index (content (slice_index blocks place)) 0 ≡ following)) ⊎ ((place + 1 < length blocks) × (slice_index blocks (place + 1) ≡ slice_index (content (slice_index blocks place)) 0))
 next_at image content base size following [] place are inside = absurd (omega (arith, inside))
-next_at image content base size following (block ∷ []) zero are inside = inl are.0
+next_at image content base size following (block ∷ []) zero are inside = inl (omega arith, are.0)
 next_at image content base size following (block ∷ next ∷ more) zero are inside = inr (omega arith, sym are.0)
 next_at image content base size following (block ∷ blocks) (suc place) are inside =
-    ⊎_elim (λ last. inl last) (λ later. inr (
+    ⊎_elim (λ last. inl ((let end = last.0 in omega (arith, end)), last.1)) (λ later. inr (
       (let more = later.0 in omega (arith, more)),
       subst (λ (k : ℕ). slice_index (block ∷ blocks) k ≡ slice_index (content (slice_index blocks place)) 0) (let same : suc (place + 1) ≡ suc place + 1 = omega arith in same) later.1,
     )) (next_at image content base size following blocks place are.4 (omega (arith, inside)))

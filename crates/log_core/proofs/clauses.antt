@@ -39,10 +39,12 @@ pub mod FencedContents
 pub mod HeadContents
 pub mod GrownContents
 pub mod GrownWalks
+pub mod GrownNoted
 pub mod GrownOthers
 pub mod GrownRecords
 pub mod GrowCore
 pub mod HeadOthers
+pub mod HeadNoted
 pub mod GrownKnows
 pub mod GrowingWords
 pub mod SlotAdded

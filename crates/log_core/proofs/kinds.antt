@@ -12,6 +12,9 @@ pub mod KeepsTable
 pub mod StartsFromLog
 pub mod StartsFromSnapshot
 pub mod ReadsSnapshot
+pub mod NotesSnapshot
+pub mod SeeksFirst
+pub mod NamesReplaced
 pub mod AtTail
 pub mod TakesEntry
 pub mod StoresWord

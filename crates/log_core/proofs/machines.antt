@@ -1,5 +1,7 @@
 -- Machines within a core.
+pub mod GoneOn
 pub mod Serving
+pub mod Bare
 pub mod Takes
 pub mod Entering
 pub mod Parts

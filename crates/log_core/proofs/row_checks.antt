@@ -36,6 +36,7 @@ pub mod RowsTwoWriters
 pub mod RowsBothPut
 pub mod RowsPrinted
 pub mod RowsCollecting
+pub mod RowsNotedGaps
 pub mod RowsHeadPut
 pub mod RowsGivenBack
 pub mod RowsOvertaken

@@ -1,4 +1,4 @@
--- The invariant of a core: ten clauses, each over the parts that it reads, and that the parts fit one another.
+-- The invariant of a core: eleven clauses, each over the parts that it reads, and that the parts fit one another.
 use Rattle.std.specs.Prelude.{ℕ, ◌+◌, ◌≤◌, ◌≡◌, ◌≢◌, Bool, List, []}
 use Rattle.std.specs.List.{AllByRecursion}
 use Rattle.persistence.specs.Memory.{Memory, cell}
@@ -14,6 +14,7 @@ use Rattle.log_core.specs.Owners.{BitsFit, ChainOwns, SeatsOwn, NamesOnce}
 use Rattle.log_core.specs.Contents.{GenerationHolds}
 use Rattle.log_core.specs.Pins.{PinWordsFit, PinsHold}
 use Rattle.log_core.specs.Walks.{Around, WalksHold}
+use Rattle.log_core.specs.Noted.{AllNoted}
 use Rattle.log_core.specs.Owned.{OwnedAllHold}
 use Rattle.log_core.specs.Giving.{GivingsHold, ScansHold}
 use Rattle.log_core.specs.Records.{WritesFit, WritesOnce, SeatsOnce, CollectedOnce, PutFits, RecordHolds, NeverFall, CallHolds, TailHolds, MarksFit}
@@ -98,6 +99,7 @@ pub record Invariant (o : Origin) (c : Core) : Type 0 where
   pub contents : Contents o c.memory c.history c.recorded c.owner c.generations c.logs (λ place. KeptIn o c place)
   pub pins : Pins o c.memory c.views c.generations
   pub walks : WalksHold (around o c) c.views
+  pub noted : AllNoted (around o c) c.views
   pub owned : OwnedAllHold (λ word. cell c.memory word) c.memory.past c.memory.pending c.views
   pub givings : Givings o c.memory c.views c.history c.generations c.logs
   pub records : Records o c.memory c.views c.history c.generations (λ seat. Rattle.std.specs.Prelude.slice_index c.began seat)

@@ -12,6 +12,7 @@ use Rattle.log_core.specs.Sizes.{SeatFits}
 use Rattle.log_core.specs.Owners.{SeatOwns}
 use Rattle.log_core.specs.Pins.{PinHolds}
 use Rattle.log_core.specs.Walks.{WalkHolds}
+use Rattle.log_core.specs.Noted.{NotedBy}
 use Rattle.log_core.specs.Owned.{OwnedHold}
 use Rattle.log_core.specs.Giving.{GivingHolds, ScanHolds}
 use Rattle.log_core.specs.Records.{WritesFit, WritesOnce, PutFits, CallHolds, TailHolds, MarksFit}
@@ -31,6 +32,7 @@ pub record Knows (o : Origin) (c : Core) (n : ℕ) (s : Seat) (g : Ghost) (pin b
   pub pin_is : pin ≡ s.hold.pin
   pub pin_holds : PinHolds (first_generation o) (current o c.generations) (cell c.memory head_place) s.hold
   pub walk : (view_of c.views n).parts ≢ [] → WalkHolds (around o c) s.hold s.walk
+  pub noted : (view_of c.views n).parts ≢ [] → NotedBy (around o c) s
   pub owned : OwnedHold (λ word. cell c.memory word) c.memory.past c.memory.pending n g s
   pub giving : GivingHolds (names_by o c.logs (entries o c.history) c.generations) (current o c.generations) (first_generation o + head_floor c.memory) s.giving
   pub scan_others : (k : ℕ) → k ≢ n → ScanHolds s.giving k (view_of c.views k).seat.hold

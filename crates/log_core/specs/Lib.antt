@@ -18,6 +18,7 @@ pub mod Owners
 pub mod Contents
 pub mod Pins
 pub mod Walks
+pub mod Noted
 pub mod Owned
 pub mod Writes
 pub mod Giving

@@ -41,25 +41,26 @@ pub record MayDo (o : Origin) (c : Core) (seat : ℕ) (ask : Ask) (note : Note) 
   pub unspent : (view_of c.views seat).parts ≢ []
   pub step : MayStep o c (view_of c.views seat) (kind_of_ask (q_of_origin o) seat ask) note (found_answer c.memory ask)
 
--- a split: of seat 0, before any call, where fewer seats are made than there may be
+-- a split: of seat 0, before any call (each has a number above 0), where fewer seats are made than there may be
 pub record MaySplit (o : Origin) (c : Core) (seat : ℕ) : Type 0 where
   pub first : seat ≡ 0
   pub made : 0 < length c.views
   pub unspent : (view_of c.views 0).parts ≢ []
-  pub no_record : (view_of c.views 0).done ≡ []
-  pub no_call : op_in (view_of c.views 0).seat ≡ None
   pub never_called : (view_of c.views 0).ghost.call.number ≡ 0
   pub room : (view_of c.views 0).made < o.seats
 
--- no call runs on a view, and it holds nothing but its records, its walk and the blocks kept from collections
-pub record IsIdle (v : View) : Type 0 where
-  pub no_call : op_in v.seat ≡ None
-  pub unpinned : v.seat.hold.pin ≡ 0
-  pub nothing_owned : v.seat.blocks.owned ≡ []
-  pub nothing_marked : v.ghost.marks ≡ []
-  pub not_won : v.seat.calling.won ≡ false
-  pub no_head : v.ghost.call.put ≡ None
-  pub nothing_replaced : v.seat.giving.replaced ≡ []
+-- no call runs at a seat, and it holds nothing but its walk and the blocks kept from collections
+pub record IsIdle (s : Seat) (g : Ghost) : Type 0 where
+  pub no_call : op_in s ≡ None
+  pub unpinned : s.hold.pin ≡ 0
+  pub nothing_owned : s.blocks.owned ≡ []
+  pub nothing_marked : g.marks ≡ []
+  pub not_won : s.calling.won ≡ false
+  pub no_head : g.call.put ≡ None
+  pub nothing_replaced : s.giving.replaced ≡ []
+
+abbrev pub IsIdleView : View → Type 0
+IsIdleView v = IsIdle v.seat v.ghost
 
 -- a join of two idle views
 pub record MayJoin (c : Core) (seat other : ℕ) : Type 0 where
@@ -68,8 +69,8 @@ pub record MayJoin (c : Core) (seat other : ℕ) : Type 0 where
   pub made_too : other < length c.views
   pub unspent : (view_of c.views seat).parts ≢ []
   pub unspent_too : (view_of c.views other).parts ≢ []
-  pub idle : IsIdle (view_of c.views seat)
-  pub idle_too : IsIdle (view_of c.views other)
+  pub idle : IsIdleView (view_of c.views seat)
+  pub idle_too : IsIdleView (view_of c.views other)
 
 -- the steps that seats make: those whose condition holds
 abbrev pub Allowed : Origin → Core → Step → Type 0

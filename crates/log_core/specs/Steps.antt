@@ -15,6 +15,7 @@ use Rattle.pmem_words.specs.declared.keeps.KeptWord.{KeptWord}
 use Rattle.pmem_words.specs.declared.keeps.Task.{Task}
 use Rattle.pmem_words.specs.declared.keeps.Task.TheVariants.{Sync}
 use Rattle.pmem_words.specs.declared.owned.OwnedBlock.{OwnedBlock}
+use Rattle.pmem_words.specs.Noted.{is_noted, noted_more}
 use Rattle.pmem_words.specs.Seats.{Seat, Hold, Walk, Blocks}
 use Rattle.asks.specs.Asks.{without_bits}
 use Rattle.asks.specs.declared.ask.Place.TheVariants.{Image, Pin, Map, FenceOf}
@@ -171,7 +172,7 @@ slot_sealed s word found false = record s { walk = record (s.walk) { kept = kept
 abbrev pub link_exchanged : Seat → ℕ → ℕ → ℕ → Bool → Seat
 link_exchanged s word block found true = record s {
   walk = record (s.walk) { tail_block = block; tail_slot = 3; tail_base = s.walk.position; at_tail = true };
-  blocks = blocks_but (words_of s) (λ other. other == block) s.blocks;
+  blocks = record (blocks_but (words_of s) (λ other. other == block) s.blocks) { named = noted_more s.calling.noting s.blocks.named (block ∷ []) };
 }
 link_exchanged s word block found false = record s { walk = record (s.walk) { kept = kept_with (words_of s) s.walk.kept word found } }
 
@@ -196,7 +197,7 @@ is_mapped blocks block = list_any (λ (held : Option ℕ). is_block block held) 
 -- of the map and the cut block, which is the tail's
 abbrev pub replaced_by : Seat → List ℕ
 replaced_by s =
-    filter (λ (block : ℕ). (bit_at (slice_index s.blocks.named (block / 64)) (block % 64) == 1) && not (is_mapped s.walk.map block) && not (block == s.walk.tail_block))
+    filter (λ (block : ℕ). is_noted s.blocks.named block && not (is_mapped s.walk.map block) && not (block == s.walk.tail_block))
     (range_with_len 1 (total (seat_shape s) - 1))
 
 -- an exchange of the head

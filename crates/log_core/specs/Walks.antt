@@ -11,7 +11,7 @@ use Rattle.pmem_words.specs.Maps.{map_at as mapped_at}
 use Rattle.log_image.specs.Chains.{is_listed}
 use Rattle.log_core.specs.Entries.{place_in, LogEntry}
 use Rattle.log_core.specs.Views.{View, view_of}
-use Rattle.log_core.specs.Origin.{Origin, shape, first_position, first_generation, LogBlock, Generation}
+use Rattle.log_core.specs.Origin.{Origin, shape, first_generation, LogBlock, Generation}
 use Rattle.log_core.specs.Files.{history_map_at, history_size_at}
 use Rattle.log_core.specs.Cores.{generation_at, is_named, nth_log, log_at, log_blocks, entries_used, is_full}
 
@@ -32,11 +32,13 @@ pub record HasRead (content : ℕ → List ℕ) (g : Generation) (w : Walk) : Ty
   pub size_is : w.size ≡ g.size
   pub position_is : w.position ≡ g.base
 
--- a kept word is the present one, of a block that the generation names; but for a slot or link of its log blocks that was found 0
+-- a kept word is the present one, of a block that the generation names; but for a slot or link of its log blocks that was found 0, and so
+-- neither a block's second word nor its third
 pub record IsKeptWord (image : Shape) (words : List ℕ) (is_named : ℕ → Bool) (logs : List LogBlock) (kept : KeptWord) : Type 0 where
   pub named : is_named kept.block ≡ true
   pub inside : kept.slot < words_in image
   pub word_is : (kept.word ≡ slice_index words (place_in image kept.block kept.slot)) ⊎ ((kept.word ≡ 0) × (is_listed (log_blocks logs) kept.block ≡ true))
+  pub early : (kept.slot ≡ 1) ⊎ (kept.slot ≡ 2) → kept.word ≡ slice_index words (place_in image kept.block kept.slot)
 
 -- a view that has walked: its table and size are those of its position, and its tail is a place of the log block with its tail's base
 pub record HasWalked (o : Origin) (es : List LogEntry) (logs : List LogBlock) (w : Walk) : Type 0 where
@@ -55,6 +57,11 @@ pub record IsFirstLog (o : Origin) (generations : List Generation) (logs : List 
   pub some : generation ≢ 0
   pub is : block ≡ (nth_log logs (generation_at o generations generation).cut).block
 
+-- a block is that of a place of a generation's snapshot
+pub record IsSnapshotBlock (g : Generation) (place block : ℕ) : Type 0 where
+  pub inside : place < length g.snapshots
+  pub block_is : slice_index g.snapshots place ≡ block
+
 -- the parts of a core that the clause reads beside the view; which generations are kept, by their places
 pub record Around : Type 1 where
   pub origin : Origin
@@ -66,11 +73,9 @@ pub record Around : Type 1 where
   pub recorded : ℕ → List ℕ
   pub kept : ℕ → Type 0
 
--- a view that has not walked is at the start's position. What is read of a snapshot is as far as it goes, as long as that generation
--- is kept. With a valid pin the kept words are those of the pinned chain, and without one there are none. A view that is ready has walked in the chain of its
--- generation. The first log block is that chain's, or not known. No position is past the end
+-- what is read of a snapshot is as far as it goes, as long as that generation is kept. With a valid pin the kept words are those of the pinned chain, and without one there are none. A view that is ready has walked in the chain of its
+-- generation. The first log block is that chain's, or not known; a block come to on the way to it is one of its snapshot. No position is past the end
 pub record WalkHolds (a : Around) (h : Hold) (w : Walk) : Type 0 where
-  pub unwalked : w.tail_block ≡ 0 → w.reading ≡ false → w.position ≡ first_position a.origin
   pub to_end : w.position ≤ a.end
   pub from_first : w.reading ≡ true → first_generation a.origin ≤ w.reading_generation
   pub to_current : w.reading ≡ true → w.reading_generation < first_generation a.origin + length a.generations
@@ -83,6 +88,7 @@ pub record WalkHolds (a : Around) (h : Hold) (w : Walk) : Type 0 where
   pub ready_walked : w.ready ≡ true → (w.tail_block ≢ 0) × (w.reading ≡ false) × (h.generation ≢ 0)
   pub ready_base : w.ready ≡ true → w.snapshot_base ≡ (generation_at a.origin a.generations h.generation).base
   pub ready_tail : w.ready ≡ true → w.snapshot_base ≤ w.tail_base
+  pub seeking : w.ready ≡ true → w.reading_block ≢ 0 → IsSnapshotBlock (generation_at a.origin a.generations h.generation) w.reading_place w.reading_block
   pub first_known : w.first_log ≢ 0 → IsFirstLog a.origin a.generations a.logs h.generation w.first_log
 
 abbrev pub WalksHold : Around → List View → Type 0

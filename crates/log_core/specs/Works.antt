@@ -12,15 +12,16 @@ use Rattle.log_entry.specs.declared.calls.Held.{Held}
 use Rattle.log_entry.specs.declared.calls.Op.{Op}
 use Rattle.log_entry.specs.declared.calls.Op.TheVariants.{Pwrite as PwriteOp, Append as AppendOp}
 use Rattle.log_entry.specs.declared.calls.Call.{Call}
-use Rattle.log_image.specs.Entries.{Meaning, direct_meaning}
-use Rattle.log_image.specs.Maps.{block_in}
+use Rattle.log_image.specs.Entries.{Meaning, direct_meaning, names}
+use Rattle.log_image.specs.Maps.{block_in, entry_end}
 use Rattle.log_image.specs.Image.{Shape, shape_by}
 use Rattle.pmem_words.specs.Owned.{with_filled, with_fenced}
 use Rattle.pmem_words.specs.declared.keeps.Task.{Task}
 use Rattle.pmem_words.specs.declared.keeps.Task.TheVariants.{Idle, Pread, Collect}
 use Rattle.pmem_words.specs.declared.keeps.KeptWord.{KeptWord}
 use Rattle.pmem_words.specs.Maps.{unmapped, map_at}
-use Rattle.pmem_words.specs.Seats.{Seat, Walk, Calling, q_of}
+use Rattle.pmem_words.specs.Noted.{noted_first, noted_more}
+use Rattle.pmem_words.specs.Seats.{Seat, Walk, Calling, Blocks, q_of}
 use Rattle.log_core.specs.Entries.{place_in, meaning_by}
 use Rattle.log_core.specs.Views.{Ghost, Stored, op_in, op_of}
 
@@ -31,6 +32,11 @@ seat_shape s = shape_by s.geometry
 -- the words of a block
 abbrev pub words_of : Seat → ℕ
 words_of s = q_of s.geometry
+
+-- a collection notes the blocks that its chain names: the first one alone where its walk begins, and more as it goes on
+abbrev pub is_collection : Task → Bool
+is_collection Collect = true
+is_collection _ = false
 
 -- a call that makes no step: a `pwrite` of no bytes, or a write that is refused on its arguments alone
 abbrev pub is_quiet : ℕ → Op → Bool
@@ -127,6 +133,10 @@ pub data Work : Type 0 where
   ReadsRun : Work
   NextSnapshot : Work
   EndsReading : Work
+  -- the first log block of a table that was kept: over the snapshot's blocks, its front, the next one, and the log block after the last
+  SeeksFirst : Work
+  SeeksNext : Work
+  FindsFirst : Work
   -- in the log: an entry, a seal, the link
   TakesEntry : Work
   TakesSeal : Work
@@ -142,7 +152,7 @@ pub data Work : Type 0 where
   -- the content of an owned block: a word of it; and that each word is stored and marked
   SetsWord : ℕ → ℕ → ℕ → Work
   CountsFilled : ℕ → Work
-  -- a collection notes the blocks that its chain names, keeps the replaced blocks for later, and notes the pin that holds earlier ones
+  -- a collection sets the bits of the blocks that it will leave, keeps the replaced blocks for later, and notes the pin that holds earlier ones
   NotesNamed : List ℕ → Work
   KeepsReplaced : Work
   NotesHeld : Option Held → Work
@@ -178,7 +188,7 @@ walk_from_log w block base = record w {
 
 -- the kept table is taken for one of the chain with this base. Where its tail is in the chain's first log block, that is known too
 abbrev pub walk_kept : Walk → ℕ → Walk
-walk_kept w base = record w { ready = true; snapshot_base = base; first_log = if base == w.tail_base then w.tail_block else w.first_log }
+walk_kept w base = record w { ready = true; snapshot_base = base; first_log = if base == w.tail_base then w.tail_block else w.first_log; reading_block = 0; reading_place = 0 }
 
 -- a walk that begins to read a snapshot
 abbrev pub walk_from_snapshot : Walk → ℕ → ℕ → ℕ → ℕ → Walk
@@ -214,12 +224,19 @@ walk_read w block = record w {
   kept = [];
 }
 
+-- a walk that looks for the first log block has come to this block of its snapshot, or has found it
+abbrev pub walk_seeking : Walk → ℕ → ℕ → Walk
+walk_seeking w block place = record w { reading_block = block; reading_place = place; kept = [] }
+
+abbrev pub walk_found : Walk → ℕ → Walk
+walk_found w block = record w { first_log = block; reading_block = 0; reading_place = 0; kept = [] }
+
 -- an entry is taken in
 abbrev pub walk_past : Shape → Walk → Meaning → Walk
 walk_past image w meaning = record w {
   position = w.position + 1;
   map = with_entry meaning w.map;
-  size = max w.size ((meaning.virt + length meaning.blocks) * image.block_bytes - meaning.leftover);
+  size = max w.size (entry_end image meaning);
   tail_slot = w.tail_slot + 1;
   at_tail = false;
   kept = [];
@@ -240,30 +257,57 @@ abbrev pub word_of_block : Seat → Option ℕ → ℕ → ℕ
 word_of_block s None slot = 0
 word_of_block s (Some block) slot = kept_word s block slot
 
+-- the bits of more blocks, where the call notes what its chain names
+abbrev pub blocks_noted : Seat → List ℕ → Blocks
+blocks_noted s blocks = record (s.blocks) { named = noted_more s.calling.noting s.blocks.named blocks }
+
+-- a walk begins at the front of its chain
+abbrev pub begun_at_front : Seat → Walk → Seat
+begun_at_front s w = record s {
+  walk = w;
+  calling = record (s.calling) { noting = is_collection s.calling.job };
+  blocks = record (s.blocks) { named = noted_first (is_collection s.calling.job) s.blocks.named (front s) };
+}
+
 abbrev pub state_after_work : Seat → Work → Seat
 state_after_work s (Begins task bytes) = record s {
   walk = walk_at_begin s.walk;
-  calling = record { job = task; bytes = bytes; bases = []; base_words = []; lost = 0; won = false; sync_to = None };
+  calling = record { job = task; bytes = bytes; bases = []; base_words = []; lost = 0; won = false; sync_to = None; noting = false };
   blocks = record (s.blocks) { found = replicate (length s.blocks.found) 0 };
   giving = record (s.giving) { limbo_held = held_at_begin task s.giving.limbo_held };
 }
-state_after_work s KeepsTable = record s { walk = walk_kept s.walk (front_base s) }
-state_after_work s StartsFromLog = record s { walk = walk_from_log s.walk (front s) (front_base s) }
-state_after_work s StartsFromSnapshot = record s { walk = walk_from_snapshot s.walk s.hold.generation (front s) (front_base s) (front_size s) }
+state_after_work s KeepsTable = record s { walk = walk_kept s.walk (front_base s); calling = record (s.calling) { noting = false } }
+state_after_work s StartsFromLog = begun_at_front s (walk_from_log s.walk (front s) (front_base s))
+state_after_work s StartsFromSnapshot = begun_at_front s (walk_from_snapshot s.walk s.hold.generation (front s) (front_base s) (front_size s))
 state_after_work s ReadsRun = record s {
   walk = record (s.walk) {
     map = with_entry (direct_meaning (kept_word s s.walk.reading_block s.walk.reading_slot)) s.walk.map;
     reading_slot = s.walk.reading_slot + 1;
     kept = [];
   };
+  blocks = blocks_noted s (names (direct_meaning (kept_word s s.walk.reading_block s.walk.reading_slot)));
 }
 state_after_work s NextSnapshot = record s {
   walk = record (s.walk) { reading_block = kept_word s s.walk.reading_block 0; reading_slot = 3; reading_place = s.walk.reading_place + 1; kept = [] };
+  blocks = blocks_noted s (kept_word s s.walk.reading_block 0 ∷ []);
 }
-state_after_work s EndsReading = record s { walk = walk_read s.walk (kept_word s s.walk.reading_block 0) }
-state_after_work s TakesEntry = record s { walk = walk_past (seat_shape s) s.walk (tail_meaning s); calling = without_bases (words_of s) (tail_meaning s) s.calling }
+state_after_work s EndsReading = record s {
+  walk = walk_read s.walk (kept_word s s.walk.reading_block 0);
+  blocks = blocks_noted s (kept_word s s.walk.reading_block 0 ∷ []);
+}
+state_after_work s SeeksFirst = record s { walk = walk_seeking s.walk (front s) 0 }
+state_after_work s SeeksNext = record s { walk = walk_seeking s.walk (kept_word s s.walk.reading_block 0) (s.walk.reading_place + 1) }
+state_after_work s FindsFirst = record s { walk = walk_found s.walk (kept_word s s.walk.reading_block 0) }
+state_after_work s TakesEntry = record s {
+  walk = walk_past (seat_shape s) s.walk (tail_meaning s);
+  calling = without_bases (words_of s) (tail_meaning s) s.calling;
+  blocks = blocks_noted s (names (tail_meaning s));
+}
 state_after_work s TakesSeal = record s { walk = record (s.walk) { tail_slot = words_of s; kept = [] } }
-state_after_work s Follows = record s { walk = record (s.walk) { tail_block = kept_word s s.walk.tail_block 0; tail_slot = 3; tail_base = s.walk.position; kept = [] } }
+state_after_work s Follows = record s {
+  walk = record (s.walk) { tail_block = kept_word s s.walk.tail_block 0; tail_slot = 3; tail_base = s.walk.position; kept = [] };
+  blocks = blocks_noted s (kept_word s s.walk.tail_block 0 ∷ []);
+}
 state_after_work s Forgets = record s { walk = record (s.walk) { kept = [] } }
 state_after_work s (OpensBase virt) = record s { calling = record (s.calling) { bases = s.calling.bases ++ virt ∷ [] } }
 state_after_work s AddsBaseWord = record s { calling = record (s.calling) { base_words = s.calling.base_words ++ word_of_block s (base_block s) (base_slot s) ∷ [] } }
@@ -276,7 +320,7 @@ state_after_work s (SetsWord place word value) = record s {
   };
 }
 state_after_work s (CountsFilled place) = record s { blocks = record (s.blocks) { owned = with_filled s.blocks.owned place true } }
-state_after_work s (NotesNamed words) = record s { blocks = record (s.blocks) { named = words } }
+state_after_work s (NotesNamed words) = record s { calling = record (s.calling) { noting = false }; blocks = record (s.blocks) { named = words } }
 state_after_work s KeepsReplaced = record s {
   giving = record (s.giving) {
     replaced = [];
@@ -316,13 +360,30 @@ pub record IsReading (s : Seat) : Type 0 where
   pub reading : s.walk.reading ≡ true
   pub pinned : s.walk.reading_generation ≡ s.hold.generation
 
--- its block at hand has no entry more, and the block that follows is of this kind
-pub record HasReadBlock (s : Seat) (kind : ℕ) : Type 0 where
-  pub reading : IsReading s
-  pub no_more : (s.walk.reading_slot ≡ words_of s) ⊎ (kept_at s.walk.kept s.walk.reading_block s.walk.reading_slot ≡ Some 0)
+-- the block that follows the snapshot's block at hand is known, and is of this kind
+pub record IsFollowed (s : Seat) (kind : ℕ) : Type 0 where
   pub link : kept_at s.walk.kept s.walk.reading_block 0 ≢ None
   pub next : kept_at s.walk.kept (kept_word s s.walk.reading_block 0) 1 ≢ None
   pub kind_is : field BLOCK_KIND (kept_word s (kept_word s s.walk.reading_block 0) 1) ≡ kind
+
+-- the block at hand has no entry more, and one of this kind follows
+pub record HasReadBlock (s : Seat) (kind : ℕ) : Type 0 where
+  pub reading : IsReading s
+  pub no_more : (s.walk.reading_slot ≡ words_of s) ⊎ (kept_at s.walk.kept s.walk.reading_block s.walk.reading_slot ≡ Some 0)
+  pub followed : IsFollowed s kind
+
+-- the first log block of a view that is ready may be looked for, from the front of its snapshot on
+pub record MaySeek (s : Seat) : Type 0 where
+  pub at_front : IsAtFront s
+  pub ready : s.walk.ready ≡ true
+  pub kind_is : front_kind s ≡ SNAPSHOT
+
+-- it has come to a block of the snapshot, and one of this kind follows
+pub record IsSeeking (s : Seat) (kind : ℕ) : Type 0 where
+  pub valid : MayBelieve s
+  pub ready : s.walk.ready ≡ true
+  pub come_to : s.walk.reading_block ≢ 0
+  pub followed : IsFollowed s kind
 
 -- a used slot was found at the tail of a view that is ready
 pub record HasFoundSlot (g : Ghost) (s : Seat) : Type 0 where
@@ -430,6 +491,9 @@ MayWork g s StartsFromSnapshot = MayStart g s SNAPSHOT × (kept_at s.walk.kept (
 MayWork g s ReadsRun = IsReading s × (kept_word s s.walk.reading_block s.walk.reading_slot ≢ 0)
 MayWork g s NextSnapshot = HasReadBlock s SNAPSHOT
 MayWork g s EndsReading = HasReadBlock s LOG
+MayWork g s SeeksFirst = MaySeek s
+MayWork g s SeeksNext = IsSeeking s SNAPSHOT
+MayWork g s FindsFirst = IsSeeking s LOG
 MayWork g s TakesEntry = HasFoundSlot g s × (tail_word s ≢ SEAL) × (field ENTRY_KIND (tail_word s) ≡ INDIRECT → IsKeptWhole s (field INDIRECT_BLOCK (tail_word s)))
 MayWork g s TakesSeal = HasFoundSlot g s × (tail_word s ≡ SEAL)
 MayWork g s Follows = HasFoundLink g s
@@ -467,4 +531,4 @@ is_going_on _ = true
 -- a call that adds its record has ended
 abbrev pub ended : List Call → Seat → Seat
 ended [] s = s
-ended (call ∷ calls) s = record s { calling = record (s.calling) { job = Idle; won = false; sync_to = None } }
+ended (call ∷ calls) s = record s { calling = record (s.calling) { job = Idle; won = false; sync_to = None; noting = false } }

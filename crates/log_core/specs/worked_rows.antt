@@ -16,6 +16,7 @@ pub mod Crashed
 pub mod TwoWriters
 pub mod Printed
 pub mod Collecting
+pub mod NotedGaps
 pub mod GivenBack
 pub mod ReadAgain
 pub mod OldPins

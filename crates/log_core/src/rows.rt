@@ -18,7 +18,8 @@ ghost use Rattle.log_core.specs.worked_rows.Refused.{OtherEntryPossible, HeadSki
 ghost use Rattle.log_core.specs.worked_rows.Gaps.{BitPastTheWord, MarkOfOwnedBlock, FloorAhead, SpentViewHolds};
 ghost use Rattle.log_core.specs.worked_rows.CallGaps.{TableOfAnother, BaseFromBefore, BasesDropped, BaseLeftOver, FirstBaseShort, TailNotWalked, HeadOfNoCollection, SyncOfNoSync, CallOfNoNumber};
 ghost use Rattle.log_core.specs.worked_rows.CoreGaps.{BegunPastEnd, PartsOfAnother, MadeMore, OvertakenByNone, SyncedBeforeStart, WriteOfAnotherSize, EntryOfAnotherSize, HeadBeforeTail};
-ghost use Rattle.log_core.specs.worked_rows.WalkGaps.{PlaceOfAnother, FirstLogOfAnother};
+ghost use Rattle.log_core.specs.worked_rows.WalkGaps.{PlaceOfAnother, FirstLogOfAnother, FirstLogFound};
+ghost use Rattle.log_core.specs.worked_rows.NotedGaps.{NotedOfAnother};
 ghost use Rattle.log_core.specs.worked_rows.Accepted.{PinMayBeStored, WordMayBeLoaded, WordMayBeMarked, EntryMayBePut, OrderStands, PinsStand, ViewsStand, OwnedStands, GivingsStand, RecordsStand, SyncsStand, ContentsStand, OwnersStand, PinRuns, WriteFits, ViewsJoin, ViewsSplit, LateWrite, LateSync, LateWalk, RunsMayBePut, CollectionsInTurn};
 
 /// Worked states and steps of small images: what each comes to.
@@ -103,6 +104,8 @@ pub fn law_gaps()
     ensures head_before_tail { HeadBeforeTail }
     ensures place_of_another { PlaceOfAnother }
     ensures first_log_of_another { FirstLogOfAnother }
+    ensures first_log_found { FirstLogFound }
+    ensures noted_of_another { NotedOfAnother }
 {}
 
 /// Conditions of steps, and clauses that hold of states that runs come to.

@@ -3,3 +3,4 @@ pub mod ScanLemmas
 pub mod ScanOverPlain
 pub mod PinWithin
 pub mod ScanWithin
+pub mod PinAlone

@@ -8,6 +8,11 @@ use Rattle.pmem_words.specs.Seats.{Seat}
 use Rattle.log_core.specs.Views.{Ghost}
 use Rattle.log_core.specs.Origin.{Origin}
 use Rattle.log_core.specs.Promising.{Promises}
+use Rattle.log_core.specs.Alone.{IsAlone, LeftAlone}
+use Rattle.asks.specs.SharedWords.{SharedWords}
+use Rattle.pmem_words.specs.Courses.{over}
+use Rattle.pmem_words.specs.Leads.{Leads}
+use Rattle.pmem_words.specs.PlainWords.{plain}
 use Rattle.pins.specs.declared.pin.Pin.TheVariants.{Begin}
 use Rattle.pins.specs.declared.scan.Scanned.{Scanned}
 use Rattle.pins.specs.declared.scan.Scanned.TheVariants.{Clear, Held}
@@ -30,6 +35,11 @@ pub record HasPinned (o : Origin) (seat : ℕ) (s0 : Seat) (g0 : Ghost) (out : H
 
 abbrev pub PinsWithin : Type 0
 PinsWithin = Promises pin_script MayPin HasPinned Begin
+
+-- where no other seat makes a step, it does so over a memory of one caller that has the words of a core, and then has those of a core with the
+-- same history
+abbrev pub PinsAlone : Type 0
+PinsAlone = (s : Seat) (p : SharedWords) (at : IsAlone MayPin s p) → Leads pin_script (over pin_script plain) (LeftAlone MayPin HasPinned s p at) Begin s p
 
 -- the seat has no pin and keeps no word, and is else as before
 pub record HasUnpinned (o : Origin) (seat : ℕ) (s0 : Seat) (g0 : Ghost) (out : Unit {0}) (s : Seat) (g : Ghost) : Type 0 where

@@ -67,8 +67,8 @@ fn a_scan_finds_the_first_pin_that_needs_a_generation(rt: HostRuntime) -> Result
     };
     let mut seat = SeatState::new(rt.alloc(), geometry, 1, 2, 0)?;
     let mut plain = Plain::new(rt.alloc(), Vec::new(rt.alloc()), Vec::new(rt.alloc()))?;
-    plain.perform(Ask::Store(Place::Pin(0), 1));
-    plain.perform(Ask::Store(Place::Pin(1), 2));
+    plain.perform(&seat, Ask::Store(Place::Pin(0), 1));
+    plain.perform(&seat, Ask::Store(Place::Pin(1), 2));
     let held = Scanned::Held(Held {
         seat: 0,
         generation: 1,

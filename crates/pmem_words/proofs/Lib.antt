@@ -9,4 +9,3 @@ pub mod LeadsLemmas
 pub mod PlainLemmas
 pub mod StageLemmas
 pub mod Stages
-pub mod StepCounts

@@ -62,9 +62,9 @@ module _ {A C OutA Out W : Type 0} (part : Script A OutA) (whole : Script C Out)
   stage_over embeds {m} {s} {w} k h =
       leads_through part whole (over part store) (over whole store) inject next (λ m' s' w'. K m' s') Q
       (λ m' s' w' k' now. record {
-        taken = subst (λ (x : Ask). store.takes w' x) (embeds.asks m' s') now.taken;
-        admitted = λ a v st. admits m' s' a k' (now.admitted a v (subst (λ (x : Ask). store.step w' x a v) (sym (embeds.asks m' s')) st));
+        taken = subst (λ (x : Ask). store.takes w' s' x) (embeds.asks m' s') now.taken;
+        admitted = λ a v st. admits m' s' a k' (now.admitted a v (subst (λ (x : Ask). store.step w' s' x a v) (sym (embeds.asks m' s')) st));
       })
-      (λ m' s' w' a v k' st. subst (λ (x : Ask). store.step w' x a v) (sym (embeds.asks m' s')) st)
+      (λ m' s' w' a v k' st. subst (λ (x : Ask). store.step w' s' x a v) (sym (embeds.asks m' s')) st)
       (λ m' s' w' a v k' now st go. keeps m' s' a k' (now.admitted a v st) go)
       embeds k h

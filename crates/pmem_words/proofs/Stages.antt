@@ -46,8 +46,8 @@ SafeOn whole course (Into n u) v = IsSafe whole course n u v
 SafeOn whole course (End end u) v = Unit {0}
 
 module _ {A C OutA Out W : Type 0} {part : Script A OutA} {whole : Script C Out} {inject : A → C} {next : OutA → Seat → Next C Out} (store : Conduct W) (embeds : Embeds part whole inject next) where
-  steps_too : (m : A) (s : Seat) (w : W) (a : ℕ) (v : W) → store.step w (part.asks m s) a v → store.step w (whole.asks (inject m) s) a v
-  steps_too m s w a v st = subst (λ (x : Ask). store.step w x a v) (embeds.asks m s) st
+  steps_too : (m : A) (s : Seat) (w : W) (a : ℕ) (v : W) → store.step w s (part.asks m s) a v → store.step w s (whole.asks (inject m) s) a v
+  steps_too m s w a v st = subst (λ (x : Ask). store.step w s x a v) (embeds.asks m s) st
 
   -- what is after an answer at which the part goes on, and at which it ends
   after_go : (m : A) (s : Seat) (a : ℕ) → (part.after m s a).turn ≡ Go → onward_at inject next (part.after m s a).machine (part.after m s a).seat Go ≡ whole.after (inject m) s a
@@ -70,7 +70,7 @@ module _ {A C OutA Out W : Type 0} {part : Script A OutA} {whole : Script C Out}
   )
 
   -- the part's last answer, by where the whole goes then
-  last_into : (m : A) (s : Seat) (w : W) (a : ℕ) (v : W) (c : C) (u : Seat) (answers : List ℕ) (d : C) (t : Seat) (x : W) → store.step w (part.asks m s) a v → moved (inject (part.after m s a).machine) (Into c u) ≡ whole.after (inject m) s a →
+  last_into : (m : A) (s : Seat) (w : W) (a : ℕ) (v : W) (c : C) (u : Seat) (answers : List ℕ) (d : C) (t : Seat) (x : W) → store.step w s (part.asks m s) a v → moved (inject (part.after m s a).machine) (Into c u) ≡ whole.after (inject m) s a →
       Goes whole (over whole store) c u v answers d t x → Goes whole (over whole store) (inject m) s w (a ∷ answers) d t x
   last_into m s w a v c u answers d t x st is g =
       (v, steps_too m s w a v st, sym (ap (λ (r : After C Out). r.turn) is), subst (λ (r : After C Out). Goes whole (over whole store) r.machine r.seat v answers d t x) is g)
@@ -97,7 +97,7 @@ module _ {A C OutA Out W : Type 0} {part : Script A OutA} {whole : Script C Out}
     memory = e.memory;
     goes = goes_stage e.answers m s w e.machine e.seat e.memory e.goes;
     last = e.last;
-    steps = subst (λ (y : W). store.step e.memory (whole.asks (inject e.machine) e.seat) e.last y) more.2 (steps_too e.machine e.seat e.memory e.last v e.steps);
+    steps = subst (λ (y : W). store.step e.memory e.seat (whole.asks (inject e.machine) e.seat) e.last y) more.2 (steps_too e.machine e.seat e.memory e.last v e.steps);
     ends = sym (ap (λ (y : After C Out). y.turn) is) ∙ ap (λ (y : Out). Done y) more.0;
     leaves = sym (ap (λ (y : After C Out). y.seat) is) ∙ more.1;
   }
@@ -124,7 +124,7 @@ module _ {A C OutA Out W : Type 0} {part : Script A OutA} {whole : Script C Out}
   safe_stage leaves m s w safe = λ answers n t v g.
       (let now = safe answers (inject n) t v (goes_stage answers m s w n t v g) in
       record {
-        taken = subst (λ (x : Ask). store.takes v x) (sym (embeds.asks n t)) now.taken;
+        taken = subst (λ (x : Ask). store.takes v t x) (sym (embeds.asks n t)) now.taken;
         admitted = λ a u st. leaves n t a (now.admitted a u (steps_too n t v a u st));
       })
 

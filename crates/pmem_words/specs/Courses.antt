@@ -11,14 +11,14 @@ pub record Course (M W : Type 0) : Type 1 where
 
 -- the memory takes the present ask, and the machine admits each answer that the memory may give
 pub record IsReady {M W Out : Type 0} (script : Script M Out) (store : Conduct W) (m : M) (s : Seat) (w : W) : Type 0 where
-  pub taken : store.takes w (script.asks m s)
-  pub admitted : (a : ℕ) (v : W) → store.step w (script.asks m s) a v → script.admits m s a
+  pub taken : store.takes w s (script.asks m s)
+  pub admitted : (a : ℕ) (v : W) → store.step w s (script.asks m s) a v → script.admits m s a
 
 -- a machine over a memory
 abbrev pub over : {M W Out : Type 0} → Script M Out → Conduct W → Course M W
 over script store = record {
   ready = λ m s w. IsReady script store m s w;
-  step = λ m s w a v. store.step w (script.asks m s) a v;
+  step = λ m s w a v. store.step w s (script.asks m s) a v;
 }
 
 -- steps that others may make: none, or some and then more

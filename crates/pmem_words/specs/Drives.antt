@@ -1,5 +1,5 @@
 -- What a list of answers leads to, and what it is to drive a machine.
-use Rattle.std.specs.Prelude.{ℕ, ◌≡◌, ◌+◌, List, [], ◌∷◌, length}
+use Rattle.std.specs.Prelude.{ℕ, ◌≡◌, List, [], ◌∷◌}
 use Rattle.pmem_words.specs.Seats.{Seat}
 use Rattle.pmem_words.specs.Scripts.{Script}
 use Rattle.pmem_words.specs.Courses.{Course}
@@ -28,7 +28,3 @@ pub record Ends {M W Out : Type 0} (script : Script M Out) (course : Course M W)
   pub steps : course.step machine seat memory last v
   pub ends : (script.after machine seat last).turn ≡ Done out
   pub leaves : (script.after machine seat last).seat ≡ t
-
--- the machine ended so, after this many steps
-abbrev pub EndsIn : {M W Out : Type 0} → ℕ → Script M Out → Course M W → M → Seat → W → Out → Seat → W → Type 0
-EndsIn steps script course m s w out t v = (e : Ends script course m s w out t v) × (length e.answers + 1 ≡ steps)

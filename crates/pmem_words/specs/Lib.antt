@@ -1,5 +1,6 @@
 pub mod Maps
 pub mod Owned
+pub mod Noted
 pub mod Seats
 pub mod Scripts
 pub mod Courses

@@ -15,5 +15,6 @@ pub record PlainStep (p : SharedWords) (ask : Ask) (a : ℕ) (q : SharedWords) :
   pub left : q ≡ words_after p ask
   pub small : a < 2 ^ 64
 
+-- whatever the seat's state
 abbrev pub plain : Conduct SharedWords
-plain = record { takes = plain_takes; step = PlainStep }
+plain = record { takes = λ p s ask. plain_takes p ask; step = λ p s ask a q. PlainStep p ask a q }

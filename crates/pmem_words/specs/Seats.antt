@@ -17,7 +17,7 @@ pub record Hold : Type 0 where
   pub valid : Bool
 
 -- what was walked: the position, the map from virtual to physical blocks and the size there, and the tail; and how far the
--- reading of a snapshot has come
+-- reading of a snapshot has come. Where none is read, its block and place are those come to on the way to the first log block
 pub record Walk : Type 0 where
   pub position : ℕ
   pub map : List (Option ℕ)
@@ -36,7 +36,8 @@ pub record Walk : Type 0 where
   pub reading_place : ℕ
   pub kept : List KeptWord
 
--- the present call; word j of the base at place k is number k * q + j of the base words
+-- the present call; word j of the base at place k is number k * q + j of the base words. `noting` says that the blocks named are
+-- kept: they are those that the chain names up to the walk's place
 pub record Calling : Type 0 where
   pub job : Task
   pub bytes : List ℕ
@@ -45,6 +46,7 @@ pub record Calling : Type 0 where
   pub lost : ℕ
   pub won : Bool
   pub sync_to : Option ℕ
+  pub noting : Bool
 
 -- blocks taken, found taken and named; word j of the owned block at place k is number k * q + j of the contents
 pub record Blocks : Type 0 where
@@ -116,7 +118,7 @@ unwalked position = record {
 
 -- no call
 abbrev pub no_calling : Calling
-no_calling = record { job = Idle; bytes = []; bases = []; base_words = []; lost = 0; won = false; sync_to = None }
+no_calling = record { job = Idle; bytes = []; bases = []; base_words = []; lost = 0; won = false; sync_to = None; noting = false }
 
 -- no blocks
 abbrev pub no_blocks : ℕ → Blocks

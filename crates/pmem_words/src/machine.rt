@@ -55,7 +55,7 @@ pub fn drive<M: Machine + Drop, W: Memory>(
     let mut machine = machine;
     loop {
         let ask = machine.ask(seat);
-        let answer = memory.perform(ask);
+        let answer = memory.perform(seat, ask);
         match machine.tell(seat, answer) {
             Turn::Go => {}
             Turn::Done(out) => return out,

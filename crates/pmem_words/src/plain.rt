@@ -5,6 +5,7 @@ ghost use Rattle.pmem_words.specs.declared.TheConstants.{SEATS};
 
 use crate::SEATS;
 use crate::memory::Memory;
+use crate::seat::SeatState;
 use asks::{Ask, Place};
 use std::alloc::{AllocError, Global};
 use std::marker::Model;
@@ -81,7 +82,7 @@ impl Memory for Plain {
     ghost store = { plain };
 
     #[inline(always)]
-    fn perform(&mut self, ask: Ask) -> u64 {
+    fn perform(&mut self, _seat: &SeatState, ask: Ask) -> u64 {
         match ask {
             Ask::Load(Place::FenceOf(_)) => 0,
             Ask::Load(place) => self.word(place),

@@ -53,6 +53,7 @@ pub struct SeatState {
     lost: u32,
     won: bool,
     sync_to: Option<u64>,
+    noting: bool,
 
     owned: OwnedBlocks,
     found: Vec<u64>,
@@ -98,7 +99,7 @@ impl Model for SeatState {
         reading_place = s.reading_place;
         kept = s.kept.items;
       };
-      calling = record { job = s.job; bytes = s.bytes.items; bases = s.bases.items; base_words = s.base_words.items; lost = s.lost; won = s.won; sync_to = s.sync_to };
+      calling = record { job = s.job; bytes = s.bytes.items; bases = s.bases.items; base_words = s.base_words.items; lost = s.lost; won = s.won; sync_to = s.sync_to; noting = s.noting };
       blocks = record { owned = s.owned.blocks; contents = s.owned.contents; found = s.found.items; named = s.named.items };
       giving = record {
         replaced = s.replaced.items;
@@ -184,6 +185,7 @@ impl SeatState {
             lost: 0,
             won: false,
             sync_to: None,
+            noting: false,
             owned,
             found,
             named,

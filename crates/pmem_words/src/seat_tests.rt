@@ -218,8 +218,16 @@ fn bits_of_blocks(rt: HostRuntime) -> Result<(), Fail> {
     assert_eq!(rt; seat.found().first(), Some(&0));
     seat.add_named(0, 6);
     assert_eq!(rt; seat.named().first(), Some(&6));
+    seat.remove_named(0, 2);
+    assert_eq!(rt; seat.named().first(), Some(&4));
     seat.clear_named();
     assert_eq!(rt; seat.named().first(), Some(&0));
+    seat.note_first(3);
+    seat.note(5);
+    assert_eq!(rt; seat.named().first(), Some(&8));
+    seat.set_noting(true);
+    seat.note(5);
+    assert_eq!(rt; seat.named().first(), Some(&40));
     Ok(())
 }
 

@@ -1,3 +1,4 @@
+pub mod PinDrives
 pub mod PinLemmas
 pub mod PairLemmas
 pub mod BlockLemmas

@@ -5,6 +5,7 @@
 mod block_tests;
 pub mod block_turns;
 pub mod pair_turns;
+pub mod pin_drives;
 #[cfg(test)]
 mod pin_tests;
 pub mod pin_turns;

@@ -6,6 +6,7 @@ ghost use Rattle.crash_model.specs.Led.{IsResting};
 ghost use Rattle.world_tests.specs.PinSeats.{MayTurn, MayLook};
 
 use crate::pair_turns::pin_and_scan;
+use crate::pin_drives::pin_at;
 use crate::pin_turns::{pin_in, scan_in, unpin_in};
 use crash_model::{Choice, World};
 use image_tools::mkfs;
@@ -75,5 +76,24 @@ fn a_pin_is_taken_while_another_seat_scans(rt: HostRuntime) -> Result<(), Fail> 
     };
     assert_eq!(rt; head, first);
     assert_eq!(rt; found, Scanned::Clear);
+    Ok(())
+}
+
+#[test]
+fn a_pin_is_driven_at_one_seat(rt: HostRuntime) -> Result<(), Fail> {
+    let Ok(geometry) = Geometry::new(2, 1, 64) else {
+        return Ok(());
+    };
+    let world = two_seats(rt.alloc(), geometry)?;
+    let (mut image, mut seats) = world.into_parts();
+    let head = pin_at(&mut image, seats.as_mut_slice(), 0);
+    let first = Head {
+        generation: 1,
+        block: 3,
+    };
+    assert_eq!(rt; head, first);
+    let mut world = World::from_parts(image, seats);
+    let seat = world.seat(0);
+    assert_eq!(rt; (seat.pin(), seat.valid()), (1, true));
     Ok(())
 }

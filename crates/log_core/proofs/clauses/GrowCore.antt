@@ -16,6 +16,7 @@ use Rattle.log_core.specs.Sizes.{Sizes, SeatFits}
 use Rattle.log_core.specs.Owners.{BitsFit, SeatOwns}
 use Rattle.log_core.specs.Pins.{PinHolds}
 use Rattle.log_core.specs.Walks.{WalkHolds}
+use Rattle.log_core.specs.Noted.{NotedBy}
 use Rattle.log_core.specs.Owned.{OwnedHold}
 use Rattle.log_core.specs.Giving.{GivingHolds, ScanHolds}
 use Rattle.log_core.specs.Records.{WritesFit, WritesOnce, SeatsOnce, PutFits, CallHolds, TailHolds, MarksFit, RecordHolds, NeverFall, one_if}
@@ -30,6 +31,8 @@ use Rattle.log_core.proofs.clauses.GrownWords.{floor_same}
 use Rattle.log_core.proofs.clauses.GrownNames.{bits_grown, chain_grown, once_grown, list_same}
 use Rattle.log_core.proofs.clauses.GrownOrder.{heads_grown, rise_grown, chains_grown, synced_grown}
 use Rattle.log_core.proofs.clauses.GrownContents.{contents_grown}
+use Rattle.log_core.proofs.NotedGrown.{noted_left}
+use Rattle.log_core.proofs.clauses.GrownNoted.{noted_grown}
 use Rattle.log_core.proofs.clauses.GrownWalks.{walk_grown}
 use Rattle.log_core.proofs.clauses.GrownOthers.{owned_view, giving_grown, pin_grown, marks_grown, sync_grown}
 use Rattle.log_core.proofs.clauses.GrownRecords.{writes_grown, once_of_others, own_part, record_grown, calls_grown}
@@ -146,7 +149,6 @@ module _ (o : Origin) (c : Core) (x : Growth) (s : Seat) (g : Ghost) (began : Li
 
   walk_mine : WalkHolds (around o (grown c x)) s.hold s.walk → WalkHolds (around o new) s.hold s.walk
   walk_mine old = record {
-    unwalked = old.unwalked;
     to_end = old.to_end;
     from_first = old.from_first;
     to_current = old.to_current;
@@ -157,12 +159,18 @@ module _ (o : Origin) (c : Core) (x : Growth) (s : Seat) (g : Ghost) (began : Li
     ready_walked = old.ready_walked;
     ready_base = old.ready_base;
     ready_tail = old.ready_tail;
+    seeking = old.seeking;
     first_known = old.first_known;
   }
 
   walks : (seat : ℕ) → (view_of views seat).parts ≢ [] → WalkHolds (around o new) (view_of views seat).seat.hold (view_of views seat).seat.walk
   walks = each_set (λ (k : ℕ) (v : View). v.parts ≢ [] → WalkHolds (around o new) v.seat.hold v.seat.walk) c.views n w here
       (λ some. walk_mine (facts.walk some)) (λ k other some. walk_grown o c x inv grows views began kept_before (view_of c.views k).seat.hold (pin_kept k) (view_of c.views k).seat.walk (inv.walks k some))
+
+  noted : (seat : ℕ) → (view_of views seat).parts ≢ [] → NotedBy (around o new) (view_of views seat).seat
+  noted = each_set (λ (k : ℕ) (v : View). v.parts ≢ [] → NotedBy (around o new) v.seat) c.views n w here
+      (λ some. noted_left (around o (grown c x)) (λ place. KeptIn o new place) s.hold s.walk s.calling s.blocks.named grown_before (facts.noted some))
+      (λ k other some. (let u = (view_of c.views k).seat in noted_grown o c x inv grows views began kept_before u.hold u.walk u.calling u.blocks.named (inv.walks k some) (inv.noted k some)))
 
   scans : (seat other : ℕ) → ScanHolds (view_of views seat).seat.giving other (view_of views other).seat.hold
   scans seat other = each_set (λ (k : ℕ) (v : View). ScanHolds v.seat.giving other (view_of views other).seat.hold) c.views n w here
@@ -233,6 +241,7 @@ module _ (o : Origin) (c : Core) (x : Growth) (s : Seat) (g : Ghost) (began : Li
     contents = λ place kept. contents_grown o c x inv grows place (kept_before place kept);
     pins = pins_hold;
     walks = walks;
+    noted = noted;
     owned = each_set (λ (k : ℕ) (v : View). OwnedHold (λ word. cell x.memory word) x.memory.past x.memory.pending k v.ghost v.seat) c.views n w here facts.owned (λ k other. owned_view o c x inv grows k);
     givings = givings;
     records = records;

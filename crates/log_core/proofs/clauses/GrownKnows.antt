@@ -13,6 +13,7 @@ use Rattle.log_core.specs.Needs.{owned_numbers}
 use Rattle.log_core.specs.Owners.{IsListOf}
 use Rattle.log_core.specs.Owned.{OwnedHold}
 use Rattle.log_core.specs.Walks.{WalkHolds}
+use Rattle.log_core.specs.Noted.{NotedHolds}
 use Rattle.log_core.specs.Records.{WritesFit, WritesOnce, PutFits, CallHolds, TailHolds}
 use Rattle.log_core.specs.Invariant.{Invariant, KeptIn, around}
 use Rattle.log_core.specs.Knows.{with_seat, Knows}
@@ -23,6 +24,7 @@ use Rattle.log_core.proofs.clauses.Growth.{Growth, Grows, joined, grown, owner_g
 use Rattle.log_core.proofs.clauses.GrownWords.{floor_same}
 use Rattle.log_core.proofs.clauses.GrownNames.{owner_was, joined_owner, list_same}
 use Rattle.log_core.proofs.clauses.GrownWalks.{walk_grown}
+use Rattle.log_core.proofs.clauses.GrownNoted.{noted_grown}
 use Rattle.log_core.proofs.clauses.GrownOthers.{giving_grown, pin_grown, marks_grown, sync_grown}
 
 module _ (o : Origin) (c : Core) (x : Growth) (inv : Invariant o c) (grows : Grows o c x) where
@@ -69,6 +71,10 @@ module _ (o : Origin) (c : Core) (x : Growth) (inv : Invariant o c) (grows : Gro
     pub walk_same : (view_of c.views x.n).parts ≢ [] → WalkHolds (around o (grown c x)) s.hold s.walk
     walk_same some = walk_grown o c x inv grows c.views c.began kept_then s.hold pinned s.walk (f.walk some)
 
+    -- and what it has noted
+    pub noted_same : (view_of c.views x.n).parts ≢ [] → NotedHolds (around o (grown c x)) s.hold s.walk s.calling s.blocks.named
+    noted_same some = noted_grown o c x inv grows c.views c.began kept_then s.hold s.walk s.calling s.blocks.named (f.walk some) (f.noted some)
+
     pub record FitsGrown (walk : Walk) (calling : Calling) (blocks : Blocks) (stored : List Stored) : Type 0 where
       pub found : length blocks.found ≡ length s.blocks.found
       pub named : length blocks.named ≡ length s.blocks.named
@@ -76,6 +82,7 @@ module _ (o : Origin) (c : Core) (x : Growth) (inv : Invariant o c) (grows : Gro
       pub owns : IsListOf (λ block. owner_grown c x block) (owned_numbers blocks.owned) (OwnedBy x.n)
       pub owned : OwnedHold (λ word. cell x.memory word) x.memory.past x.memory.pending x.n (ghost_grown stored) (owning s blocks)
       pub walks : (view_of c.views x.n).parts ≢ [] → WalkHolds (around o (grown c x)) s.hold walk
+      pub noted : (view_of c.views x.n).parts ≢ [] → NotedHolds (around o (grown c x)) s.hold walk calling blocks.named
       pub writes : WritesFit o x.history (with_seat (view_of c.views x.n) (seat_grown walk calling blocks) (ghost_grown stored))
       pub writes_once : WritesOnce o x.history (with_seat (view_of c.views x.n) (seat_grown walk calling blocks) (ghost_grown stored))
       pub put : PutFits o c.generations (with_seat (view_of c.views x.n) (seat_grown walk calling blocks) (ghost_grown stored))
@@ -94,6 +101,7 @@ module _ (o : Origin) (c : Core) (x : Growth) (inv : Invariant o c) (grows : Gro
       pin_is = same_pin ∙ f.pin_is;
       pin_holds = pin_grown o c x inv grows s.hold f.pin_holds;
       walk = fits.walks;
+      noted = fits.noted;
       owned = (let r = fits.owned in record {
         contents = r.contents;
         areas = r.areas;

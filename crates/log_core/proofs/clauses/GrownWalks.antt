@@ -1,5 +1,5 @@
 -- The walks of all seats, where a step puts a word more into the last log block.
-use Rattle.std.proofs.Common.{◌<◌, ◌≡◌, ◌≢◌, ◌≤◌, ◌+◌, ◌-◌, ◌/◌, ⊎_elim, inl, inr, ℕ, true, List, length, drop, sym, ◌∙◌, ap, subst, arith, slice_index}
+use Rattle.std.proofs.Common.{◌⊎◌, ◌%◌, ◌<◌, ◌≡◌, ◌≢◌, ◌≤◌, ◌+◌, ◌-◌, ◌/◌, ⊎_elim, inl, inr, ℕ, true, List, length, drop, sym, ◌∙◌, ap, subst, arith, slice_index}
 use Rattle.std.specs.List.{AllByRecursion}
 use Rattle.std.proofs.lemmas.Nat.{div-mul-add}
 use Rattle.log_image.specs.Image.{words_in}
@@ -47,8 +47,18 @@ module _ (o : Origin) (c : Core) (x : Growth) (inv : Invariant o c) (grows : Gro
         (λ other. inl (same ∙ sym (ap (λ (a : Cell). a.present) (other_cell o c x inv grows (place_in (shape o) kept.block kept.slot) other)))))
         (λ (zero_word : (kept.word ≡ 0) × (is_listed (log_blocks (drop (gen place).cut c.logs)) kept.block ≡ true)). inr (zero_word.0, still_listed kept.block zero_word.1))
         r.word_is;
+    early = λ at. same_or_other (place_in (shape o) kept.block kept.slot) (place_in (shape o) (last_log c).block x.index)
+        (λ here. absurd (not_there here at))
+        (λ other. r.early at ∙ sym (ap (λ (a : Cell). a.present) (other_cell o c x inv grows (place_in (shape o) kept.block kept.slot) other)));
   }
     where
+      -- the word that is put in is a slot or a link
+      not_there : place_in (shape o) kept.block kept.slot ≡ place_in (shape o) (last_log c).block x.index → (kept.slot ≡ 1) ⊎ (kept.slot ≡ 2) → ⊥
+      not_there here at =
+          (let same : kept.slot ≡ x.index = sym (Rattle.std.proofs.lemmas.Nat.mod-mul-add kept.block (words_in (shape o)) kept.slot r.inside)
+          ∙ (ap (λ (k : ℕ). k % words_in (shape o)) here ∙ Rattle.std.proofs.lemmas.Nat.mod-mul-add (last_log c).block (words_in (shape o)) x.index grows.index) in
+          ⊎_elim (λ one. grows.first (sym same ∙ one)) (λ two. grows.second (sym same ∙ two)) at)
+
       still_listed : (block : ℕ) → is_listed (log_blocks (drop (gen place).cut c.logs)) block ≡ true → is_listed (log_blocks (drop (gen place).cut x.logs)) block ≡ true
       still_listed block listed = subst (λ (l : List ℕ). is_listed l block ≡ true) (sym (grows.logs.blocks (gen place).cut (inv.order.generations_rise.cut_inside place in_chain.inside)))
           (has_left (log_blocks (drop (gen place).cut c.logs)) x.linked block listed)
@@ -118,7 +128,6 @@ module _ (o : Origin) (c : Core) (x : Growth) (inv : Invariant o c) (grows : Gro
     -- a walk whose valid pin is of a kept generation
     pub walk_grown : (w : Walk) → WalkHolds (around o c) h w → WalkHolds (around o (with_views views began)) h w
     walk_grown w r = record {
-      unwalked = r.unwalked;
       to_end = (let low = r.to_end in let more = grows.history.longer in omega (arith, low, more));
       from_first = r.from_first;
       to_current = r.to_current;
@@ -129,5 +138,6 @@ module _ (o : Origin) (c : Core) (x : Growth) (inv : Invariant o c) (grows : Gro
       ready_walked = r.ready_walked;
       ready_base = r.ready_base;
       ready_tail = r.ready_tail;
+      seeking = r.seeking;
       first_known = λ known. first_grown h.generation w.first_log known (r.first_known known);
     }

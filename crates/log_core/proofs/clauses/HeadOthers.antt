@@ -28,7 +28,7 @@ use Rattle.log_core.specs.Order.{nth_generation}
 use Rattle.log_core.specs.Owners.{IsListOf}
 use Rattle.log_core.specs.Giving.{GivingHolds, AreInNoLater}
 use Rattle.log_core.specs.Pins.{PinHolds, WasHead}
-use Rattle.log_core.specs.Walks.{WalkHolds, HasRead, IsKeptWord}
+use Rattle.log_core.specs.Walks.{WalkHolds, HasRead, IsSnapshotBlock, IsKeptWord}
 use Rattle.log_core.specs.Records.{HeadFits, RecordHolds, SaysOfGenerations}
 use Rattle.log_core.specs.Synced.{SyncHolds, SyncMarkHolds}
 use Rattle.log_core.specs.Invariant.{Invariant, KeptIn, around, names_by}
@@ -148,6 +148,8 @@ module _ (o : Origin) (c : Core) (n : ℕ) (s : Seat) (g : Ghost) (pin began bef
         (λ same. inl (same ∙ sym (ap (λ (x : Cell). x.present) (block_cell o c n s g pin began before next inv unspent f may won m moves kept.block kept.slot
         (named_some o c n s g pin began before next inv unspent f may won m moves place kept.block in_chain r.named) r.inside))))
         (λ empty. inr empty) r.word_is;
+    early = λ at. r.early at ∙ sym (ap (λ (x : Cell). x.present) (block_cell o c n s g pin began before next inv unspent f may won m moves kept.block kept.slot
+        (named_some o c n s g pin began before next inv unspent f may won m moves place kept.block in_chain r.named) r.inside));
   })
 
   -- what is read of a snapshot of a kept generation
@@ -183,7 +185,6 @@ module _ (o : Origin) (c : Core) (n : ℕ) (s : Seat) (g : Ghost) (pin began bef
       (h : Hold) → PinHolds (first_generation o) (current o c.generations) (cell c.memory head_place) h → (h.valid ≡ true → KeptIn o c (h.generation - first_generation o)) → (w : Walk) →
       WalkHolds (around o c) h w → WalkHolds (around o (moved_core views ends)) h w
   walk_moved views ends kept_before h pinned in_chain w r = record {
-    unwalked = r.unwalked;
     to_end = r.to_end;
     from_first = r.from_first;
     to_current = λ reading. (let low = r.to_current reading in let count = gens_count in omega (arith, low, count));
@@ -195,6 +196,7 @@ module _ (o : Origin) (c : Core) (n : ℕ) (s : Seat) (g : Ghost) (pin began bef
     ready_walked = r.ready_walked;
     ready_base = λ ready. r.ready_base ready ∙ ap (λ (x : Generation). x.base) (sym (same_gen h.generation (pinned.to_current (r.ready_walked ready).2)));
     ready_tail = r.ready_tail;
+    seeking = λ ready come_to. subst (λ (x : Generation). IsSnapshotBlock x w.reading_place w.reading_block) (sym (same_gen h.generation (pinned.to_current (r.ready_walked ready).2))) (r.seeking ready come_to);
     first_known = λ known. (let q = r.first_known known in record {
       some = q.some;
       is = q.is ∙ ap (λ (x : Generation). (nth_log c.logs x.cut).block) (sym (same_gen h.generation (pinned.to_current q.some)));

@@ -10,24 +10,27 @@ use Rattle.log_core.specs.Files.{file_at}
 use Rattle.log_core.specs.Cores.{Core}
 use Rattle.log_core.specs.Works.{IsFree, laid_bytes, words_of}
 use Rattle.log_core.specs.Walks.{WalkHolds}
+use Rattle.log_core.specs.Noted.{NotedHolds}
 use Rattle.log_core.specs.Records.{BasesHold, one_if, writes_at}
 use Rattle.log_core.specs.Invariant.{around}
 use Rattle.log_core.specs.Knows.{Knows}
-use Rattle.log_core.proofs.Facts.{moved_facts}
+use Rattle.log_core.proofs.Facts.{noted_facts}
 
 -- a read that has laid nothing has no bytes
 no_bytes : (task : Task) (offset count : ℕ) (bytes : List ℕ) → laid_bytes task bytes ≡ [] → task ≡ Pread offset count → bytes ≡ []
 no_bytes task offset count bytes none is = subst (λ (t : Task). laid_bytes t bytes ≡ []) is none
 
--- and bases of the call may have been given up
-pub move_with_bases : (o : Origin) (c : Core) (n : ℕ) (s : Seat) (g : Ghost) (pin began : ℕ) (w : Walk) (bases base_words : List ℕ) → Knows o c n s g pin began → IsFree g s.calling → (op_in s ≢ None → bases ≡ []) ⊎ (w.reading ≡ false) →
-    BasesHold o c.history (view_of c.views n).first (words_of s) w.position (record (s.calling) { bases = bases; base_words = base_words }) → w.at_tail ≡ false →
+-- and bases of the call may have been given up, and more blocks noted
+pub move_with_bases : (o : Origin) (c : Core) (n : ℕ) (s : Seat) (g : Ghost) (pin began : ℕ) (w : Walk) (bases base_words : List ℕ) (noting : Bool) (named : List ℕ) → length named ≡ length s.blocks.named → Knows o c n s g pin began → IsFree g s.calling → (op_in s ≢ None → bases ≡ []) ⊎ (w.reading ≡ false) →
+    BasesHold o c.history (view_of c.views n).first (words_of s) w.position (record (s.calling) { bases = bases; base_words = base_words; noting = noting }) → w.at_tail ≡ false →
     ((view_of c.views n).parts ≢ [] → length w.map ≡ 65536) → ((view_of c.views n).parts ≢ [] → WalkHolds (around o c) s.hold w) →
-    Knows o c n (record s { walk = w; calling = record (s.calling) { bases = bases; base_words = base_words } }) g pin began
-move_with_bases o c n s g pin began w bases base_words f free no_bases hold away long walks =
-    moved_facts o c n s g pin began f w (record (s.calling) { bases = bases; base_words = base_words }) s.giving.pins_seen s.giving.limbo_held (record {
+    ((view_of c.views n).parts ≢ [] → NotedHolds (around o c) s.hold w (record (s.calling) { noting = noting }) named) →
+    Knows o c n (record s { walk = w; calling = record (s.calling) { bases = bases; base_words = base_words; noting = noting }; blocks = record (s.blocks) { named = named } }) g pin began
+move_with_bases o c n s g pin began w bases base_words noting named same f free no_bases hold away long walks noted =
+    noted_facts o c n s g pin began f w (record (s.calling) { bases = bases; base_words = base_words; noting = noting }) named same s.giving.pins_seen s.giving.limbo_held (record {
       map = long;
       walk = walks;
+      noted = noted;
       scan_others = f.scan_others;
       scan_self = f.scan_self;
       writes = (let r = f.writes in record { recorded = r.recorded; running = λ won. (let both : true ≡ false = sym won ∙ free.not_won in cc) });
@@ -51,14 +54,18 @@ move_with_bases o c n s g pin began w bases base_words f free no_bases hold away
       });
     })
 
-pub move_facts : (o : Origin) (c : Core) (n : ℕ) (s : Seat) (g : Ghost) (pin began : ℕ) (w : Walk) → Knows o c n s g pin began → IsFree g s.calling → (op_in s ≢ None → s.calling.bases ≡ []) →
-    BasesHold o c.history (view_of c.views n).first (words_of s) w.position s.calling → w.at_tail ≡ false → ((view_of c.views n).parts ≢ [] → length w.map ≡ 65536) →
-    ((view_of c.views n).parts ≢ [] → WalkHolds (around o c) s.hold w) → Knows o c n (record s { walk = w }) g pin began
-move_facts o c n s g pin began w f free no_bases bases away long walks = move_with_bases o c n s g pin began w s.calling.bases s.calling.base_words f free (inl no_bases) bases away long walks
+pub move_facts : (o : Origin) (c : Core) (n : ℕ) (s : Seat) (g : Ghost) (pin began : ℕ) (w : Walk) (noting : Bool) (named : List ℕ) → length named ≡ length s.blocks.named → Knows o c n s g pin began → IsFree g s.calling → (op_in s ≢ None → s.calling.bases ≡ []) →
+    BasesHold o c.history (view_of c.views n).first (words_of s) w.position (record (s.calling) { noting = noting }) → w.at_tail ≡ false → ((view_of c.views n).parts ≢ [] → length w.map ≡ 65536) →
+    ((view_of c.views n).parts ≢ [] → WalkHolds (around o c) s.hold w) →
+    ((view_of c.views n).parts ≢ [] → NotedHolds (around o c) s.hold w (record (s.calling) { noting = noting }) named) →
+    Knows o c n (record s { walk = w; calling = record (s.calling) { noting = noting }; blocks = record (s.blocks) { named = named } }) g pin began
+move_facts o c n s g pin began w noting named same f free no_bases bases away long walks noted =
+    move_with_bases o c n s g pin began w s.calling.bases s.calling.base_words noting named same f free (inl no_bases) bases away long walks noted
 
 -- of no bases everything holds
-pub no_bases_hold : (o : Origin) (c : Core) (n : ℕ) (s : Seat) (g : Ghost) (pin began position : ℕ) → Knows o c n s g pin began → s.calling.bases ≡ [] → BasesHold o c.history (view_of c.views n).first (words_of s) position s.calling
-no_bases_hold o c n s g pin began position f none = (let r = f.calls.bases in record {
+pub no_bases_hold : (o : Origin) (c : Core) (n : ℕ) (s : Seat) (g : Ghost) (pin began position : ℕ) (noting : Bool) → Knows o c n s g pin began → s.calling.bases ≡ [] →
+    BasesHold o c.history (view_of c.views n).first (words_of s) position (record (s.calling) { noting = noting })
+no_bases_hold o c n s g pin began position noting f none = (let r = f.calls.bases in record {
   most = r.most;
   whole = r.whole;
   from_first = λ some. absurd (some none);

@@ -67,13 +67,13 @@ module _ (o : Origin) (c : Core) (n : ℕ) (m : Memory) (inv : Invariant o c) (l
     named = r.named;
     inside = r.inside;
     word_is = ⊎_elim (λ same. inl (same ∙ sym (named_cells o c n m inv leaves place word.block word.slot kept r.named r.inside).present)) (λ empty. inr empty) r.word_is;
+    early = λ at. r.early at ∙ sym (named_cells o c n m inv leaves place word.block word.slot kept r.named r.inside).present;
   }
 
   -- a walk of a seat whose valid pin is of a kept generation
   pub walk_left : (views : List View) (owner : ℕ → Owner) (began : List ℕ) → ((place : ℕ) → KeptIn o (record c { memory = m; views = views; owner = owner; began = began }) place → KeptIn o c place) →
       (h : Hold) (w : Walk) → (h.valid ≡ true → KeptIn o c (h.generation - first_generation o)) → WalkHolds (around o c) h w → WalkHolds (around o (record c { memory = m; views = views; owner = owner; began = began })) h w
   walk_left views owner began kept_before h w pinned r = record {
-    unwalked = r.unwalked;
     to_end = r.to_end;
     from_first = r.from_first;
     to_current = r.to_current;
@@ -84,6 +84,7 @@ module _ (o : Origin) (c : Core) (n : ℕ) (m : Memory) (inv : Invariant o c) (l
     ready_walked = r.ready_walked;
     ready_base = r.ready_base;
     ready_tail = r.ready_tail;
+    seeking = r.seeking;
     first_known = r.first_known;
   }
 

@@ -14,7 +14,9 @@ use Rattle.log_core.specs.Works.{seat_shape, words_of, owned_block, content_word
 use Rattle.log_core.specs.Needs.{owned_numbers}
 use Rattle.log_core.specs.Certain.{IsCertain}
 use Rattle.log_core.specs.Owners.{IsListOf}
+use Rattle.log_core.specs.Noted.{NotedHolds}
 use Rattle.log_core.specs.Owned.{StoredHolds, OwnedHold}
+use Rattle.log_core.specs.Invariant.{around}
 use Rattle.log_core.specs.Knows.{Knows}
 use Rattle.log_core.proofs.clauses.OneView.{same_or_other}
 use Rattle.log_core.proofs.clauses.OwnedLists.{IsSameBlock, numbers_set, areas_set}
@@ -75,15 +77,16 @@ module _ (cells : ℕ → Cell) (past : List Replaced) (pending : List PendingMa
   }
 
 -- the same blocks are owned, with other marks and contents
-pub blocks_facts : (o : Origin) (c : Core) (n : ℕ) (s : Seat) (g : Ghost) (pin began : ℕ) → Knows o c n s g pin began → (b : Blocks) → length b.found ≡ length s.blocks.found → length b.named ≡ length s.blocks.named →
+pub blocks_facts : (o : Origin) (c : Core) (n : ℕ) (s : Seat) (g : Ghost) (pin began : ℕ) → Knows o c n s g pin began → (b : Blocks) → length b.found ≡ length s.blocks.found → b.named ≡ s.blocks.named →
     owned_numbers b.owned ≡ owned_numbers s.blocks.owned → OwnedHold (λ word. cell c.memory word) c.memory.past c.memory.pending n g (record s { blocks = b }) → Knows o c n (record s { blocks = b }) g pin began
 blocks_facts o c n s g pin began f b found named numbers owned = record {
-  fits = λ some. (let r = f.fits some in record { number = r.number; seats = r.seats; geometry = r.geometry; first = r.first; found = found ∙ r.found; named = named ∙ r.named; map = r.map });
+  fits = λ some. (let r = f.fits some in record { number = r.number; seats = r.seats; geometry = r.geometry; first = r.first; found = found ∙ r.found; named = ap (λ (words : List ℕ). length words) named ∙ r.named; map = r.map });
   kept = f.kept;
   owns = record { owned = subst (λ (list : List ℕ). IsListOf c.owner list (OwnedBy n)) (sym numbers) f.owns.owned; left = f.owns.left };
   pin_is = f.pin_is;
   pin_holds = f.pin_holds;
   walk = f.walk;
+  noted = λ some. subst (λ (words : List ℕ). NotedHolds (around o c) s.hold s.walk s.calling words) (sym named) (f.noted some);
   owned = owned;
   giving = f.giving;
   scan_others = f.scan_others;

@@ -1,5 +1,5 @@
 -- What a core knows of a seat stays where a step of it changes only which blocks it owns and what is known of them.
-use Rattle.std.proofs.Common.{◌≡◌, ◌≢◌, [], ◌<◌, ◌≤◌, ◌+◌, ◌-◌, ℕ, Bool, true, List, length, sym, ◌∙◌, subst, arith, inl, inr, ⊎_elim}
+use Rattle.std.proofs.Common.{◌≡◌, ◌≢◌, [], ◌<◌, ◌≤◌, ◌+◌, ◌-◌, ℕ, Bool, true, List, length, sym, ap, ◌∙◌, subst, arith, inl, inr, ⊎_elim}
 use Rattle.std.specs.List.{AllByRecursion}
 use Rattle.log_entry.specs.declared.shapes.Area.{Area}
 use Rattle.pmem_words.specs.declared.keeps.Task.TheVariants.{Sync}
@@ -11,13 +11,15 @@ use Rattle.log_core.specs.Files.{entries}
 use Rattle.log_core.specs.Cores.{Core, head_floor}
 use Rattle.log_core.specs.Needs.{owned_numbers}
 use Rattle.log_core.specs.Owners.{IsListOf}
+use Rattle.log_core.specs.Noted.{NotedHolds}
 use Rattle.log_core.specs.Owned.{OwnedHold}
 use Rattle.log_core.specs.Giving.{GivingHolds}
 use Rattle.log_core.specs.Records.{MarksFit}
 use Rattle.log_core.specs.Synced.{SyncMarkHolds}
-use Rattle.log_core.specs.Invariant.{Invariant, KeptIn, names_by}
+use Rattle.log_core.specs.Invariant.{Invariant, KeptIn, around, names_by}
 use Rattle.log_core.specs.Knows.{with_seat, Knows}
 use Rattle.log_core.proofs.Heads.{kept_place}
+use Rattle.log_core.proofs.NotedGrown.{noted_left}
 use Rattle.log_core.proofs.clauses.Leaves.{Leaves, Changes, moved, list_stays, left_apart}
 use Rattle.log_core.proofs.clauses.Others.{walk_left, pin_place, floor_rises, pin_left, giving_left, notes_early, sync_marks_left}
 
@@ -32,7 +34,7 @@ with_marks g marks stored lacked = record { marks = marks; stored = stored; call
 -- what has to hold of the new blocks and marks
 pub record FitsBlocks (o : Origin) (n : ℕ) (v : View) (m : Memory) (owner : ℕ → Owner) (s : Seat) (g : Ghost) (b : Blocks) (fenced : Bool) (marks : List MarkedWord) (stored : List Stored) (lacked : List Area) : Type 0 where
   pub found : length b.found ≡ length s.blocks.found
-  pub named : length b.named ≡ length s.blocks.named
+  pub named : b.named ≡ s.blocks.named
   pub owns : IsListOf owner (owned_numbers b.owned) (OwnedBy n)
   pub owned : OwnedHold (λ word. cell m word) m.past m.pending n (with_marks g marks stored lacked) (with_blocks s b fenced)
   pub sure : fenced ≡ true → s.giving.replaced_generation < first_generation o + head_floor m
@@ -82,13 +84,15 @@ module _ (o : Origin) (c : Core) (n : ℕ) (s : Seat) (g : Ghost) (pin began : �
 
     pub set_blocks : Knows o (moved c m owner) n (with_blocks s b fenced) (with_marks g marks stored lacked) pin began
     set_blocks = record {
-      fits = λ some. (let r = f.fits some in record { number = r.number; seats = r.seats; geometry = r.geometry; first = r.first; found = fits.found ∙ r.found; named = fits.named ∙ r.named; map = r.map });
+      fits = λ some. (let r = f.fits some in record { number = r.number; seats = r.seats; geometry = r.geometry; first = r.first; found = fits.found ∙ r.found; named = ap (λ (words : List ℕ). length words) fits.named ∙ r.named; map = r.map });
       kept = f.kept;
       owns = record { owned = fits.owns; left = list_stays c n owner changes _ (LeftTo n) (left_apart n n) f.owns.left };
       pin_is = f.pin_is;
       pin_holds = pin_left o c n m inv leaves s.hold f.pin_holds;
       walk = λ some. walk_left o c n m inv leaves c.views owner c.began kept_before s.hold s.walk
           (λ valid. pinned valid (s.hold.generation - first_generation o) (pin_place o c n m inv leaves s.hold.generation (from_first valid))) (f.walk some);
+      noted = λ some. subst (λ (words : List ℕ). NotedHolds (around o (moved c m owner)) s.hold s.walk s.calling words) (sym fits.named)
+          (noted_left (around o c) (λ place. KeptIn o (moved c m owner) place) s.hold s.walk s.calling s.blocks.named kept_before (f.noted some));
       owned = fits.owned;
       giving = giving;
       scan_others = λ k other. (let r = f.scan_others k other in record { replaced = r.replaced; limbo = r.limbo });

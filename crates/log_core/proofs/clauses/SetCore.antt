@@ -17,6 +17,7 @@ use Rattle.log_core.specs.Owners.{BitsFit, SeatOwns}
 use Rattle.log_core.specs.Contents.{GenerationHolds}
 use Rattle.log_core.specs.Pins.{PinHolds}
 use Rattle.log_core.specs.Walks.{WalkHolds}
+use Rattle.log_core.specs.Noted.{NotedBy}
 use Rattle.log_core.specs.Owned.{OwnedHold}
 use Rattle.log_core.specs.Giving.{GivingHolds, ScanHolds}
 use Rattle.log_core.specs.Records.{WritesFit, WritesOnce, PutFits, CallHolds, TailHolds, MarksFit, RecordHolds, NeverFall}
@@ -26,6 +27,7 @@ use Rattle.log_core.specs.Knows.{with_seat, Knows}
 use Rattle.log_core.proofs.clauses.OneView.{each_set, collected_set, all_at}
 use Rattle.log_core.proofs.clauses.SetSizes.{sizes_set, seats_once_set}
 use Rattle.log_core.proofs.Heads.{kept_place}
+use Rattle.log_core.proofs.NotedGrown.{noted_left}
 use Rattle.log_core.proofs.clauses.Narrows.{heads_narrow, log_narrows, recorded_narrow, synced_narrows}
 use Rattle.log_core.proofs.clauses.Leaves.{Leaves, LeavesOwners, moved, others_stay, chain_others, owned_others, left_others}
 use Rattle.log_core.proofs.clauses.Apart.{header_cells, named_cells, log_cells, data_is_named}
@@ -130,7 +132,6 @@ module _ (o : Origin) (c : Core) (n : ℕ) (s : Seat) (g : Ghost) (m : Memory) (
   -- the walk of the seat, where fewer generations may be kept
   walk_mine : WalkHolds (around o (moved c m owner)) s.hold s.walk → WalkHolds (around o new) s.hold s.walk
   walk_mine old = record {
-    unwalked = old.unwalked;
     to_end = old.to_end;
     from_first = old.from_first;
     to_current = old.to_current;
@@ -141,12 +142,18 @@ module _ (o : Origin) (c : Core) (n : ℕ) (s : Seat) (g : Ghost) (m : Memory) (
     ready_walked = old.ready_walked;
     ready_base = old.ready_base;
     ready_tail = old.ready_tail;
+    seeking = old.seeking;
     first_known = old.first_known;
   }
 
   walks : (seat : ℕ) → (view_of views seat).parts ≢ [] → WalkHolds (around o new) (view_of views seat).seat.hold (view_of views seat).seat.walk
   walks = each_set (λ (k : ℕ) (v : View). v.parts ≢ [] → WalkHolds (around o new) v.seat.hold v.seat.walk) c.views n w here
       (λ some. walk_mine (facts.walk some)) (λ k other some. walk_left o c n m inv leaves views owner began kept_before (view_of c.views k).seat.hold (view_of c.views k).seat.walk (pin_kept o c n m inv leaves k) (inv.walks k some))
+
+  noted : (seat : ℕ) → (view_of views seat).parts ≢ [] → NotedBy (around o new) (view_of views seat).seat
+  noted = each_set (λ (k : ℕ) (v : View). v.parts ≢ [] → NotedBy (around o new) v.seat) c.views n w here
+      (λ some. noted_left (around o (moved c m owner)) (λ place. KeptIn o new place) s.hold s.walk s.calling s.blocks.named moved_before (facts.noted some))
+      (λ k other some. (let u = (view_of c.views k).seat in noted_left (around o c) (λ place. KeptIn o new place) u.hold u.walk u.calling u.blocks.named kept_before (inv.noted k some)))
 
   owned : (seat : ℕ) → OwnedHold (λ word. cell m word) m.past m.pending seat (view_of views seat).ghost (view_of views seat).seat
   owned = each_set (λ (k : ℕ) (v : View). OwnedHold (λ word. cell m word) m.past m.pending k v.ghost v.seat) c.views n w here facts.owned (λ k other. owned_left o c n m inv leaves k other)
@@ -200,6 +207,7 @@ module _ (o : Origin) (c : Core) (n : ℕ) (s : Seat) (g : Ghost) (m : Memory) (
     contents = contents;
     pins = pins_hold;
     walks = walks;
+    noted = noted;
     owned = owned;
     givings = givings;
     records = records;

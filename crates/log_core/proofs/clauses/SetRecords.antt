@@ -1,5 +1,5 @@
 -- A view gets other records, and its call another state: what has to hold of it, so that the invariant stays.
-use Rattle.std.proofs.Common.{◌≡◌, ◌≢◌, ◌<◌, ◌+◌, ◌-◌, ℕ, true, List, [], length, refl, ◌∙◌, inl, inr, ⊎_elim, slice_set, slice_index, Option}
+use Rattle.std.proofs.Common.{◌≡◌, ◌≢◌, ◌<◌, ◌+◌, ◌-◌, ℕ, true, false, List, [], length, refl, sym, ◌∙◌, inl, inr, ⊎_elim, slice_set, slice_index, Option}
 use Rattle.std.specs.List.{AllByRecursion}
 use Rattle.log_entry.specs.declared.calls.Call.{Call}
 use Rattle.pmem_words.specs.Seats.{Calling}
@@ -14,11 +14,13 @@ use Rattle.log_core.specs.Sizes.{Sizes}
 use Rattle.log_core.specs.Owners.{SeatOwns}
 use Rattle.log_core.specs.Pins.{PinHolds}
 use Rattle.log_core.specs.Walks.{WalkHolds}
+use Rattle.log_core.specs.Noted.{NotedBy}
 use Rattle.log_core.specs.Owned.{OwnedHold}
 use Rattle.log_core.specs.Giving.{GivingHolds, ScanHolds}
 use Rattle.log_core.specs.Records.{WritesFit, WritesOnce, PutFits, CallHolds, TailHolds, MarksFit, RecordHolds, NeverFall, collected_in, putting}
 use Rattle.log_core.specs.Synced.{SyncHolds}
 use Rattle.log_core.specs.Invariant.{Invariant, KeptIn, around, names_by, Order, Owners, Pins, Givings, Records, Syncs}
+use Rattle.log_core.proofs.NotedGrown.{noted_left}
 use Rattle.log_core.proofs.clauses.OneView.{each_set, collected_with}
 use Rattle.log_core.proofs.clauses.SetSizes.{sizes_set, seats_once_set}
 
@@ -41,7 +43,7 @@ pub record Recorded (o : Origin) (c : Core) (n : ℕ) (w : View) : Type 0 where
   pub syncs : SyncHolds (q_of_origin o) (names_by o c.logs (entries o c.history) c.generations) (λ word. cell c.memory word) c.memory.past c.memory.pending c.synced n w
 
 module _ (o : Origin) (c : Core) (n : ℕ) (calling : Calling) (put : Option HeadPut) (done : List Call) (inv : Invariant o c) (here : n < length c.views) (unspent : (view_of c.views n).parts ≢ [])
-    (facts : Recorded o c n (with_records (view_of c.views n) calling put done)) where
+    (facts : Recorded o c n (with_records (view_of c.views n) calling put done)) (ends : calling.noting ≡ false) where
   abbrev v : View
   v = view_of c.views n
 
@@ -86,7 +88,6 @@ module _ (o : Origin) (c : Core) (n : ℕ) (calling : Calling) (put : Option Hea
 
   walk_left : (u : View) → WalkHolds (around o c) u.seat.hold u.seat.walk → WalkHolds (around o new) u.seat.hold u.seat.walk
   walk_left u r = record {
-    unwalked = r.unwalked;
     to_end = r.to_end;
     from_first = r.from_first;
     to_current = r.to_current;
@@ -97,11 +98,20 @@ module _ (o : Origin) (c : Core) (n : ℕ) (calling : Calling) (put : Option Hea
     ready_walked = r.ready_walked;
     ready_base = r.ready_base;
     ready_tail = r.ready_tail;
+    seeking = r.seeking;
     first_known = r.first_known;
   }
 
   walks : (seat : ℕ) → (view_of views seat).parts ≢ [] → WalkHolds (around o new) (view_of views seat).seat.hold (view_of views seat).seat.walk
   walks = each_set (λ (k : ℕ) (u : View). u.parts ≢ [] → WalkHolds (around o new) u.seat.hold u.seat.walk) c.views n w here (λ some. walk_left v (inv.walks n some)) (λ k other some. walk_left (view_of c.views k) (inv.walks k some))
+
+  -- the call notes nothing
+  not_noting : {P : Type 0} → calling.noting ≡ true → P
+  not_noting on = (let both : true ≡ false = sym on ∙ ends in cc)
+
+  noted : (seat : ℕ) → (view_of views seat).parts ≢ [] → NotedBy (around o new) (view_of views seat).seat
+  noted = each_set (λ (k : ℕ) (u : View). u.parts ≢ [] → NotedBy (around o new) u.seat) c.views n w here (λ some. (not_noting, (λ on. not_noting on), (λ on. not_noting on)))
+      (λ k other some. (let u = (view_of c.views k).seat in noted_left (around o c) (λ place. KeptIn o new place) u.hold u.walk u.calling u.blocks.named kept_before (inv.noted k some)))
 
   owned : (seat : ℕ) → OwnedHold (λ word. cell c.memory word) c.memory.past c.memory.pending seat (view_of views seat).ghost (view_of views seat).seat
   owned = each_set (λ (k : ℕ) (u : View). OwnedHold (λ word. cell c.memory word) c.memory.past c.memory.pending k u.ghost u.seat) c.views n w here
@@ -156,6 +166,7 @@ module _ (o : Origin) (c : Core) (n : ℕ) (calling : Calling) (put : Option Hea
     contents = λ place kept. inv.contents place (kept_before place kept);
     pins = pins;
     walks = walks;
+    noted = noted;
     owned = owned;
     givings = givings;
     records = records;

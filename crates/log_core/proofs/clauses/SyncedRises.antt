@@ -45,6 +45,7 @@ module _ (o : Origin) (d : Core) (inv : Invariant o d) (position : ℕ) (words :
     contents = inv.contents;
     pins = inv.pins;
     walks = inv.walks;
+    noted = inv.noted;
     owned = inv.owned;
     givings = inv.givings;
     records = inv.records;
@@ -81,6 +82,7 @@ module _ (o : Origin) (d : Core) (inv : Invariant o d) (position : ℕ) (words :
         moved_facts o raised n v.seat v.ghost (slice_index d.memory.now.pins n) (slice_index d.began n) f v.seat.walk answering v.seat.giving.pins_seen v.seat.giving.limbo_held (record {
           map = λ some. (f.fits some).map;
           walk = f.walk;
+          noted = f.noted;
           scan_others = f.scan_others;
           scan_self = f.scan_self;
           writes = (let r = f.writes in record { recorded = r.recorded; running = r.running });

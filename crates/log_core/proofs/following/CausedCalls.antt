@@ -201,10 +201,10 @@ module _ (o : Origin) (steps : List Step) (inv : Invariant o (end o steps)) (see
   caused_step (Joins seat other) allowed = caused_joins seat other allowed
 
 -- no call runs at the start
-abbrev IsIdleView : View → Type 0
-IsIdleView v = (op_in v.seat ≡ None) × (v.done ≡ [])
+abbrev HasDoneNothing : View → Type 0
+HasDoneNothing v = (op_in v.seat ≡ None) × (v.done ≡ [])
 
-all_idle : (o : Origin) (numbers : List ℕ) → AllByRecursion IsIdleView (map (λ (number : ℕ). new_view o.geometry o.seats (first_position o) (made_by o.made number) number) numbers)
+all_idle : (o : Origin) (numbers : List ℕ) → AllByRecursion HasDoneNothing (map (λ (number : ℕ). new_view o.geometry o.seats (first_position o) (made_by o.made number) number) numbers)
 all_idle o [] = tt
 all_idle o (number ∷ numbers) = ((refl, refl), all_idle o numbers)
 
@@ -214,8 +214,8 @@ caused_start o = record {
   records = λ seat. subst (λ (calls : List Call). AllByRecursion (IsRecordCaused o []) calls) (sym (idle seat).1) tt;
 }
   where
-    idle : (seat : ℕ) → IsIdleView (view_of (first_core o).views seat)
-    idle seat = Rattle.log_core.proofs.following.SeenStart.view_or_spent IsIdleView (first_core o).views seat (refl, refl) (all_idle o (range_with_len 0 o.made))
+    idle : (seat : ℕ) → HasDoneNothing (view_of (first_core o).views seat)
+    idle seat = Rattle.log_core.proofs.following.SeenStart.view_or_spent HasDoneNothing (first_core o).views seat (refl, refl) (all_idle o (range_with_len 0 o.made))
 
 caused_run : (o : Origin) (steps : List Step) → Invariant o (first_core o) → IsRun o steps → AllCaused o steps
 caused_run o [] start run = caused_start o

@@ -5,7 +5,7 @@ use Rattle.std.specs.List.{list_all}
 use Rattle.std.proofs.lemmas.Bool.{and_parts}
 use Rattle.pmem_words.specs.Seats.{Seat}
 use Rattle.log_core.specs.Views.{Ghost, op_in}
-use Rattle.log_core.specs.Works.{Work, Begins, KeepsTable, StartsFromLog, StartsFromSnapshot, ReadsRun, NextSnapshot, EndsReading, Forgets, SetsWord, CountsFilled, OpensBase, AddsBaseWord, DropsBases, Lays, NotesNamed, NotesHeld, KeepsReplaced, TakesEntry, TakesSeal, Follows, MayWork, MayWorkAll, state_after_work, state_after_all_work, is_going_on}
+use Rattle.log_core.specs.Works.{Work, Begins, KeepsTable, StartsFromLog, StartsFromSnapshot, ReadsRun, NextSnapshot, EndsReading, SeeksFirst, SeeksNext, FindsFirst, Forgets, SetsWord, CountsFilled, OpensBase, AddsBaseWord, DropsBases, Lays, NotesNamed, NotesHeld, KeepsReplaced, TakesEntry, TakesSeal, Follows, MayWork, MayWorkAll, state_after_work, state_after_all_work, is_going_on}
 use Rattle.log_core.proofs.kinds.GoingOn.{op_stays}
 use Rattle.log_core.proofs.following.Causes.{found_bit}
 
@@ -18,6 +18,9 @@ found_stays s StartsFromSnapshot going = refl
 found_stays s ReadsRun going = refl
 found_stays s NextSnapshot going = refl
 found_stays s EndsReading going = refl
+found_stays s SeeksFirst going = refl
+found_stays s SeeksNext going = refl
+found_stays s FindsFirst going = refl
 found_stays s TakesEntry going = refl
 found_stays s TakesSeal going = refl
 found_stays s Follows going = refl
@@ -41,6 +44,9 @@ pins_stay s StartsFromSnapshot = refl
 pins_stay s ReadsRun = refl
 pins_stay s NextSnapshot = refl
 pins_stay s EndsReading = refl
+pins_stay s SeeksFirst = refl
+pins_stay s SeeksNext = refl
+pins_stay s FindsFirst = refl
 pins_stay s TakesEntry = refl
 pins_stay s TakesSeal = refl
 pins_stay s Follows = refl

@@ -13,7 +13,7 @@ use Rattle.log_image.specs.Taken.{bit_of}
 use Rattle.log_core.specs.Views.{View, Ghost, view_of, spent_view}
 use Rattle.log_core.specs.Origin.{Origin, Owner, Free, InChain, LeftTo}
 use Rattle.log_core.specs.Cores.{Core}
-use Rattle.log_core.specs.Works.{Work, Begins, KeepsTable, StartsFromLog, StartsFromSnapshot, ReadsRun, NextSnapshot, EndsReading, Forgets, SetsWord, CountsFilled, OpensBase, AddsBaseWord, DropsBases, Lays, NotesNamed, NotesHeld, KeepsReplaced, TakesEntry, TakesSeal, Follows, state_after_work, state_after_all_work, Computes, ended}
+use Rattle.log_core.specs.Works.{Work, Begins, KeepsTable, StartsFromLog, StartsFromSnapshot, ReadsRun, NextSnapshot, EndsReading, SeeksFirst, SeeksNext, FindsFirst, Forgets, SetsWord, CountsFilled, OpensBase, AddsBaseWord, DropsBases, Lays, NotesNamed, NotesHeld, KeepsReplaced, TakesEntry, TakesSeal, Follows, state_after_work, state_after_all_work, Computes, ended}
 use Rattle.log_core.specs.Steps.{Note, Does, ClearsBits, is_of_owned, give_if, not_found}
 use Rattle.log_core.specs.Owners.{bit_for}
 use Rattle.log_core.specs.Contents.{IsStillTaken}
@@ -34,6 +34,9 @@ hold_stays s StartsFromSnapshot = refl
 hold_stays s ReadsRun = refl
 hold_stays s NextSnapshot = refl
 hold_stays s EndsReading = refl
+hold_stays s SeeksFirst = refl
+hold_stays s SeeksNext = refl
+hold_stays s FindsFirst = refl
 hold_stays s TakesEntry = refl
 hold_stays s TakesSeal = refl
 hold_stays s Follows = refl

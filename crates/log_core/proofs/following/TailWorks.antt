@@ -2,7 +2,7 @@
 use Rattle.std.proofs.Common.{◌≡◌, true, false, List, [], ◌∷◌, refl, sym, ◌∙◌, subst}
 use Rattle.pmem_words.specs.Seats.{Seat}
 use Rattle.log_core.specs.Views.{Ghost, op_in}
-use Rattle.log_core.specs.Works.{Work, Begins, KeepsTable, StartsFromLog, StartsFromSnapshot, ReadsRun, NextSnapshot, EndsReading, Forgets, SetsWord, CountsFilled, OpensBase, AddsBaseWord, DropsBases, Lays, NotesNamed, NotesHeld, KeepsReplaced, TakesEntry, TakesSeal, Follows, MayWork, MayWorkAll, state_after_work, state_after_all_work, is_going_on, Computes}
+use Rattle.log_core.specs.Works.{Work, Begins, KeepsTable, StartsFromLog, StartsFromSnapshot, ReadsRun, NextSnapshot, EndsReading, SeeksFirst, SeeksNext, FindsFirst, Forgets, SetsWord, CountsFilled, OpensBase, AddsBaseWord, DropsBases, Lays, NotesNamed, NotesHeld, KeepsReplaced, TakesEntry, TakesSeal, Follows, MayWork, MayWorkAll, state_after_work, state_after_all_work, is_going_on, Computes}
 use Rattle.log_core.proofs.kinds.GoingOn.{op_stays}
 
 -- the one state is at its tail where the other is, at the same position
@@ -18,6 +18,9 @@ tail_before s StartsFromSnapshot at = (let never : false ≡ true = at in cc)
 tail_before s ReadsRun at = ((at, refl), refl)
 tail_before s NextSnapshot at = ((at, refl), refl)
 tail_before s EndsReading at = ((at, refl), refl)
+tail_before s SeeksFirst at = ((at, refl), refl)
+tail_before s SeeksNext at = ((at, refl), refl)
+tail_before s FindsFirst at = ((at, refl), refl)
 tail_before s TakesEntry at = (let never : false ≡ true = at in cc)
 tail_before s TakesSeal at = ((at, refl), refl)
 tail_before s Follows at = ((at, refl), refl)
@@ -58,6 +61,9 @@ won_before g s StartsFromSnapshot may won = (let never : false ≡ true = sym ma
 won_before g s ReadsRun may won = (won, λ at. at)
 won_before g s NextSnapshot may won = (won, λ at. at)
 won_before g s EndsReading may won = (won, λ at. at)
+won_before g s SeeksFirst may won = (won, λ at. at)
+won_before g s SeeksNext may won = (won, λ at. at)
+won_before g s FindsFirst may won = (won, λ at. at)
 won_before g s TakesEntry may won = (let never : false ≡ true = sym may.0.free.not_won ∙ won in cc)
 won_before g s TakesSeal may won = (won, λ at. at)
 won_before g s Follows may won = (won, λ at. at)

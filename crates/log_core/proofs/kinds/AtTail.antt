@@ -1,23 +1,28 @@
 -- What was found at the tail is taken in, at the same position: a seal, and the walk is at the end of its block; or the link of a block, and
 -- the walk goes on at the next one.
-use Rattle.std.proofs.Common.{◌≡◌, ◌≢◌, ◌<◌, ◌≤◌, ◌+◌, ◌-◌, nat_lt, ℕ, Bool, true, false, List, [], length, refl, sym, ◌∙◌, ap, subst, arith, slice_index, Some, ◌⊎◌, inl, inr, ◌==◌, ◌||◌}
+use Rattle.std.proofs.Common.{◌≡◌, ◌≢◌, ◌<◌, ◌≤◌, ◌+◌, ◌-◌, nat_lt, ℕ, Bool, true, false, List, [], ◌∷◌, length, take, refl, sym, ◌∙◌, ap, subst, arith, slice_index, Some, ◌⊎◌, inl, inr, ◌==◌, ◌||◌}
 use Rattle.std.proofs.lemmas.Bool.{ltb-true, ltb-false, or_left}
 use Rattle.log_image.specs.Image.{words_in}
 use Rattle.pmem_words.specs.Seats.{Seat}
 use Rattle.log_core.specs.Entries.{place_in}
 use Rattle.log_core.specs.Views.{Ghost, view_of}
-use Rattle.log_core.specs.Origin.{Origin, shape, first_generation, LogBlock, no_log}
+use Rattle.log_image.specs.Chains.{is_listed}
+use Rattle.log_core.specs.Origin.{Origin, shape, start_base, first_generation, LogBlock, no_log}
 use Rattle.log_core.specs.Files.{entries}
 use Rattle.log_core.specs.Cores.{Core, generation_at, is_named, nth_log, log_at, number_at, entries_used, is_sealed, is_full}
 use Rattle.log_core.specs.Works.{Follows, kept_at, kept_word, words_of, state_after_work, TakesSeal, tail_word}
 use Rattle.log_core.specs.Order.{nth_generation}
 use Rattle.log_core.specs.Walks.{WalkHolds, HasWalked, IsKeptWord}
+use Rattle.log_core.specs.Noted.{NotedHolds, is_named_before}
 use Rattle.log_core.specs.Invariant.{Invariant, KeptIn, around}
 use Rattle.log_core.specs.Knows.{Knows}
 use Rattle.log_core.proofs.Facts.{place_facts, stays_away}
 use Rattle.log_core.proofs.Heads.{kept_place}
 use Rattle.log_core.proofs.KeptWords.{some_word, present_word, kept_holds}
-use Rattle.log_core.proofs.LogTails.{TailLog, tail_log, log_again, entries_short, sealed_at, sealed_short}
+use Rattle.log_core.proofs.NotedBits.{length_more, more_noted}
+use Rattle.log_core.proofs.NotedNames.{log_more}
+use Rattle.log_core.proofs.NotedGrown.{noted_inside}
+use Rattle.log_core.proofs.LogTails.{TailLog, tail_log, log_again, number_again, entries_short, sealed_at, sealed_short}
 use Rattle.log_entry.specs.declared.layouts.TheConstants.{SEAL}
 use Rattle.persistence.specs.Memory.{cell}
 use Rattle.log_core.specs.Certain.{IsGrowing}
@@ -96,7 +101,6 @@ module _ (o : Origin) (c : Core) (n : ℕ) (s : Seat) (g : Ghost) (pin began : �
 
       walk_sealed : WalkHolds (around o c) s.hold (state_after_work s TakesSeal).walk
       walk_sealed = record {
-        unwalked = w.unwalked;
         to_end = w.to_end;
         from_first = w.from_first;
         to_current = w.to_current;
@@ -119,6 +123,7 @@ module _ (o : Origin) (c : Core) (n : ℕ) (s : Seat) (g : Ghost) (pin began : �
         ready_walked = w.ready_walked;
         ready_base = w.ready_base;
         ready_tail = w.ready_tail;
+        seeking = w.seeking;
         first_known = w.first_known;
       }
 
@@ -163,7 +168,6 @@ module _ (o : Origin) (c : Core) (n : ℕ) (s : Seat) (g : Ghost) (pin began : �
 
       walk_followed : WalkHolds (around o c) s.hold (state_after_work s Follows).walk
       walk_followed = record {
-        unwalked = λ none. absurd (linked none);
         to_end = w.to_end;
         from_first = w.from_first;
         to_current = w.to_current;
@@ -183,14 +187,33 @@ module _ (o : Origin) (c : Core) (n : ℕ) (s : Seat) (g : Ghost) (pin began : �
         ready_walked = λ again. (let r = w.ready_walked again in (linked, r.1, r.2));
         ready_base = w.ready_base;
         ready_tail = λ again. (let low = w.ready_tail again in let position = position_is in omega (arith, low, position));
+        seeking = w.seeking;
         first_known = w.first_known;
       }
 
+      -- the chain names that log block more
+      noted_followed : NotedHolds (around o c) s.hold (state_after_work s Follows).walk s.calling (state_after_work s Follows).blocks.named
+      noted_followed = (
+        (f.noted some).0,
+        (λ on reading. (let both : true ≡ false = sym reading ∙ (w.ready_walked ready).1 in cc)),
+        (λ on again b low. more_noted s.calling.noting s.blocks.named (next ∷ []) b on (noted_inside o c n s g pin began f some b low)
+            ∙ (ap (λ (t : Bool). is_listed (next ∷ []) b || t) ((f.noted some).2 on again b low) ∙ sym (names_more b))),
+      )
+        where
+          number_next : number_at c.logs s.walk.position ≡ number + 1
+          number_next = ap (λ (base : ℕ). number_at c.logs base) (sym next_base) ∙ number_again o c inv (number + 1) next_inside
+
+          names_more : (b : ℕ) → is_named_before o c.logs (entries o c.history) (nth_generation c.generations place) (state_after_work s Follows).walk b
+              ≡ (is_listed (next ∷ []) b || is_named_before o c.logs (entries o c.history) (nth_generation c.generations place) s.walk b)
+          names_more b = ap (λ (k : ℕ). is_named o (take (k + 1) c.logs) (take (s.walk.position - start_base o) (entries o c.history)) (nth_generation c.generations place) b) number_next
+              ∙ (log_more o c.logs (take (s.walk.position - start_base o) (entries o c.history)) (nth_generation c.generations place) number (let late = log.late in omega (arith, late)) next_inside b
+              ∙ ap (λ (other : ℕ). is_listed (other ∷ []) b || is_named_before o c.logs (entries o c.history) (nth_generation c.generations place) s.walk b) next_block)
+
   pub seal_facts : s.walk.tail_slot ≢ words_of s → tail_word s ≡ SEAL → Knows o c n (state_after_work s TakesSeal) g pin began
-  seal_facts open_block seal = place_facts o c n s g pin began f [] s.walk.tail_block s.walk.tail_base (words_of s) s.walk.ready s.walk.snapshot_base s.walk.first_log s.walk.at_tail (stays_away o c n s g pin began f) f.tail
-      (λ some. walk_sealed some open_block seal)
+  seal_facts open_block seal = place_facts o c n s g pin began f [] s.walk.tail_block s.walk.tail_base (words_of s) s.walk.ready s.walk.snapshot_base s.walk.first_log s.walk.at_tail s.blocks.named refl (stays_away o c n s g pin began f) f.tail
+      (λ some. walk_sealed some open_block seal) f.noted
 
   pub follow_facts : s.walk.tail_slot ≡ words_of s → kept_word s s.walk.tail_block 0 ≢ 0 → Knows o c n (state_after_work s Follows) g pin began
-  follow_facts closed linked = place_facts o c n s g pin began f [] (kept_word s s.walk.tail_block 0) s.walk.position 3 s.walk.ready s.walk.snapshot_base s.walk.first_log s.walk.at_tail (stays_away o c n s g pin began f)
+  follow_facts closed linked = place_facts o c n s g pin began f [] (kept_word s s.walk.tail_block 0) s.walk.position 3 s.walk.ready s.walk.snapshot_base s.walk.first_log s.walk.at_tail (state_after_work s Follows).blocks.named (length_more s.calling.noting s.blocks.named _) (stays_away o c n s g pin began f)
       (λ at. (let r = f.tail at in record { walked = linked; from_first = r.from_first; begun = r.begun; records = r.records }))
-      (λ some. walk_followed some closed linked)
+      (λ some. walk_followed some closed linked) (λ some. noted_followed some closed linked)

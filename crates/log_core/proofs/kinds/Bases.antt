@@ -25,6 +25,7 @@ pub bases_facts : (o : Origin) (c : Core) (n : ℕ) (s : Seat) (g : Ghost) (pin 
 bases_facts o c n s g pin began bases base_words f hold none = moved_facts o c n s g pin began f s.walk (record (s.calling) { bases = bases; base_words = base_words }) s.giving.pins_seen s.giving.limbo_held (record {
   map = λ some. (f.fits some).map;
   walk = f.walk;
+  noted = f.noted;
   scan_others = f.scan_others;
   scan_self = f.scan_self;
   writes = (let r = f.writes in record { recorded = r.recorded; running = r.running });

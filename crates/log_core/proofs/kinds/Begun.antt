@@ -103,6 +103,7 @@ module _ (o : Origin) (c : Core) (n : ℕ) (s : Seat) (g : Ghost) (pin began now
     pin_is = f.pin_is;
     pin_holds = f.pin_holds;
     walk = λ some. without_kept o c s s.hold.pin s.hold.valid false (f.walk some);
+    noted = λ some. ((λ noting. cc), (λ noting. cc), (λ noting. cc));
     owned = (let r = f.owned in record {
       contents = r.contents;
       areas = r.areas;

@@ -207,7 +207,6 @@ module _ (o : Origin) (c : Core) (n : ℕ) (s : Seat) (g : Ghost) (pin began wor
       let old = has_walked o c n s g pin began word entry number inv f here unspent used_entry no_seal may empty in
       let last = at_last o c n s g pin began word entry number inv f here unspent used_entry no_seal may empty in
       let open_slot = unclosed o c n s g pin began word entry number inv f here unspent used_entry no_seal may empty in record {
-        unwalked = λ none. absurd (((f.walk unspent).ready_walked may.at_tail.ready).0 none);
         to_end = (let next = position_next in omega (arith, next));
         from_first = k.from_first;
         to_current = k.to_current;
@@ -231,8 +230,12 @@ module _ (o : Origin) (c : Core) (n : ℕ) (s : Seat) (g : Ghost) (pin began wor
         ready_walked = k.ready_walked;
         ready_base = k.ready_base;
         ready_tail = k.ready_tail;
+        seeking = k.seeking;
         first_known = k.first_known;
       })
+
+  no_collection : {P : Type 0} → s.calling.noting ≡ true → P
+  no_collection on = no_task Collect CollectOp ((f.noted unspent).0 on) refl refl
 
   put_fits : began ≤ end_of o c.history → FitsGrown o c growth inv grows s g pin began f walk_put calling_put blocks_put stored_put
   put_fits low = record {
@@ -244,6 +247,7 @@ module _ (o : Origin) (c : Core) (n : ℕ) (s : Seat) (g : Ghost) (pin began wor
         (owned_grown o c growth inv grows n g s (words o c n s g pin began word entry number inv f here unspent used_entry no_seal may empty)
         (same_image o c n s g pin began word entry number inv f here unspent used_entry no_seal may empty) f.owns.owned.listed f.owned) (λ (block : ℕ). is_listed (names meaning) block) refl s.blocks.found;
     walks = λ some. walk_holds;
+    noted = λ some. (no_collection, (λ on. no_collection on), (λ on. no_collection on));
     writes = fit;
     writes_once = once;
     put = record { own = λ head is. (let both : None ≡ Some head = sym no_put ∙ is in cc); found = f.put.found };

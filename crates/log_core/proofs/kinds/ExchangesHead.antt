@@ -32,6 +32,7 @@ use Rattle.log_core.specs.Giving.{GivingHolds, ScanHolds}
 use Rattle.log_core.specs.Pins.{PinHolds}
 use Rattle.log_core.specs.Snapshots.{first_or}
 use Rattle.log_core.specs.Walks.{WalkHolds}
+use Rattle.log_core.specs.Noted.{NotedBy}
 use Rattle.log_core.specs.Owned.{OwnedHold}
 use Rattle.log_core.specs.Records.{WritesFit, WritesOnce, SeatsOnce, PutFits, RecordHolds, NeverFall, CallHolds, TailHolds, MarksFit, one_if, collects, collected_in, putting, collected_by}
 use Rattle.log_core.specs.Synced.{SyncHolds}
@@ -50,6 +51,7 @@ use Rattle.log_core.proofs.clauses.OwnedSame.{owned_kept, owned_view_kept, marks
 use Rattle.log_core.proofs.clauses.HeadMoved.{HeadMoves}
 use Rattle.log_core.proofs.clauses.HeadNames.{at, at_last, in_chain, present_is, above, from_start, cut_inside, cut_base, cut_late, mine, snaps, new_once, owner_by, owner_replaced, owner_same, list_same, replaced_was, replaced_not_now, bits_moved, chain_moved_named, chain_moved_all}
 use Rattle.log_core.proofs.clauses.HeadContents.{owner_now, recorded_now, block_cell, named_some, old_contents, new_contents}
+use Rattle.log_core.proofs.clauses.HeadNoted.{noted_moved}
 use Rattle.log_core.proofs.clauses.HeadOthers.{made, gens, gens_count, current_more, old_gen, last_gen, keeps, pin_moved, floor_same, no_later, giving_moved, moved_core, walk_moved, sync_moved, put_moved, record_moved}
 
 -- how often a generation was put in place, where a view gets the head of its call
@@ -370,6 +372,12 @@ module _ (o : Origin) (c : Core) (n : ℕ) (s : Seat) (g : Ghost) (ends : List �
       (λ some. walk_moved o c n s g pn bn before next inv unspent f may won m moves views ends kept_before s.hold f.pin_holds (λ valid. kept_here) s.walk (f.walk some))
       (λ k other some. walk_moved o c n s g pn bn before next inv unspent f may won m moves views ends kept_before (view_of c.views k).seat.hold (inv.pins.holds k) (pin_kept k) (view_of c.views k).seat.walk (inv.walks k some))
 
+  noted : (seat : ℕ) → (view_of views seat).parts ≢ [] → NotedBy (around o new) (view_of views seat).seat
+  noted = each_set (λ (k : ℕ) (v : View). v.parts ≢ [] → NotedBy (around o new) v.seat) c.views n w here
+      (λ some. noted_moved o c n s g pn bn before next inv unspent f may won m moves views ends kept_before s.hold s.walk s.calling s.blocks.named f.pin_holds (f.walk some) (f.noted some))
+      (λ k other some. (let u = (view_of c.views k).seat in
+      noted_moved o c n s g pn bn before next inv unspent f may won m moves views ends kept_before u.hold u.walk u.calling u.blocks.named (inv.pins.holds k) (inv.walks k some) (inv.noted k some)))
+
   -- the owned blocks that are left
   own_words : words_of s ≡ q_of_origin o
   own_words = ap Rattle.pmem_words.specs.Seats.q_of (f.fits unspent).geometry
@@ -533,6 +541,7 @@ module _ (o : Origin) (c : Core) (n : ℕ) (s : Seat) (g : Ghost) (ends : List �
     contents = contents;
     pins = pins_hold;
     walks = walks;
+    noted = noted;
     owned = owned;
     givings = givings;
     records = records;

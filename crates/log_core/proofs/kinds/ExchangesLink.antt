@@ -1,21 +1,29 @@
 -- An exchange of the link of the tail's block that wins: what a core knows of the seat then.
-use Rattle.std.proofs.Common.{◌≡◌, ◌≢◌, ◌<◌, ◌≤◌, ◌+◌, ◌-◌, ◌==◌, ◌||◌, ◌∷◌, ℕ, Bool, true, false, List, [], length, refl, sym, ◌∙◌, ap, subst, arith, slice_index}
+use Rattle.std.proofs.Common.{◌≡◌, ◌≢◌, ◌<◌, ◌≤◌, ◌+◌, ◌-◌, ◌==◌, ◌||◌, ◌++◌, ◌∷◌, ℕ, Bool, true, false, List, [], length, take, refl, sym, ◌∙◌, ap, subst, arith, slice_index}
 use Rattle.std.proofs.lemmas.Bool.{eqb-true, eq-eqb}
+use Rattle.std.proofs.lemmas.List.{map-append}
 use Rattle.log_image.specs.Image.{words_in}
 use Rattle.log_image.specs.Chains.{is_listed}
+use Rattle.pmem_words.specs.Noted.{noted_more}
 use Rattle.pmem_words.specs.Seats.{Seat, Walk, Blocks}
 use Rattle.persistence.specs.Memory.{cell}
+use Rattle.log_core.specs.Entries.{LogEntry}
 use Rattle.log_core.specs.Views.{Ghost, Stored, view_of}
-use Rattle.log_core.specs.Origin.{Origin, shape, LogBlock}
-use Rattle.log_core.specs.Files.{end_of}
-use Rattle.log_core.specs.Cores.{Core, nth_log, log_at, entries_used, is_full}
+use Rattle.log_core.specs.Origin.{Origin, shape, start_base, first_generation, LogBlock, Generation}
+use Rattle.log_core.specs.Files.{entries, end_of}
+use Rattle.log_core.specs.Cores.{Core, generation_at, nth_log, log_at, number_at, entries_used, is_full, is_named, data_names}
 use Rattle.log_core.specs.Works.{seat_shape, words_of}
 use Rattle.log_core.specs.Steps.{blocks_but, stored_but}
 use Rattle.log_core.specs.May.{MayExchangeLink}
 use Rattle.log_core.specs.Walks.{WalkHolds}
+use Rattle.log_core.specs.Noted.{NotedHolds, is_named_before}
 use Rattle.log_core.specs.Invariant.{Invariant, around}
 use Rattle.log_core.specs.Knows.{Knows}
-use Rattle.log_core.proofs.LogTails.{bases_rise, log_at_base, some_slot, entry_counts}
+use Rattle.log_core.proofs.NotedBits.{length_more, more_noted}
+use Rattle.log_core.proofs.NotedNames.{log_more}
+use Rattle.log_core.proofs.NotedGrown.{noted_inside, first_same}
+use Rattle.log_core.proofs.PinnedChains.{kept}
+use Rattle.log_core.proofs.LogTails.{bases_rise, number_again, number_at_base, log_at_base, some_slot, entry_counts}
 use Rattle.log_core.proofs.TailEnds.{stands_at_end, IsLastTail}
 use Rattle.log_core.proofs.clauses.Growth.{Growth, Grows, last_log, grown}
 use Rattle.log_core.proofs.clauses.GrownWords.{last_inside}
@@ -104,14 +112,13 @@ module _ (o : Origin) (c : Core) (n : ℕ) (s : Seat) (g : Ghost) (pin began wor
   walk_linked = record (s.walk) { tail_block = block; tail_slot = 3; tail_base = s.walk.position; at_tail = true }
 
   abbrev pub blocks_linked : Blocks
-  blocks_linked = blocks_but (words_of s) (λ (other : ℕ). other == block) s.blocks
+  blocks_linked = record (blocks_but (words_of s) (λ (other : ℕ). other == block) s.blocks) { named = noted_more s.calling.noting s.blocks.named (block ∷ []) }
 
   abbrev pub stored_linked : List Stored
   stored_linked = stored_but (words_of s) (λ (other : ℕ). other == block) g.stored
 
   walk_holds : WalkHolds (around o (grown c x)) s.hold walk_linked
   walk_holds = (let w = walk_same o c x inv link_grows s g pin began f unspent in record {
-    unwalked = λ none. absurd (some_block none);
     to_end = w.to_end;
     from_first = w.from_first;
     to_current = w.to_current;
@@ -131,8 +138,54 @@ module _ (o : Origin) (c : Core) (n : ℕ) (s : Seat) (g : Ghost) (pin began wor
     ready_walked = λ again. (let r = w.ready_walked again in (some_block, r.1, r.2));
     ready_base = w.ready_base;
     ready_tail = λ again. (let low = w.ready_tail again in let base = last.base in let position = last_base in omega (arith, low, base, position));
+    seeking = w.seeking;
     first_known = w.first_known;
   })
+
+  -- what the chain names before the walk's place, in the data area, and of log blocks up to the last one
+  abbrev es : List LogEntry
+  es = take (s.walk.position - start_base o) (entries o c.history)
+
+  abbrev pinned : Generation
+  pinned = generation_at o c.generations s.hold.generation
+
+  abbrev end_number : ℕ
+  end_number = length c.logs - 1
+
+  tail_number : number_at c.logs s.walk.tail_base ≡ end_number
+  tail_number = ap (λ (k : ℕ). number_at c.logs k) (sym last.base) ∙ number_again o c inv end_number (last_inside o c inv)
+
+  new_number : number_at logs s.walk.position ≡ length c.logs
+  new_number = ap (λ (k : ℕ). number_at logs k) (sym (ap (λ (l : LogBlock). l.base) new_log)) ∙ number_at_base logs (length c.logs) (let more = long in omega (arith, more))
+      (λ other less same. (let low = before_new other less in
+      let was : (nth_log logs other).base ≡ (nth_log c.logs other).base = ap (λ (l : LogBlock). l.base) (old_log other less) in
+      let is : (nth_log logs (length c.logs)).base ≡ s.walk.position = ap (λ (l : LogBlock). l.base) new_log in
+      omega (arith, same, low, was, is)))
+
+  late_cut : pinned.cut ≤ end_number + 1
+  late_cut = (let inside = inv.order.generations_rise.cut_inside (s.hold.generation - first_generation o) (kept o c n s g pin began inv f may.valid).inside in omega (arith, inside))
+
+  count : end_number + 1 ≡ length c.logs
+  count = (let some = inv.order.log.some in omega (arith, some))
+
+  -- the chain names the new log block more
+  names_more : (b : ℕ) → is_named_before o logs (entries o c.history) pinned walk_linked b ≡ (is_listed (block ∷ []) b || is_named_before o c.logs (entries o c.history) pinned s.walk b)
+  names_more b =
+      (let same = count in
+      ap (λ (k : ℕ). is_named o (take (k + 1) logs) es pinned b) (new_number ∙ sym same)
+      ∙ (log_more o logs es pinned end_number late_cut (let more = long in omega (arith, more, same)) b
+      ∙ (ap (λ (l : LogBlock). is_listed (l.block ∷ []) b || is_named o (take (end_number + 1) logs) es pinned b) (ap (λ (k : ℕ). nth_log logs k) same ∙ new_log)
+      ∙ (ap (λ (l : List ℕ). is_listed (block ∷ []) b || is_listed ((pinned.snapshots ++ l) ++ data_names o es pinned) b)
+      (first_same c.logs logs (block ∷ []) (end_number + 1) pinned.cut (map-append (λ (l : LogBlock). l.block) c.logs (new ∷ [])) (omega (arith, same)))
+      ∙ ap (λ (k : ℕ). is_listed (block ∷ []) b || is_named o (take (k + 1) c.logs) es pinned b) (sym tail_number)))))
+
+  noted_holds : NotedHolds (around o (grown c x)) s.hold walk_linked s.calling blocks_linked.named
+  noted_holds = (
+    (f.noted unspent).0,
+    (λ on reading. (let both : true ≡ false = sym reading ∙ ((f.walk unspent).ready_walked may.ready).1 in cc)),
+    (λ on ready b low. more_noted s.calling.noting s.blocks.named (block ∷ []) b on (noted_inside o c n s g pin began f unspent b low)
+        ∙ (ap (λ (t : Bool). is_listed (block ∷ []) b || t) ((f.noted unspent).2 on ready b low) ∙ sym (names_more b))),
+  )
 
   not_reading : {P : Type 0} → s.walk.reading ≡ true → P
   not_reading reading = (let both : true ≡ false = sym reading ∙ ((f.walk unspent).ready_walked may.ready).1 in cc)
@@ -140,12 +193,19 @@ module _ (o : Origin) (c : Core) (n : ℕ) (s : Seat) (g : Ghost) (pin began wor
   link_fits : began ≤ end_of o c.history → FitsGrown o c x inv link_grows s g pin began f walk_linked s.calling blocks_linked stored_linked
   link_fits low = record {
     found = refl;
-    named = refl;
+    named = length_more s.calling.noting s.blocks.named (block ∷ []);
     map = λ some. (f.fits some).map;
     owns = owns_left o c x inv link_grows (λ (other : ℕ). other == block) (leaves_one block) s.blocks.owned f.owns.owned;
-    owned = left_hold (λ at. cell x.memory at) x.memory.past x.memory.pending n s g (record g { stored = stored_linked })
-        (owned_grown o c x inv link_grows n g s words image f.owns.owned.listed f.owned) (λ (other : ℕ). other == block) refl s.blocks.found;
+    owned = (let r = left_hold (λ at. cell x.memory at) x.memory.past x.memory.pending n s g (record g { stored = stored_linked })
+        (owned_grown o c x inv link_grows n g s words image f.owns.owned.listed f.owned) (λ (other : ℕ). other == block) refl s.blocks.found in record {
+          contents = r.contents;
+          areas = r.areas;
+          stored = r.stored;
+          filled = λ place inside filled. (let q = r.filled place inside filled in record { owned = q.owned; each = q.each });
+          fenced = r.fenced;
+        });
     walks = λ some. walk_holds;
+    noted = λ some. noted_holds;
     writes = (let r = f.writes in record { recorded = r.recorded; running = r.running });
     writes_once = f.writes_once;
     put = f.put;

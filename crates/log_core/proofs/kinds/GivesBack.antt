@@ -211,7 +211,6 @@ module _ (o : Origin) (c : Core) (n : ℕ) (s : Seat) (g : Ghost) (pin began wor
     pin_is = f.pin_is;
     pin_holds = f.pin_holds;
     walk = λ some. (let r = f.walk some in record {
-      unwalked = r.unwalked;
       to_end = r.to_end;
       from_first = r.from_first;
       to_current = r.to_current;
@@ -222,8 +221,10 @@ module _ (o : Origin) (c : Core) (n : ℕ) (s : Seat) (g : Ghost) (pin began wor
       ready_walked = r.ready_walked;
       ready_base = r.ready_base;
       ready_tail = r.ready_tail;
+      seeking = r.seeking;
       first_known = r.first_known;
     });
+    noted = f.noted;
     owned = (let r = f.owned in record {
       contents = r.contents;
       areas = r.areas;

@@ -5,7 +5,7 @@ use Rattle.pmem_words.specs.Seats.{Seat}
 use Rattle.log_core.specs.Views.{Ghost, view_of, op_in, op_of}
 use Rattle.log_core.specs.Origin.{Origin}
 use Rattle.log_core.specs.Cores.{Core}
-use Rattle.log_core.specs.Works.{Work, Begins, KeepsTable, StartsFromLog, StartsFromSnapshot, ReadsRun, NextSnapshot, EndsReading, TakesEntry, TakesSeal, Follows, Forgets, OpensBase, AddsBaseWord, DropsBases, Lays, SetsWord, CountsFilled, NotesNamed, KeepsReplaced, NotesHeld, IsFree, state_after_work, MayWork, is_going_on}
+use Rattle.log_core.specs.Works.{Work, Begins, KeepsTable, StartsFromLog, StartsFromSnapshot, ReadsRun, NextSnapshot, EndsReading, SeeksFirst, SeeksNext, FindsFirst, TakesEntry, TakesSeal, Follows, Forgets, OpensBase, AddsBaseWord, DropsBases, Lays, SetsWord, CountsFilled, NotesNamed, KeepsReplaced, NotesHeld, IsFree, state_after_work, MayWork, is_going_on}
 use Rattle.log_core.specs.Steps.{call_if}
 use Rattle.log_core.specs.Invariant.{Invariant}
 use Rattle.log_core.specs.Knows.{Knows}
@@ -21,7 +21,8 @@ use Rattle.log_core.proofs.kinds.KeepsReplaced.{replaced_facts}
 use Rattle.log_core.proofs.kinds.KeepsTable.{table_facts}
 use Rattle.log_core.proofs.kinds.StartsFromLog.{log_facts}
 use Rattle.log_core.proofs.kinds.StartsFromSnapshot.{snapshot_facts}
-use Rattle.log_core.proofs.kinds.ReadsSnapshot.{run_facts, next_facts, end_facts}
+use Rattle.log_core.proofs.kinds.NotesSnapshot.{run_facts, next_facts, end_facts}
+use Rattle.log_core.proofs.kinds.SeeksFirst.{seek_first_facts, seek_next_facts, find_first_facts}
 use Rattle.log_core.proofs.kinds.TakesEntry.{entry_facts}
 use Rattle.log_core.proofs.kinds.AtTail.{seal_facts, follow_facts}
 
@@ -34,6 +35,9 @@ begins_or_goes_on P begins goes_on StartsFromSnapshot = goes_on StartsFromSnapsh
 begins_or_goes_on P begins goes_on ReadsRun = goes_on ReadsRun refl
 begins_or_goes_on P begins goes_on NextSnapshot = goes_on NextSnapshot refl
 begins_or_goes_on P begins goes_on EndsReading = goes_on EndsReading refl
+begins_or_goes_on P begins goes_on SeeksFirst = goes_on SeeksFirst refl
+begins_or_goes_on P begins goes_on SeeksNext = goes_on SeeksNext refl
+begins_or_goes_on P begins goes_on FindsFirst = goes_on FindsFirst refl
 begins_or_goes_on P begins goes_on TakesEntry = goes_on TakesEntry refl
 begins_or_goes_on P begins goes_on TakesSeal = goes_on TakesSeal refl
 begins_or_goes_on P begins goes_on Follows = goes_on Follows refl
@@ -60,6 +64,9 @@ op_stays g s StartsFromSnapshot going may = refl
 op_stays g s ReadsRun going may = refl
 op_stays g s NextSnapshot going may = refl
 op_stays g s EndsReading going may = refl
+op_stays g s SeeksFirst going may = refl
+op_stays g s SeeksNext going may = refl
+op_stays g s FindsFirst going may = refl
 op_stays g s TakesEntry going may = refl
 op_stays g s TakesSeal going may = refl
 op_stays g s Follows going may = refl
@@ -95,6 +102,9 @@ module _ (g : Ghost) (begun : Bool) (number : ℕ) where
   may_begun s ReadsRun going may = may
   may_begun s NextSnapshot going may = may
   may_begun s EndsReading going may = may
+  may_begun s SeeksFirst going may = may
+  may_begun s SeeksNext going may = may
+  may_begun s FindsFirst going may = may
   may_begun s TakesEntry going may =
       (record { free = free_begun s may.0.free; valid = may.0.valid; ready = may.0.ready; inside = may.0.inside; used = may.0.used }, may.1, may.2)
   may_begun s TakesSeal going may =
@@ -120,6 +130,9 @@ module _ (o : Origin) (c : Core) (n pin began : ℕ) (g : Ghost) (inv : Invarian
   going_facts s ReadsRun going may f = run_facts o c n s g pin began inv f may.0 may.1
   going_facts s NextSnapshot going may f = next_facts o c n s g pin began inv f may.reading may
   going_facts s EndsReading going may f = end_facts o c n s g pin began inv f may.reading may
+  going_facts s SeeksFirst going may f = seek_first_facts o c n s g pin began inv f may
+  going_facts s SeeksNext going may f = seek_next_facts o c n s g pin began inv f may
+  going_facts s FindsFirst going may f = find_first_facts o c n s g pin began inv f may
   going_facts s TakesEntry going may f = entry_facts o c n s g pin began inv unspent f may.0 may.1 may.2
   going_facts s TakesSeal going may f = seal_facts o c n s g pin began inv f may.0.valid may.0.ready may.0.inside may.1
   going_facts s Follows going may f = follow_facts o c n s g pin began inv f may.valid may.ready may.at_end may.linked

@@ -9,17 +9,20 @@ use Rattle.log_core.specs.Entries.{head_place}
 use Rattle.log_core.specs.Views.{View, view_of, spent_view}
 use Rattle.log_core.specs.Origin.{Origin, first_generation, Owner}
 use Rattle.log_core.specs.Files.{entries}
-use Rattle.log_core.specs.Cores.{Core, current, head_floor}
+use Rattle.log_core.specs.Cores.{Core, generation_at, current, head_floor}
 use Rattle.log_core.specs.Pins.{PinHolds}
-use Rattle.log_core.specs.Walks.{IsFirstLog, WalkHolds}
+use Rattle.log_core.specs.Walks.{IsFirstLog, WalkHolds, IsSnapshotBlock}
+use Rattle.log_core.specs.Noted.{NotedBy}
 use Rattle.log_core.specs.Owned.{OwnedHold}
 use Rattle.log_core.specs.Giving.{GivingHolds, ScanHolds}
 use Rattle.log_core.specs.Steps.{walk_of, generation_found, view_joined}
 use Rattle.log_core.specs.After.{owner_joined}
 use Rattle.log_core.specs.Runs.{MayJoin}
-use Rattle.log_core.specs.Invariant.{Invariant, around, names_by}
+use Rattle.log_core.specs.Invariant.{Invariant, KeptIn, around, names_by}
 use Rattle.log_core.proofs.clauses.Apart.{either_of}
 use Rattle.log_core.proofs.starts.StartSeats.{scans_none}
+use Rattle.log_core.proofs.NotedGrown.{noted_left}
+use Rattle.log_core.proofs.kinds.IdleViews.{idle_collection}
 use Rattle.log_core.proofs.kinds.JoinedViews.{each_joined, seat_unpinned, other_unpinned, never_valid, kept_before}
 
 module _ (o : Origin) (c : Core) (seat other : ℕ) (inv : Invariant o c) (may : MayJoin c seat other) where
@@ -68,7 +71,6 @@ module _ (o : Origin) (c : Core) (seat other : ℕ) (inv : Invariant o c) (may :
   -- a walk goes to a hold with no valid pin and the same generation
   walk_goes : (x : Seat) (h : Hold) → x.hold.valid ≡ false → h.valid ≡ false → h.generation ≡ x.hold.generation → WalkHolds (around o c) x.hold x.walk → WalkHolds (around o new) h (record (x.walk) { at_tail = false })
   walk_goes x h none invalid same r = record {
-    unwalked = r.unwalked;
     to_end = r.to_end;
     from_first = r.from_first;
     to_current = r.to_current;
@@ -79,6 +81,7 @@ module _ (o : Origin) (c : Core) (seat other : ℕ) (inv : Invariant o c) (may :
     ready_walked = λ ready. (let q = r.ready_walked ready in (q.0, q.1, (λ zero_is. q.2 (sym same ∙ zero_is))));
     ready_base = λ ready. rw same (r.ready_base ready);
     ready_tail = r.ready_tail;
+    seeking = λ ready come_to. subst (λ (generation : ℕ). IsSnapshotBlock (generation_at o c.generations generation) x.walk.reading_place x.walk.reading_block) (sym same) (r.seeking ready come_to);
     first_known = λ known. subst (λ (generation : ℕ). IsFirstLog o c.generations c.logs generation x.walk.first_log) (sym same) (r.first_known known);
   }
 
@@ -90,7 +93,6 @@ module _ (o : Origin) (c : Core) (seat other : ℕ) (inv : Invariant o c) (may :
   walks = (each_joined o c seat other inv may) (λ (k : ℕ) (w : View). w.parts ≢ [] → WalkHolds (around o new) w.seat.hold w.seat.walk)
       (λ some. walk_joined further) (λ none. absurd (none refl))
       (λ k not_seat not_other some. (let r = inv.walks k some in record {
-        unwalked = r.unwalked;
         to_end = r.to_end;
         from_first = r.from_first;
         to_current = r.to_current;
@@ -101,8 +103,18 @@ module _ (o : Origin) (c : Core) (seat other : ℕ) (inv : Invariant o c) (may :
         ready_walked = r.ready_walked;
         ready_base = r.ready_base;
         ready_tail = r.ready_tail;
+        seeking = r.seeking;
         first_known = r.first_known;
       }))
+
+  -- no call runs that notes anything
+  pub noted : (k : ℕ) → (view_of views k).parts ≢ [] → NotedBy (around o new) (view_of views k).seat
+  noted = (each_joined o c seat other inv may) (λ (k : ℕ) (w : View). w.parts ≢ [] → NotedBy (around o new) w.seat)
+      (λ some. ((inv.noted seat may.unspent).0, (λ on. idle on), (λ on. idle on))) (λ none. absurd (none refl))
+      (λ k not_seat not_other some. (let u = (view_of c.views k).seat in noted_left (around o c) (λ place. KeptIn o new place) u.hold u.walk u.calling u.blocks.named (kept_before o c seat other inv may) (inv.noted k some)))
+    where
+      idle : {P : Type 0} → v.seat.calling.noting ≡ true → P
+      idle on = idle_collection v.seat may.idle.no_call ((inv.noted seat may.unspent).0 on)
 
   pub owned : (k : ℕ) → OwnedHold (λ word. cell c.memory word) c.memory.past c.memory.pending k (view_of views k).ghost (view_of views k).seat
   owned = (each_joined o c seat other inv may) (λ (k : ℕ) (w : View). OwnedHold (λ word. cell c.memory word) c.memory.past c.memory.pending k w.ghost w.seat)

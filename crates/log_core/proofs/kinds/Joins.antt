@@ -21,7 +21,7 @@ use Rattle.log_core.proofs.Heads.{some_generation}
 use Rattle.log_core.proofs.clauses.JoinedOwners.{joined_was, joined_is, joined_taken, joined_bits}
 use Rattle.log_core.proofs.starts.StartSeats.{no_pin, gives_none, not_syncing, no_position}
 use Rattle.log_core.proofs.kinds.JoinedViews.{each_joined, kept_before, sizes, owns}
-use Rattle.log_core.proofs.kinds.JoinedWalks.{pin_holds, walks, owned, giving, scans}
+use Rattle.log_core.proofs.kinds.JoinedWalks.{noted, pin_holds, walks, owned, giving, scans}
 use Rattle.log_core.proofs.kinds.JoinedRecords.{records, no_sync_to}
 use Rattle.log_core.proofs.kinds.IdleViews.{idle_sync}
 
@@ -64,6 +64,7 @@ module _ (o : Origin) (c : Core) (seat other : ℕ) (inv : Invariant o c) (may :
           (λ k not_seat not_other. inv.pins.holds k);
     };
     walks = walks o c seat other inv may;
+    noted = noted o c seat other inv may;
     owned = owned o c seat other inv may;
     givings = record {
       lists = (each_joined o c seat other inv may) (λ (k : ℕ) (w : View). GivingHolds names (current o c.generations) (first_generation o + head_floor c.memory) w.seat.giving) (giving o c seat other inv may)

@@ -76,6 +76,7 @@ replaced_facts o c n s g pin began f fenced = record {
   pin_is = f.pin_is;
   pin_holds = f.pin_holds;
   walk = f.walk;
+  noted = f.noted;
   owned = (let r = f.owned in record {
     contents = r.contents;
     areas = r.areas;

@@ -10,7 +10,7 @@ use Rattle.log_core.specs.Works.{walk_kept, KeepsTable, IsAtFront, kept_at, word
 use Rattle.log_core.specs.Order.{nth_generation, front_of}
 use Rattle.log_core.specs.Invariant.{Invariant, KeptIn}
 use Rattle.log_core.specs.Knows.{Knows}
-use Rattle.log_core.proofs.Facts.{place_facts, stays_away}
+use Rattle.log_core.proofs.Facts.{moved_facts}
 use Rattle.log_core.proofs.PinnedChains.{place, some_generation, from_first, kept, IsChainWord, chain_kept}
 use Rattle.log_core.proofs.Fronts.{head_front, front_says, front_log, front_snapshot}
 use Rattle.log_core.specs.Walks.{IsFirstLog, HasWalked}
@@ -61,22 +61,38 @@ module _ (o : Origin) (c : Core) (n : ℕ) (s : Seat) (g : Ghost) (pin began : �
     front_kinds log = kind_by (kept_at s.walk.kept (front s) 1) refl log
 
   pub table_facts : s.walk.tail_block ≢ 0 → s.walk.reading ≡ false → front_base s ≤ s.walk.tail_base → Knows o c n (state_after_work s KeepsTable) g pin began
-  table_facts walked stopped low = place_facts o c n s g pin began f s.walk.kept s.walk.tail_block s.walk.tail_base s.walk.tail_slot true (front_base s) (walk_kept s.walk (front_base s)).first_log s.walk.at_tail
-      (stays_away o c n s g pin began f) f.tail
-      (λ some. (let w = f.walk some in record {
-        unwalked = w.unwalked;
-        to_end = w.to_end;
-        from_first = w.from_first;
-        to_current = w.to_current;
-        read = λ reading in_chain. (let r = w.read reading in_chain in record { inside = r.inside; block = r.block; from = r.from; upto = r.upto; table = r.table; size_is = r.size_is; position_is = r.position_is });
-        kept_words = w.kept_words;
-        unpinned = w.unpinned;
-        walked = λ some_block still. (let r = w.walked some_block still in record { table = r.table; size_is = r.size_is; base = r.base; block = r.block; from = r.from; upto = r.upto; inside = r.inside; at_end = r.at_end });
-        ready_walked = λ ready. (walked, stopped, has_generation);
-        ready_base = λ ready. base_is some;
-        ready_tail = λ ready. low;
-        first_known = first_by (front_base s == s.walk.tail_base) refl some (w.walked walked stopped) w.first_known;
-      }))
+  table_facts walked stopped low = moved_facts o c n s g pin began f (walk_kept s.walk (front_base s)) (record (s.calling) { noting = false }) s.giving.pins_seen s.giving.limbo_held (record {
+    map = λ some. (f.fits some).map;
+    walk = λ some. (let w = f.walk some in record {
+      to_end = w.to_end;
+      from_first = w.from_first;
+      to_current = w.to_current;
+      read = λ reading. (let both : true ≡ false = sym reading ∙ stopped in cc);
+      kept_words = w.kept_words;
+      unpinned = w.unpinned;
+      walked = λ some_block still. (let r = w.walked some_block still in record { table = r.table; size_is = r.size_is; base = r.base; block = r.block; from = r.from; upto = r.upto; inside = r.inside; at_end = r.at_end });
+      ready_walked = λ ready. (walked, stopped, has_generation);
+      ready_base = λ ready. base_is some;
+      ready_tail = λ ready. low;
+      seeking = λ ready come_to. absurd (come_to refl);
+      first_known = first_by (front_base s == s.walk.tail_base) refl some (w.walked walked stopped) w.first_known;
+    });
+    noted = λ some. ((λ on. cc), (λ on. cc), (λ on. cc));
+    scan_others = f.scan_others;
+    scan_self = f.scan_self;
+    writes = (let r = f.writes in record { recorded = r.recorded; running = r.running });
+    writes_once = f.writes_once;
+    put = f.put;
+    calls = (let r = f.calls in record {
+      laid = r.laid;
+      bases = (let b = r.bases in record { most = b.most; whole = b.whole; from_first = b.from_first; bytes = b.bytes });
+      reading = λ reading. (let both : true ≡ false = sym reading ∙ stopped in cc);
+      numbers = r.numbers;
+      task = (let t = r.task in record { won_runs = t.won_runs; put_collects = t.put_collects; synced_syncs = t.synced_syncs });
+    });
+    tail = f.tail;
+    syncs = (let r = f.syncs in record { to = r.to; marks = r.marks; valid = r.valid; answered = r.answered });
+  })
     where
       -- a tail at the base of the chain's first log block is in that block
       first_by : (b : Bool) → (front_base s == s.walk.tail_base) ≡ b → (view_of c.views n).parts ≢ [] → HasWalked o (entries o c.history) c.logs s.walk →

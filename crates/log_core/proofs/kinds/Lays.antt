@@ -44,6 +44,7 @@ pub lay_facts : (o : Origin) (c : Core) (n : ℕ) (s : Seat) (g : Ghost) (pin be
 lay_facts o c n s g pin began inv some bytes f may = moved_facts o c n s g pin began f s.walk (record (s.calling) { bytes = s.calling.bytes ++ bytes }) s.giving.pins_seen s.giving.limbo_held (record {
   map = λ some. (f.fits some).map;
   walk = f.walk;
+  noted = f.noted;
   scan_others = f.scan_others;
   scan_self = f.scan_self;
   writes = (let r = f.writes in record { recorded = r.recorded; running = λ won. (let q = r.running won in (q.0, q.1, q.2, asks ∙ q.3)) });

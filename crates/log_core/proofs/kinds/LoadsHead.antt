@@ -13,7 +13,8 @@ use Rattle.log_core.specs.Origin.{Origin, shape, q_of_origin, first_generation}
 use Rattle.log_core.specs.Files.{entries}
 use Rattle.log_core.specs.Cores.{Core, current, generation_at, is_named, head_floor, IsPinned}
 use Rattle.log_core.specs.Pins.{PinHolds}
-use Rattle.log_core.specs.Walks.{IsFirstLog, WalkHolds, IsKeptWord}
+use Rattle.log_core.specs.Walks.{IsFirstLog, WalkHolds, IsKeptWord, IsSnapshotBlock}
+use Rattle.log_core.specs.Noted.{AreNoted, is_named_before}
 use Rattle.log_core.specs.Giving.{GivingHolds, ScanHolds}
 use Rattle.log_core.specs.Synced.{SyncMarkHolds}
 use Rattle.log_core.specs.Invariant.{Invariant, around, names_by}
@@ -124,7 +125,6 @@ module _ (o : Origin) (c : Core) (n : ℕ) (s : Seat) (g : Ghost) (pin began wor
 
   walk_loaded : (b : Bool) → WalkHolds (around o c) s.hold s.walk → WalkHolds (around o c) (hold_by b s.hold word) (loaded_by b s word).walk
   walk_loaded b w = record {
-    unwalked = w.unwalked;
     to_end = w.to_end;
     from_first = w.from_first;
     to_current = w.to_current;
@@ -137,6 +137,8 @@ module _ (o : Origin) (c : Core) (n : ℕ) (s : Seat) (g : Ghost) (pin began wor
     ready_base = λ ready. subst (λ (generation : ℕ). s.walk.snapshot_base ≡ (generation_at o c.generations generation).base) (sym (ready_same b s.hold s.walk.ready ready))
         (w.ready_base (ready_was b s.hold s.walk.ready ready));
     ready_tail = λ ready. w.ready_tail (ready_was b s.hold s.walk.ready ready);
+    seeking = λ ready come_to. subst (λ (generation : ℕ). IsSnapshotBlock (generation_at o c.generations generation) s.walk.reading_place s.walk.reading_block) (sym (ready_same b s.hold s.walk.ready ready))
+        (w.seeking (ready_was b s.hold s.walk.ready ready) come_to);
     first_known = λ known. (let was = first_was b s.hold s.walk.first_log known in
         subst (λ (generation : ℕ). IsFirstLog o c.generations c.logs generation (first_by b s.hold s.walk.first_log)) (sym (first_same b s.hold s.walk.first_log known))
         (subst (λ (block : ℕ). IsFirstLog o c.generations c.logs s.hold.generation block) (sym was) (w.first_known (λ none. known (was ∙ none)))));
@@ -175,6 +177,12 @@ module _ (o : Origin) (c : Core) (n : ℕ) (s : Seat) (g : Ghost) (pin began wor
     pin_is = f.pin_is;
     pin_holds = pin_facts b is;
     walk = λ some. walk_loaded b (f.walk some);
+    noted = λ some. (let r = f.noted some in (
+      r.0,
+      r.1,
+      (λ on ready. subst (λ (generation : ℕ). AreNoted (shape o) s.blocks.named (λ block. is_named_before o c.logs (entries o c.history) (generation_at o c.generations generation) s.walk block)) (sym (ready_same b s.hold s.walk.ready ready))
+          (r.2 on (ready_was b s.hold s.walk.ready ready))),
+    ));
     owned = (let r = f.owned in record {
       contents = r.contents;
       areas = r.areas;

@@ -79,13 +79,16 @@ module _ (o : Origin) (c : Core) (n : ℕ) (s : Seat) (g : Ghost) (pin began wor
   kept_word = record {
     named = may.named;
     inside = subst (λ (q : ℕ). word % q < words_in (shape o)) (sym same_words) (let wide = inv.sizes.image.wide in Rattle.std.proofs.Math.Nat.mod-lt word (omega (arith, wide)));
-    word_is = inl (subst (λ (q : ℕ). value ≡ slice_index c.memory.now.words (word / q * words_in (shape o) + word % q)) (sym same_words)
-        (ap (λ (at : ℕ). slice_index c.memory.now.words at) (sym (place_again (words_in (shape o)) word))));
+    word_is = inl present;
+    early = λ at. present;
   }
+    where
+      present : value ≡ slice_index c.memory.now.words (word / words_of s * words_in (shape o) + word % words_of s)
+      present = subst (λ (q : ℕ). value ≡ slice_index c.memory.now.words (word / q * words_in (shape o) + word % q)) (sym same_words)
+          (ap (λ (at : ℕ). slice_index c.memory.now.words at) (sym (place_again (words_in (shape o)) word)))
 
   walk_loaded : (at_tail : Bool) → WalkHolds (around o c) s.hold (record (s.walk) { kept = kept_with (words_of s) s.walk.kept word value; at_tail = at_tail })
   walk_loaded at_tail = record {
-    unwalked = w.unwalked;
     to_end = w.to_end;
     from_first = w.from_first;
     to_current = w.to_current;
@@ -98,6 +101,7 @@ module _ (o : Origin) (c : Core) (n : ℕ) (s : Seat) (g : Ghost) (pin began wor
     ready_walked = w.ready_walked;
     ready_base = w.ready_base;
     ready_tail = w.ready_tail;
+    seeking = w.seeking;
     first_known = w.first_known;
   }
 
@@ -169,7 +173,7 @@ module _ (o : Origin) (c : Core) (n : ℕ) (s : Seat) (g : Ghost) (pin began wor
   loaded = record s { walk = record (s.walk) { kept = kept_with (words_of s) s.walk.kept word value; at_tail = s.walk.at_tail || found } }
 
   pub image_facts : began ≤ end_of o c.history → Knows o c n loaded g pin began
-  image_facts low = place_facts o c n s g pin began f (kept_with (words_of s) s.walk.kept word value) s.walk.tail_block s.walk.tail_base s.walk.tail_slot s.walk.ready s.walk.snapshot_base s.walk.first_log (s.walk.at_tail || found)
+  image_facts low = place_facts o c n s g pin began f (kept_with (words_of s) s.walk.kept word value) s.walk.tail_block s.walk.tail_base s.walk.tail_slot s.walk.ready s.walk.snapshot_base s.walk.first_log (s.walk.at_tail || found) s.blocks.named refl
       (λ reading. or_from s.walk.at_tail found (stays_away o c n s g pin began f reading) (not_found reading))
       (λ at. either_of s.walk.at_tail found at f.tail (λ here. stands_at_tail low here))
-      (λ some. walk_loaded (s.walk.at_tail || found))
+      (λ some. walk_loaded (s.walk.at_tail || found)) f.noted

@@ -46,7 +46,6 @@ module _ (o : Origin) (c : Core) (n : ℕ) (s : Seat) (g : Ghost) (pin began wor
       (record (s.walk) { kept = kept_with (words_of s) s.walk.kept word found; at_tail = false }) (record (s.calling) { lost = lost }) s.giving.pins_seen s.giving.limbo_held (record {
         map = λ unspent. (l.fits unspent).map;
         walk = λ unspent. (let w = l.walk unspent in record {
-          unwalked = w.unwalked;
           to_end = w.to_end;
           from_first = w.from_first;
           to_current = w.to_current;
@@ -57,8 +56,10 @@ module _ (o : Origin) (c : Core) (n : ℕ) (s : Seat) (g : Ghost) (pin began wor
           ready_walked = w.ready_walked;
           ready_base = w.ready_base;
           ready_tail = w.ready_tail;
+          seeking = w.seeking;
           first_known = w.first_known;
         });
+        noted = l.noted;
         scan_others = l.scan_others;
         scan_self = l.scan_self;
         writes = (let r = l.writes in record { recorded = r.recorded; running = r.running });

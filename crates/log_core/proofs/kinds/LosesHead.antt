@@ -28,6 +28,7 @@ overtaken_facts o c n s g pin began generation f low = record {
   pin_is = f.pin_is;
   pin_holds = f.pin_holds;
   walk = f.walk;
+  noted = f.noted;
   owned = (let r = f.owned in record {
     contents = r.contents;
     areas = r.areas;

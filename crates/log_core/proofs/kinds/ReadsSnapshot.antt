@@ -7,7 +7,7 @@ use Rattle.log_core.proofs.starts.StartChain.{test_at}
 use Rattle.log_core.proofs.FileLimits.{fits_inside}
 use Rattle.log_entry.specs.Fields.{field}
 use Rattle.log_entry.specs.Shape.{limit_of}
-use Rattle.log_entry.specs.declared.layouts.TheConstants.{BLOCK_KIND, LOG, SNAPSHOT, DIRECT_LEFTOVER}
+use Rattle.log_entry.specs.declared.layouts.TheConstants.{LOG, SNAPSHOT, DIRECT_LEFTOVER}
 use Rattle.log_image.specs.Image.{words_in}
 use Rattle.log_image.specs.Entries.{Meaning, direct_meaning}
 use Rattle.log_image.specs.Maps.{map_of}
@@ -24,18 +24,17 @@ use Rattle.log_core.specs.Cores.{Core, nth_log, log_at, log_blocks, data_names}
 use Rattle.log_core.specs.Works.{ReadsRun, NextSnapshot, EndsReading, IsReading, HasReadBlock, IsFree, kept_at, kept_word, word_or_zero, words_of, state_after_work}
 use Rattle.log_core.specs.Order.{nth_generation}
 use Rattle.log_core.specs.Snapshots.{AreSnapshotBlocks}
-use Rattle.log_core.specs.Walks.{WalkHolds, HasRead, read_meanings}
+use Rattle.log_core.specs.Walks.{WalkHolds, HasRead, IsSnapshotBlock, read_meanings}
 use Rattle.log_core.specs.Invariant.{Invariant, KeptIn, around}
 use Rattle.log_core.specs.Knows.{Knows}
 use Rattle.log_core.proofs.KeptWords.{some_word}
 use Rattle.log_core.proofs.ChainWords.{front_different}
-use Rattle.log_core.proofs.PinnedChains.{place, kept, some_generation, IsChainWord, chain_kept, chain_says}
-use Rattle.log_core.proofs.Fronts.{no_snapshot, snapshot_kind, base_small}
-use Rattle.log_core.proofs.SnapshotReads.{is_of_snapshot, next_at, snapshot_form, read_more, Onward, Last, Later, read_on}
-use Rattle.log_core.proofs.WalkMaps.{map_of_more, entry_taken, length_with_entry}
+use Rattle.log_core.proofs.PinnedChains.{place, kept, some_generation, chain_kept, chain_says}
+use Rattle.log_core.proofs.SnapshotLinks.{no_log, no_later, next_block}
+use Rattle.log_core.proofs.SnapshotReads.{is_of_snapshot, snapshot_form, read_more, Onward, Last, Later, read_on}
+use Rattle.log_core.proofs.WalkMaps.{map_of_more, entry_taken}
 use Rattle.log_core.proofs.LogTails.{log_again, some_block}
 use Rattle.log_core.proofs.clauses.Apart.{has_left, data_is_named}
-use Rattle.log_core.proofs.clauses.MovedWalks.{move_facts}
 
 -- the words of a snapshot block after its entries are 0, and no entry is
 module _ (o : Origin) (content : List ℕ) (good : is_snapshot_block (shape o) content ≡ true) where
@@ -96,13 +95,13 @@ module _ (o : Origin) (c : Core) (n : ℕ) (s : Seat) (g : Ghost) (pin began : �
   in_chain = kept o c n s g pin began inv f reading.valid
 
   -- while a snapshot is read the call has nothing to lose
-  free : IsFree g s.calling
+  pub free : IsFree g s.calling
   free = (let r = f.calls.reading reading.reading in record { none_laid = r.1; not_won = r.2; no_sync = r.3; no_head = r.4 })
 
-  no_bases : op_in s ≢ None → s.calling.bases ≡ []
+  pub no_bases : op_in s ≢ None → s.calling.bases ≡ []
   no_bases = (f.calls.reading reading.reading).5
 
-  away : s.walk.at_tail ≡ false
+  pub away : s.walk.at_tail ≡ false
   away = (f.calls.reading reading.reading).0
 
   module _ (some : (view_of c.views n).parts ≢ []) where
@@ -121,11 +120,14 @@ module _ (o : Origin) (c : Core) (n : ℕ) (s : Seat) (g : Ghost) (pin began : �
     pub listed : is_listed (pinned.snapshots ++ data_names o (entries o c.history) pinned) block ≡ true
     listed = has_left pinned.snapshots (data_names o (entries o c.history) pinned) block in_snapshot
 
+    pub held : IsSnapshotBlock pinned s.walk.reading_place block
+    held = record { inside = has_read.inside; block_is = has_read.block }
+
     pub some_blocks : 0 < length pinned.snapshots
     some_blocks = (let inside = has_read.inside in omega (arith, inside))
 
     pub are_blocks : AreSnapshotBlocks (shape o) c.recorded pinned.base pinned.size pinned.snapshots (nth_log c.logs pinned.cut).block
-    are_blocks = ((inv.contents at in_chain).snapshot.whole some_blocks).words
+    are_blocks = Rattle.log_core.proofs.SnapshotLinks.are_blocks o c n s g pin began inv f reading.valid some held
 
     form : is_snapshot_block (shape o) (c.recorded block) ≡ true
     form = (snapshot_form (shape o) c.recorded pinned.base pinned.size (nth_log c.logs pinned.cut).block pinned.snapshots block are_blocks in_snapshot).1
@@ -137,12 +139,11 @@ module _ (o : Origin) (c : Core) (n : ℕ) (s : Seat) (g : Ghost) (pin began : �
     same_words = ap Rattle.pmem_words.specs.Seats.q_of (f.fits some).geometry
 
     -- the walk with another place in the same snapshot, and what was read up to it
-    abbrev placed_at : List (Option ℕ) → ℕ → ℕ → ℕ → Walk
+    abbrev pub placed_at : List (Option ℕ) → ℕ → ℕ → ℕ → Walk
     placed_at map next slot number = record (s.walk) { map = map; reading_block = next; reading_slot = slot; reading_place = number; kept = [] }
 
-    reads_on : (map : List (Option ℕ)) (next slot number : ℕ) → HasRead c.recorded pinned (placed_at map next slot number) → WalkHolds (around o c) s.hold (placed_at map next slot number)
+    pub reads_on : (map : List (Option ℕ)) (next slot number : ℕ) → HasRead c.recorded pinned (placed_at map next slot number) → WalkHolds (around o c) s.hold (placed_at map next slot number)
     reads_on map next slot number read_now = record {
-      unwalked = w.unwalked;
       to_end = w.to_end;
       from_first = w.from_first;
       to_current = w.to_current;
@@ -154,6 +155,7 @@ module _ (o : Origin) (c : Core) (n : ℕ) (s : Seat) (g : Ghost) (pin began : �
       ready_walked = w.ready_walked;
       ready_base = w.ready_base;
       ready_tail = w.ready_tail;
+      seeking = λ ready. (let both : true ≡ false = sym reading.reading ∙ (w.ready_walked ready).1 in cc);
       first_known = w.first_known;
     }
 
@@ -186,10 +188,10 @@ module _ (o : Origin) (c : Core) (n : ℕ) (s : Seat) (g : Ghost) (pin began : �
           let most = entry_inside o (kept_word s block slot) run_form in
           omega (arith, fits_map, most))
 
-      more : read_meanings c.recorded pinned.snapshots block (slot + 1) ≡ read_meanings c.recorded pinned.snapshots block slot ++ meaning ∷ []
+      pub more : read_meanings c.recorded pinned.snapshots block (slot + 1) ≡ read_meanings c.recorded pinned.snapshots block slot ++ meaning ∷ []
       more = read_more c.recorded pinned.snapshots block slot in_snapshot has_read.from inside ∙ ap (λ (word : ℕ). read_meanings c.recorded pinned.snapshots block slot ++ direct_meaning word ∷ []) (sym word_says)
 
-      run_read : HasRead c.recorded pinned (state_after_work s ReadsRun).walk
+      pub run_read : HasRead c.recorded pinned (state_after_work s ReadsRun).walk
       run_read = record {
         inside = has_read.inside;
         block = has_read.block;
@@ -203,7 +205,7 @@ module _ (o : Origin) (c : Core) (n : ℕ) (s : Seat) (g : Ghost) (pin began : �
 
     -- the block at hand has no entry more, and another follows
     module _ (kind : ℕ) (done : HasReadBlock s kind) where
-      slot_is : s.walk.reading_slot ≡ 3 + entry_count (c.recorded block)
+      pub slot_is : s.walk.reading_slot ≡ 3 + entry_count (c.recorded block)
       slot_is = ⊎_elim
           (λ last. (let upto = has_read.upto in let few = entries_few o (c.recorded block) form in let same = same_words in let wide = inv.sizes.image.wide in omega (arith, last, upto, few, same, wide)))
           (λ empty. ⊎_elim (λ low. absurd (not_among low empty)) (λ past. (let upto = has_read.upto in omega (arith, past, upto))) (cases_lt s.walk.reading_slot (3 + entry_count (c.recorded block))))
@@ -220,13 +222,13 @@ module _ (o : Origin) (c : Core) (n : ℕ) (s : Seat) (g : Ghost) (pin began : �
       next = kept_word s block 0
 
       next_is : next ≡ slice_index (c.recorded block) 0
-      next_is = chain_says o c n s g pin began inv f reading.valid some block 0 listed done.link
+      next_is = Rattle.log_core.proofs.SnapshotLinks.next_is o c n s g pin began inv f reading.valid some held kind done.followed
 
       once : all_different pinned.snapshots ≡ true
       once = front_different pinned.snapshots (log_blocks (drop pinned.cut c.logs))
           (front_different (pinned.snapshots ++ log_blocks (drop pinned.cut c.logs)) (data_names o (entries o c.history) pinned) (inv.owners.once at in_chain).once)
 
-      onward : Onward c.recorded pinned.snapshots (nth_log c.logs pinned.cut).block block next
+      pub onward : Onward c.recorded pinned.snapshots (nth_log c.logs pinned.cut).block block next
       onward = subst (λ (k : ℕ). Onward c.recorded pinned.snapshots (nth_log c.logs pinned.cut).block block k) (sym next_is)
           (read_on c.recorded (shape o) pinned.base pinned.size (nth_log c.logs pinned.cut).block pinned.snapshots block are_blocks once in_snapshot)
 
@@ -234,42 +236,19 @@ module _ (o : Origin) (c : Core) (n : ℕ) (s : Seat) (g : Ghost) (pin began : �
       table_is : (virt : ℕ) → map_at s.walk.map virt ≡ map_of (read_meanings c.recorded pinned.snapshots block (3 + entry_count (c.recorded block))) virt
       table_is virt = has_read.table virt ∙ ap (λ (k : ℕ). map_of (read_meanings c.recorded pinned.snapshots block k) virt) slot_is
 
-      -- the first log block has not the kind of a snapshot block, and no snapshot block has that of a log block
-      no_log : next ≡ (nth_log c.logs pinned.cut).block → kind ≡ SNAPSHOT → ⊥
-      no_log is snapshot = by (kept_at s.walk.kept next 1) refl done.next
-        where
-          by : (found : Option ℕ) → kept_at s.walk.kept next 1 ≡ found → kept_at s.walk.kept next 1 ≢ None → ⊥
-          by None none some_word = some_word none
-          by (Some word) found some_word = no_snapshot o c inv at in_chain word
-              (subst (λ (b : ℕ). IsChainWord o c n s g pin began inv f reading.valid b 1 word) is (chain_kept o c n s g pin began inv f reading.valid some next 1 word found))
-              (ap (λ (found : Option ℕ). field BLOCK_KIND (word_or_zero found)) (sym found) ∙ (done.kind_is ∙ snapshot))
-
-      no_later : is_listed pinned.snapshots next ≡ true → kind ≡ LOG → ⊥
-      no_later later is_log =
-          (let says = chain_says o c n s g pin began inv f reading.valid some next 1 (has_left pinned.snapshots (data_names o (entries o c.history) pinned) next later) done.next in
-          let head = (snapshot_form (shape o) c.recorded pinned.base pinned.size (nth_log c.logs pinned.cut).block pinned.snapshots next are_blocks later).0 in
-          let is : 2 ≡ LOG = sym (ap (field BLOCK_KIND) (says ∙ head) ∙ snapshot_kind pinned.base (base_small o c inv at in_chain)) ∙ (done.kind_is ∙ is_log) in
-          omega (arith, is))
-
     -- of the next block nothing is read yet
     module _ (done : HasReadBlock s SNAPSHOT) where
-      -- it is that of the next place
-      same_link : slice_index (c.recorded (slice_index pinned.snapshots s.walk.reading_place)) 0 ≡ slice_index (c.recorded block) 0
-      same_link = ap (λ (b : ℕ). slice_index (c.recorded b) 0) has_read.block
+      at_next : IsSnapshotBlock pinned (s.walk.reading_place + 1) (kept_word s block 0)
+      at_next = next_block o c n s g pin began inv f reading.valid some held SNAPSHOT done.followed refl
 
-      at_next : (s.walk.reading_place + 1 < length pinned.snapshots) × (slice_index pinned.snapshots (s.walk.reading_place + 1) ≡ kept_word s block 0)
-      at_next = ⊎_elim (λ last. absurd (no_log SNAPSHOT done (next_is SNAPSHOT done ∙ (sym same_link ∙ last)) refl))
-          (λ later. (later.0, later.1 ∙ (same_link ∙ sym (next_is SNAPSHOT done))))
-          (next_at (shape o) c.recorded pinned.base pinned.size (nth_log c.logs pinned.cut).block pinned.snapshots s.walk.reading_place are_blocks has_read.inside)
-
-      next_read : HasRead c.recorded pinned (state_after_work s NextSnapshot).walk
+      pub next_read : HasRead c.recorded pinned (state_after_work s NextSnapshot).walk
       next_read = by (onward SNAPSHOT done)
         where
           by : Onward c.recorded pinned.snapshots (nth_log c.logs pinned.cut).block block (kept_word s block 0) → HasRead c.recorded pinned (state_after_work s NextSnapshot).walk
-          by (Last is read) = absurd (no_log SNAPSHOT done is refl)
+          by (Last is read) = absurd (no_log o c n s g pin began inv f reading.valid some held SNAPSHOT done.followed is refl)
           by (Later later read) = record {
-            inside = at_next.0;
-            block = at_next.1;
+            inside = at_next.inside;
+            block = at_next.block_is;
             from = omega arith;
             upto = omega arith;
             table = λ virt. table_is SNAPSHOT done virt ∙ ap (λ (l : List Meaning). map_of l virt) read;
@@ -279,21 +258,20 @@ module _ (o : Origin) (c : Core) (n : ℕ) (s : Seat) (g : Ghost) (pin began : �
 
     -- a snapshot read whole is the map at its position, where the first log block begins
     module _ (done : HasReadBlock s LOG) where
-      all_read : (kept_word s block 0 ≡ (nth_log c.logs pinned.cut).block) × (read_meanings c.recorded pinned.snapshots block (3 + entry_count (c.recorded block)) ≡ snapshot_meanings c.recorded pinned.snapshots)
+      pub all_read : (kept_word s block 0 ≡ (nth_log c.logs pinned.cut).block) × (read_meanings c.recorded pinned.snapshots block (3 + entry_count (c.recorded block)) ≡ snapshot_meanings c.recorded pinned.snapshots)
       all_read = by (onward LOG done)
         where
           by : Onward c.recorded pinned.snapshots (nth_log c.logs pinned.cut).block block (kept_word s block 0) →
               (kept_word s block 0 ≡ (nth_log c.logs pinned.cut).block) × (read_meanings c.recorded pinned.snapshots block (3 + entry_count (c.recorded block)) ≡ snapshot_meanings c.recorded pinned.snapshots)
           by (Last is read) = (is, read)
-          by (Later later read) = absurd (no_later LOG done later refl)
+          by (Later later read) = absurd (no_later o c n s g pin began inv f reading.valid some held LOG done.followed later refl)
 
       cut_log : log_at c.logs s.walk.position ≡ nth_log c.logs pinned.cut
       cut_log = ap (λ (base : ℕ). log_at c.logs base) (has_read.position_is ∙ sym (inv.order.generations_rise.cut_base at in_chain.inside))
           ∙ log_again o c inv pinned.cut (inv.order.generations_rise.cut_inside at in_chain.inside)
 
-      walk_ended : WalkHolds (around o c) s.hold (state_after_work s EndsReading).walk
+      pub walk_ended : WalkHolds (around o c) s.hold (state_after_work s EndsReading).walk
       walk_ended = record {
-        unwalked = λ none. absurd (no_zero none);
         to_end = w.to_end;
         from_first = λ again. cc;
         to_current = λ again. cc;
@@ -315,20 +293,9 @@ module _ (o : Origin) (c : Core) (n : ℕ) (s : Seat) (g : Ghost) (pin began : �
         ready_walked = λ ready. (no_zero, refl, some_generation o c n s g pin began inv f reading.valid);
         ready_base = λ ready. has_read.position_is;
         ready_tail = λ ready. omega arith;
+        seeking = λ ready come_to. absurd (come_to refl);
         first_known = λ known. record { some = some_generation o c n s g pin began inv f reading.valid; is = all_read.0 };
       }
         where
           no_zero : kept_word s block 0 ≢ 0
           no_zero none = some_block o c inv at pinned.cut in_chain (omega arith) (inv.order.generations_rise.cut_inside at in_chain.inside) (sym all_read.0 ∙ none)
-
-  pub run_facts : kept_word s s.walk.reading_block s.walk.reading_slot ≢ 0 → Knows o c n (state_after_work s ReadsRun) g pin began
-  run_facts used = move_facts o c n s g pin began (state_after_work s ReadsRun).walk f free no_bases f.calls.bases away
-      (λ some. length_with_entry (direct_meaning (kept_word s s.walk.reading_block s.walk.reading_slot)) s.walk.map ∙ (f.fits some).map)
-      (λ some. reads_on some (state_after_work s ReadsRun).walk.map s.walk.reading_block (s.walk.reading_slot + 1) s.walk.reading_place (run_read some used))
-
-  pub next_facts : HasReadBlock s SNAPSHOT → Knows o c n (state_after_work s NextSnapshot) g pin began
-  next_facts done = move_facts o c n s g pin began (state_after_work s NextSnapshot).walk f free no_bases f.calls.bases away (λ some. (f.fits some).map)
-      (λ some. reads_on some s.walk.map (kept_word s s.walk.reading_block 0) 3 (s.walk.reading_place + 1) (next_read some done))
-
-  pub end_facts : HasReadBlock s LOG → Knows o c n (state_after_work s EndsReading) g pin began
-  end_facts done = move_facts o c n s g pin began (state_after_work s EndsReading).walk f free no_bases f.calls.bases away (λ some. (f.fits some).map) (λ some. walk_ended some done)

@@ -65,7 +65,7 @@ module _ (o : Origin) (c : Core) (n : ℕ) (inv : Invariant o c) (here : n < len
     s = v.seat
 
     abbrev calling : Calling
-    calling = record (s.calling) { job = Idle; won = false; sync_to = None }
+    calling = record (s.calling) { job = Idle; won = false; sync_to = None; noting = false }
 
     abbrev done : List Call
     done = v.done ++ call ∷ []
@@ -126,7 +126,7 @@ module _ (o : Origin) (c : Core) (n : ℕ) (inv : Invariant o c) (here : n < len
             omega (arith, more, won))
 
     pub record_kept : Invariant o (record c { views = slice_set c.views n (with_records v calling None done) })
-    record_kept = set_records o c n calling None done inv here unspent recorded
+    record_kept = set_records o c n calling None done inv here unspent recorded refl
 
   -- a step's records: one at most
   pub records_kept : (adds : List Call) → MayAddAll v.ghost v.seat adds →

@@ -28,7 +28,7 @@ use Rattle.log_core.proofs.kinds.LinkGrows.{same_history}
 use Rattle.log_core.proofs.clauses.Exchanged.{WordGrows, exchange_wins}
 use Rattle.log_core.proofs.clauses.SlotAdded.{PutsSlot, logs_grow, order, stands, synced_stay, used_more, more_at}
 use Rattle.log_core.proofs.clauses.Growth.{Growth, Grows, last_log, grown}
-use Rattle.log_core.proofs.clauses.GrownKnows.{walk_same, FitsGrown, grown_knows}
+use Rattle.log_core.proofs.clauses.GrownKnows.{walk_same, FitsGrown, grown_knows, noted_same}
 use Rattle.log_core.proofs.clauses.GrownOthers.{owned_grown}
 
 module _ (o : Origin) (c : Core) (n : ℕ) (s : Seat) (g : Ghost) (pin began word slot : ℕ) (inv : Invariant o c) (f : Knows o c n s g pin began) (unspent : (view_of c.views n).parts ≢ [])
@@ -122,7 +122,6 @@ module _ (o : Origin) (c : Core) (n : ℕ) (s : Seat) (g : Ghost) (pin began wor
 
   walk_holds : WalkHolds (around o (grown c x)) s.hold walk_sealed
   walk_holds = (let w = walk_same o c x inv seal_grows s g pin began f unspent in record {
-    unwalked = w.unwalked;
     to_end = w.to_end;
     from_first = w.from_first;
     to_current = w.to_current;
@@ -145,6 +144,7 @@ module _ (o : Origin) (c : Core) (n : ℕ) (s : Seat) (g : Ghost) (pin began wor
     ready_walked = w.ready_walked;
     ready_base = w.ready_base;
     ready_tail = w.ready_tail;
+    seeking = w.seeking;
     first_known = w.first_known;
   })
     where
@@ -166,6 +166,7 @@ module _ (o : Origin) (c : Core) (n : ℕ) (s : Seat) (g : Ghost) (pin began wor
     owns = f.owns.owned;
     owned = owned_grown o c x inv seal_grows n g s words image f.owns.owned.listed f.owned;
     walks = λ some. walk_holds;
+    noted = noted_same o c x inv seal_grows s g pin began f;
     writes = (let r = f.writes in record { recorded = r.recorded; running = r.running });
     writes_once = f.writes_once;
     put = f.put;

@@ -18,6 +18,7 @@ use Rattle.log_core.specs.Sizes.{SeatFits, Sizes}
 use Rattle.log_core.specs.Owners.{SeatOwns}
 use Rattle.log_core.specs.Pins.{PinHolds}
 use Rattle.log_core.specs.Walks.{WalkHolds}
+use Rattle.log_core.specs.Noted.{NotedBy}
 use Rattle.log_core.specs.Owned.{OwnedHold}
 use Rattle.log_core.specs.Giving.{GivingHolds, ScanHolds}
 use Rattle.log_core.specs.Records.{one_if, WritesFit, WritesOnce, SeatsOnce, PutFits, RecordHolds, NeverFall, CallHolds, TailHolds, MarksFit, parts_with, collected_by}
@@ -28,6 +29,7 @@ use Rattle.log_core.specs.Runs.{MaySplit}
 use Rattle.log_core.specs.Invariant.{Invariant, KeptIn, around, names_by, Records}
 use Rattle.log_core.proofs.Each.{each_weaker, each_push, each_at}
 use Rattle.log_core.proofs.Heads.{some_generation}
+use Rattle.log_core.proofs.NotedGrown.{noted_left}
 use Rattle.log_core.proofs.clauses.Others.{unspent_made}
 use Rattle.log_core.proofs.clauses.OneView.{each_set, parts_set, collected_set, all_set, all_at, same_or_other}
 use Rattle.log_core.proofs.starts.StartSeats.{no_pin, walks_at, gives_none, scans_none, not_syncing, not_put, no_position, no_call_holds}
@@ -150,13 +152,19 @@ module _ (o : Origin) (c : Core) (inv : Invariant o c) (may : MaySplit o c 0) wh
       none : SeatOwns c.owner count fresh_view.seat
       none = (let r = subst (λ (v : View). SeatOwns c.owner count v.seat) past_end (inv.owners.seats count) in record { owned = r.owned; left = r.left })
 
+  noted : (k : ℕ) → (view_of views k).parts ≢ [] → NotedBy (around o new) (view_of views k).seat
+  noted = each_grown (λ (k : ℕ) (v : View). v.parts ≢ [] → NotedBy (around o new) v.seat)
+      (λ some. fewer_noted first_view (inv.noted 0 some)) (λ some. ((λ on. cc), (λ on. cc), (λ on. cc))) (λ k other some. fewer_noted (view_of c.views k) (inv.noted k some))
+    where
+      fewer_noted : (v : View) → NotedBy (around o c) v.seat → NotedBy (around o new) v.seat
+      fewer_noted v r = noted_left (around o c) (λ place. KeptIn o new place) v.seat.hold v.seat.walk v.seat.calling v.seat.blocks.named kept_before r
+
   walks : (k : ℕ) → (view_of views k).parts ≢ [] → WalkHolds (around o new) (view_of views k).seat.hold (view_of views k).seat.walk
   walks = each_grown (λ (k : ℕ) (v : View). v.parts ≢ [] → WalkHolds (around o new) v.seat.hold v.seat.walk)
-      (λ some. fewer first_view (inv.walks 0 some)) (λ some. walks_at (around o new) (first_position o) refl (omega arith)) (λ k other some. fewer (view_of c.views k) (inv.walks k some))
+      (λ some. fewer first_view (inv.walks 0 some)) (λ some. walks_at (around o new) (first_position o) (omega arith)) (λ k other some. fewer (view_of c.views k) (inv.walks k some))
     where
       fewer : (v : View) → WalkHolds (around o c) v.seat.hold v.seat.walk → WalkHolds (around o new) v.seat.hold v.seat.walk
       fewer v r = record {
-        unwalked = r.unwalked;
         to_end = r.to_end;
         from_first = r.from_first;
         to_current = r.to_current;
@@ -167,6 +175,7 @@ module _ (o : Origin) (c : Core) (inv : Invariant o c) (may : MaySplit o c 0) wh
         ready_walked = r.ready_walked;
         ready_base = r.ready_base;
         ready_tail = r.ready_tail;
+        seeking = r.seeking;
         first_known = r.first_known;
       }
 
@@ -242,6 +251,7 @@ module _ (o : Origin) (c : Core) (inv : Invariant o c) (may : MaySplit o c 0) wh
           (no_pin (first_generation o) (current o c.generations) (cell c.memory head_place)) (λ k other. inv.pins.holds k);
     };
     walks = walks;
+    noted = noted;
     owned = each_grown (λ (k : ℕ) (v : View). OwnedHold (λ word. cell c.memory word) c.memory.past c.memory.pending k v.ghost v.seat) (inv.owned 0)
         (record { contents = omega arith; areas = tt; stored = tt; filled = λ place inside. absurd (omega (arith, inside)); fenced = λ place word inside. absurd (omega (arith, inside)) }) (λ k other. inv.owned k);
     givings = record {

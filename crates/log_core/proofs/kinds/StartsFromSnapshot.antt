@@ -1,9 +1,10 @@
 -- A walk begins to read the snapshot at the front of its chain.
-use Rattle.std.proofs.Common.{◌≡◌, ◌≢◌, ◌<◌, ◌≤◌, ◌^◌, ℕ, true, List, [], ◌∷◌, length, refl, sym, ◌∙◌, ap, subst, arith, slice_index, None}
+use Rattle.std.proofs.Common.{◌≡◌, ◌≢◌, ◌<◌, ◌≤◌, ◌++◌, ◌==◌, take, ◌^◌, ℕ, true, List, [], ◌∷◌, length, refl, sym, ◌∙◌, ap, subst, arith, slice_index, None}
 use Rattle.std.proofs.lemmas.Bool.{eq-eqb}
 use Rattle.log_entry.specs.Fields.{field}
 use Rattle.log_entry.specs.Words.{snapshot_word}
 use Rattle.log_entry.specs.declared.layouts.TheConstants.{SNAPSHOT, SNAPSHOT_COUNT, SNAPSHOT_SIZE}
+use Rattle.log_image.specs.Entries.{Meaning, all_names}
 use Rattle.log_image.specs.Maps.{map_of}
 use Rattle.log_image.specs.Blocks.{entry_count}
 use Rattle.log_image.specs.Chains.{is_listed}
@@ -13,13 +14,17 @@ use Rattle.log_core.specs.Views.{Ghost, view_of}
 use Rattle.log_core.specs.Origin.{Origin, shape, Generation}
 use Rattle.log_core.specs.Files.{entries, end_of}
 use Rattle.log_core.specs.Cores.{Core, nth_log, data_names}
-use Rattle.log_core.specs.Works.{StartsFromSnapshot, MayStart, kept_at, front, front_base, front_size, state_after_work}
+use Rattle.log_core.specs.Works.{StartsFromSnapshot, MayStart, is_collection, kept_at, front, front_base, front_size, state_after_work}
 use Rattle.log_core.specs.Order.{nth_generation}
 use Rattle.log_core.specs.Snapshots.{first_or, AreSnapshotBlocks}
 use Rattle.log_core.specs.Walks.{WalkHolds, HasRead, read_meanings}
+use Rattle.log_core.specs.Noted.{NotedHolds}
 use Rattle.log_core.specs.Invariant.{Invariant, KeptIn, around}
 use Rattle.log_core.specs.Knows.{Knows}
 use Rattle.log_core.proofs.FileLimits.{limit_small}
+use Rattle.log_core.proofs.NotedBits.{length_first, first_noted}
+use Rattle.log_core.proofs.NotedNames.{or_false}
+use Rattle.log_core.proofs.NotedGrown.{collects, noted_inside}
 use Rattle.log_core.proofs.clauses.Apart.{has_left}
 use Rattle.log_core.proofs.clauses.MovedWalks.{move_facts, no_bases_hold}
 use Rattle.log_core.proofs.PinnedChains.{place, kept, from_first, chain_says}
@@ -33,8 +38,11 @@ count_few : (word : ℕ) → field SNAPSHOT_COUNT word < 2 ^ 16
 count_few word = omega arith
 
 -- nothing is read at the first slot of the first block
+nothing_read : (content : ℕ → List ℕ) (block : ℕ) (blocks : List ℕ) → read_meanings content (block ∷ blocks) block 3 ≡ []
+nothing_read content block blocks = rw (eq-eqb block block refl) refl
+
 none_read : (content : ℕ → List ℕ) (block : ℕ) (blocks : List ℕ) (virt : ℕ) → map_of (read_meanings content (block ∷ blocks) block 3) virt ≡ None
-none_read content block blocks virt = rw (eq-eqb block block refl) refl
+none_read content block blocks virt = ap (λ (l : List Meaning). map_of l virt) (nothing_read content block blocks)
 
 -- a generation's size, as its place in the history says it
 pub generation_size : (o : Origin) (c : Core) (inv : Invariant o c) (place : ℕ) → KeptIn o c place → (nth_generation c.generations place).size < 2 ^ 48
@@ -92,7 +100,6 @@ module _ (o : Origin) (c : Core) (n : ℕ) (s : Seat) (g : Ghost) (pin began : �
 
     walk_begun : WalkHolds (around o c) s.hold (state_after_work s StartsFromSnapshot).walk
     walk_begun = record {
-      unwalked = λ none reading. cc;
       to_end = subst (λ (b : ℕ). b ≤ end_of o c.history) (sym (base_is o c n s g pin began inv f may.at_front some)) (inv.order.generations_rise.to_end at in_chain.inside);
       from_first = λ reading. (let is = from_first o c n s g pin began inv f may.at_front.valid in omega (arith, is));
       to_current = λ reading. (let is = from_first o c n s g pin began inv f may.at_front.valid in let low = in_chain.inside in omega (arith, is, low));
@@ -103,6 +110,7 @@ module _ (o : Origin) (c : Core) (n : ℕ) (s : Seat) (g : Ghost) (pin began : �
       ready_walked = λ ready. cc;
       ready_base = λ ready. cc;
       ready_tail = λ ready. cc;
+      seeking = λ ready. cc;
       first_known = λ known. absurd (known refl);
     }
       where
@@ -110,6 +118,26 @@ module _ (o : Origin) (c : Core) (n : ℕ) (s : Seat) (g : Ghost) (pin began : �
         by [] is some = absurd (let none = ap (λ (l : List ℕ). length l) is in omega (arith, some, none))
         by (block ∷ blocks) is some = has_read block blocks is
 
+    -- up to there the snapshot names its front alone
+    noted_begun : NotedHolds (around o c) s.hold (state_after_work s StartsFromSnapshot).walk (state_after_work s StartsFromSnapshot).calling (state_after_work s StartsFromSnapshot).blocks.named
+    noted_begun = (
+      collects s.calling.job,
+      (λ on reading again b low. first_noted (is_collection s.calling.job) s.blocks.named (front s) b on (noted_inside o c n s g pin began f some b low)
+          ∙ sym (read_is b pinned.snapshots refl (snapshot_front o c n s g pin began inv f may.at_front some may.kind_is))),
+      (λ on ready. cc),
+    )
+      where
+        read_is : (b : ℕ) (snapshots : List ℕ) → pinned.snapshots ≡ snapshots → 0 < length pinned.snapshots →
+            is_listed (take 1 pinned.snapshots ++ all_names (read_meanings c.recorded pinned.snapshots (front s) 3)) b ≡ (front s == b)
+        read_is b [] is some = absurd (let none = ap (λ (l : List ℕ). length l) is in omega (arith, some, none))
+        read_is b (block ∷ blocks) is some =
+            (let same = front_block block blocks is in
+            ap (λ (l : List ℕ). is_listed (take 1 l ++ all_names (read_meanings c.recorded l (front s) 3)) b) is
+            ∙ (ap (λ (at : ℕ). is_listed (block ∷ all_names (read_meanings c.recorded (block ∷ blocks) at 3)) b) same
+            ∙ (ap (λ (l : List Meaning). is_listed (block ∷ all_names l) b) (nothing_read c.recorded block blocks)
+            ∙ (or_false (block == b) ∙ ap (λ (at : ℕ). at == b) (sym same)))))
+
   pub snapshot_facts : Knows o c n (state_after_work s StartsFromSnapshot) g pin began
-  snapshot_facts = move_facts o c n s g pin began (state_after_work s StartsFromSnapshot).walk f may.free (λ running. may.no_bases)
-      (no_bases_hold o c n s g pin began (front_base s) f may.no_bases) refl (λ some. length_unmapped) (λ some. walk_begun some)
+  snapshot_facts = move_facts o c n s g pin began (state_after_work s StartsFromSnapshot).walk (is_collection s.calling.job) (state_after_work s StartsFromSnapshot).blocks.named
+      (length_first (is_collection s.calling.job) s.blocks.named (front s)) f may.free (λ running. may.no_bases)
+      (no_bases_hold o c n s g pin began (front_base s) (is_collection s.calling.job) f may.no_bases) refl (λ some. length_unmapped) (λ some. walk_begun some) (λ some. noted_begun some)

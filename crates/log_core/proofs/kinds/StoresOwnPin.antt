@@ -32,6 +32,7 @@ module _ (o : Origin) (c : Core) (n : ℕ) (s : Seat) (g : Ghost) (pin began val
     pin_is = refl;
     pin_holds = (let r = f.pin_holds in record { was = r.was; valid_is = λ valid. cc; valid_some = λ valid. cc; from_first = r.from_first; to_current = r.to_current });
     walk = λ some. without_kept o c s value false s.walk.at_tail (f.walk some);
+    noted = f.noted;
     owned = (let r = f.owned in record {
       contents = r.contents;
       areas = r.areas;

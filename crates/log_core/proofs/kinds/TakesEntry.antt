@@ -27,6 +27,7 @@ use Rattle.log_core.specs.Works.{TakesEntry, HasFoundSlot, IsKeptWhole, kept_at,
 use Rattle.log_core.specs.Order.{nth_generation}
 use Rattle.log_core.specs.May.{is_log_entry_by}
 use Rattle.log_core.specs.Walks.{WalkHolds, HasWalked}
+use Rattle.log_core.specs.Noted.{NotedHolds, is_named_before}
 use Rattle.log_core.specs.Records.{BasesHold}
 use Rattle.log_core.specs.Certain.{IsGrowing}
 use Rattle.log_core.specs.Invariant.{Invariant, KeptIn, around}
@@ -35,6 +36,9 @@ use Rattle.log_core.proofs.KeptWords.{some_word, present_word}
 use Rattle.log_core.proofs.PinnedChains.{place, kept, chain_kept, chain_says}
 use Rattle.log_core.proofs.FileLimits.{fits_inside}
 use Rattle.log_core.proofs.WalkMaps.{map_of_more, entry_taken, length_with_entry}
+use Rattle.log_core.proofs.NotedBits.{length_more, more_noted}
+use Rattle.log_core.proofs.NotedNames.{entry_more}
+use Rattle.log_core.proofs.NotedGrown.{noted_inside}
 use Rattle.log_core.proofs.BaseWords.{AreBases, left_bases, left_some}
 use Rattle.log_core.proofs.LogTails.{TailLog, tail_log, entries_short, entry_counts, log_to_end}
 use Rattle.log_core.proofs.clauses.Apart.{has_left, has_right, data_is_named}
@@ -255,7 +259,6 @@ module _ (o : Origin) (c : Core) (n : ℕ) (s : Seat) (g : Ghost) (pin began : �
 
     walk_taken : WalkHolds (around o c) s.hold new.walk
     walk_taken = record {
-      unwalked = λ none. absurd ((w.ready_walked found.ready).0 none);
       to_end = (let low = within in omega (arith, low));
       from_first = w.from_first;
       to_current = w.to_current;
@@ -286,6 +289,7 @@ module _ (o : Origin) (c : Core) (n : ℕ) (s : Seat) (g : Ghost) (pin began : �
       ready_walked = w.ready_walked;
       ready_base = w.ready_base;
       ready_tail = w.ready_tail;
+    seeking = w.seeking;
       first_known = w.first_known;
     }
       where
@@ -343,6 +347,17 @@ module _ (o : Origin) (c : Core) (n : ℕ) (s : Seat) (g : Ghost) (pin began : �
         were_some : bases_left (tail_meaning s) s.calling.bases ≢ [] → s.calling.bases ≢ []
         were_some some none = some (ap (λ (l : List ℕ). bases_left (tail_meaning s) l) none)
 
+  -- the chain names the entry's blocks more
+  noted_taken : NotedHolds (around o c) s.hold new.walk s.calling new.blocks.named
+  noted_taken = (
+    (f.noted unspent).0,
+    (λ on reading. (let both : true ≡ false = sym reading ∙ (w.ready_walked found.ready).1 in cc)),
+    (λ on ready b low. more_noted s.calling.noting s.blocks.named (names (tail_meaning s)) b on (noted_inside o c n s g pin began f unspent b low)
+        ∙ (ap (λ (t : Bool). is_listed (names (tail_meaning s)) b || t) ((f.noted unspent).2 on ready b low)
+        ∙ (ap (λ (m : Meaning). is_listed (names m) b || is_named_before o c.logs es pinned s.walk b) meaning_is
+        ∙ sym (entry_more o (take (number + 1) c.logs) es pinned s.walk.position from_start (let base = w.ready_base found.ready in let tail = w.ready_tail found.ready in let position = position_is in omega (arith, base, tail, position)) inside_log b)))),
+  )
+
     pub entry_facts : Knows o c n new g pin began
-    entry_facts = move_with_bases o c n s g pin began new.walk new.calling.bases new.calling.base_words f found.free (inr (w.ready_walked found.ready).1) bases_hold refl
-        (λ some. length_with_entry (tail_meaning s) s.walk.map ∙ (f.fits some).map) (λ some. walk_taken)
+  entry_facts = move_with_bases o c n s g pin began new.walk new.calling.bases new.calling.base_words s.calling.noting new.blocks.named (length_more s.calling.noting s.blocks.named _) f found.free (inr (w.ready_walked found.ready).1) bases_hold refl
+      (λ some. length_with_entry (tail_meaning s) s.walk.map ∙ (f.fits some).map) (λ some. walk_taken) (λ some. noted_taken)

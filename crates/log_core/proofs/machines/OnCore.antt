@@ -27,21 +27,21 @@ use Rattle.log_core.proofs.machines.Serving.{reached_keeps}
 use Rattle.log_core.proofs.machines.Takes.{takes_asked}
 
 -- the step that a machine's ask is on a core
-abbrev pub step_on : {M Out : Type 0} → (seat number : ℕ) → Script M Out → (Out → Seat → List Call) → M → Seat → Core → Step
-step_on seat number script rec m s c = Does seat (script.asks m s) (note_of script rec number m s (found_answer c.memory (script.asks m s)))
+abbrev pub step_on : {M Out : Type 0} → Origin → (seat number : ℕ) → Script M Out → (Out → Seat → List Call) → M → Seat → Core → Step
+step_on o seat number script rec m s c = Does seat (script.asks m s) (note_of o seat number script rec m s (view_of c.views seat).ghost (found_answer c.memory (script.asks m s)))
 
 -- the ask is a step of the seat on a core that a run reaches, and what is found there is admitted
 pub record IsReadyOn {M Out : Type 0} (o : Origin) (seat number : ℕ) (script : Script M Out) (rec : Out → Seat → List Call) (m : M) (s : Seat) (c : Core) : Type 0 where
   pub reached : IsReached o c
   pub made : seat < length c.views
-  pub allowed : Allowed o c (step_on seat number script rec m s c)
+  pub allowed : Allowed o c (step_on o seat number script rec m s c)
   pub admitted : script.admits m s (found_answer c.memory (script.asks m s))
 
 -- a machine that is alone on a core
 abbrev pub alone : {M Out : Type 0} → Origin → ℕ → ℕ → Script M Out → (Out → Seat → List Call) → Course M Core
 alone o seat number script rec = record {
   ready = λ m s c. IsReadyOn o seat number script rec m s c;
-  step = λ m s c a d. (a ≡ found_answer c.memory (script.asks m s)) × (d ≡ after o c (step_on seat number script rec m s c));
+  step = λ m s c a d. (a ≡ found_answer c.memory (script.asks m s)) × (d ≡ after o c (step_on o seat number script rec m s c));
 }
 
 -- it has ended on a core that a run reaches, and that has the seat
@@ -73,27 +73,27 @@ module _ (o : Origin) (start : Invariant o (first_core o)) (seat number : ℕ) {
         f : ℕ
         f = found_answer c.memory (script.asks m s)
 
-        allowed : Allowed o c (step_on seat number script rec m s c)
-        allowed = ready.can c reached made at
+        allowed : Allowed o c (step_on o seat number script rec m s c)
+        allowed = subst (λ (u : View). Allowed o c (Does seat (script.asks m s) (note_of o seat number script rec m s u.ghost f))) (sym at) (ready.can c reached made at)
 
         next : Core
-        next = after o c (step_on seat number script rec m s c)
+        next = after o c (step_on o seat number script rec m s c)
 
         w : View
-        w = view_after v (kind_of_ask (q_of_origin o) seat (script.asks m s)) (note_of script rec number m s f) f
+        w = view_after v (kind_of_ask (q_of_origin o) seat (script.asks m s)) (note_of o seat number script rec m s v.ghost f) f
 
-        did : Did o seat v (script.asks m s) (note_of script rec number m s) f w
+        did : Did o seat v (script.asks m s) (note_of o seat number script rec m s v.ghost) f w
         did = record { core = c; reached = reached; made = made; at = at; answer = refl; left = refl }
 
         next_reached : IsReached o next
-        next_reached = reached_next o c (step_on seat number script rec m s c) reached allowed
+        next_reached = reached_next o c (step_on o seat number script rec m s c) reached allowed
 
         next_made : seat < length next.views
-        next_made = subst (λ (n : ℕ). seat < n) (sym (length-set c.views seat (view_after (view_of c.views seat) (kind_of_ask (q_of_origin o) seat (script.asks m s)) (note_of script rec number m s f) f))) made
+        next_made = subst (λ (n : ℕ). seat < n) (sym (length-set c.views seat (view_after (view_of c.views seat) (kind_of_ask (q_of_origin o) seat (script.asks m s)) (note_of o seat number script rec m s (view_of c.views seat).ghost f) f))) made
 
         next_at : view_of next.views seat ≡ w
-        next_at = get_or-set_same c.views seat (view_after (view_of c.views seat) (kind_of_ask (q_of_origin o) seat (script.asks m s)) (note_of script rec number m s f) f) spent_view made
-            ∙ ap (λ (u : View). view_after u (kind_of_ask (q_of_origin o) seat (script.asks m s)) (note_of script rec number m s f) f) at
+        next_at = get_or-set_same c.views seat (view_after (view_of c.views seat) (kind_of_ask (q_of_origin o) seat (script.asks m s)) (note_of o seat number script rec m s (view_of c.views seat).ghost f) f) spent_view made
+            ∙ ap (λ (u : View). view_after u (kind_of_ask (q_of_origin o) seat (script.asks m s)) (note_of o seat number script rec m s u.ghost f) f) at
 
   module _ (Q : Out → Seat → Core → Type 0) where
     turns : (m : M) (s : Seat) (turn : Turn Out) (p : SharedWords) → (turn ≡ Go → Leads script (over script plain) (EndsOver Q) m s p) → ((out : Out) → turn ≡ Done out → EndsOver Q out s p) → LeadsAt script (over script plain) (EndsOver Q) m s turn p
@@ -113,13 +113,13 @@ module _ (o : Origin) (start : Invariant o (first_core o)) (seat number : ℕ) {
         f = found_answer c.memory (script.asks m s)
 
         next : Core
-        next = after o c (step_on seat number script rec m s c)
+        next = after o c (step_on o seat number script rec m s c)
 
         inv : Invariant o c
         inv = reached_keeps o start c ready.reached
 
         takes : MemoryTakes c.memory (script.asks m s)
-        takes = takes_asked o c seat (script.asks m s) (note_of script rec number m s f) inv ready.allowed
+        takes = takes_asked o c seat (script.asks m s) (note_of o seat number script rec m s (view_of c.views seat).ghost f) inv ready.allowed
 
         few : length c.memory.now.pins ≤ SEATS
         few = (let many = inv.sizes.words.pins in let most = inv.sizes.seats.few in omega (arith, many, most))

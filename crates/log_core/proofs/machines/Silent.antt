@@ -44,9 +44,9 @@ module _ {M Out : Type 0} (script : Script M Out) (P : StartCondition) (R : EndC
   Both out t d = Ends out t d × SameEnd out t d
 
   module _ (promises : Promises script P R m) (silent : IsSilent script) where
-    next : (n : M) (t : Seat) (d : Core) (a : ℕ) (e : Core) → d.history ≡ at.core.history → (a ≡ found_answer d.memory (script.asks n t)) × (e ≡ after at.origin d (step_on at.seat at.number script no_record n t d)) → e.history ≡ at.core.history
+    next : (n : M) (t : Seat) (d : Core) (a : ℕ) (e : Core) → d.history ≡ at.core.history → (a ≡ found_answer d.memory (script.asks n t)) × (e ≡ after at.origin d (step_on at.origin at.seat at.number script no_record n t d)) → e.history ≡ at.core.history
     next n t d a e same st = ap (λ (x : Core). x.history) st.1
-        ∙ silent (q_of_origin at.origin) at.seat n t d.history (note_of script no_record at.number n t (found_answer d.memory (script.asks n t))) (found d.memory (script.asks n t)) ∙ same
+        ∙ silent (q_of_origin at.origin) at.seat n t d.history (note_of at.origin at.seat at.number script no_record n t (view_of d.views at.seat).ghost (found_answer d.memory (script.asks n t))) (found d.memory (script.asks n t)) ∙ same
 
     pub silent_alone : Leads script (over script plain) (LeftAlone P R s p at) m s p
     silent_alone =

@@ -43,7 +43,7 @@ end_reached = enters_reached image_a other_past 1 1 (Load (Image 28)) [] (TakesS
     ((record { free = record { not_won = refl; none_laid = refl; no_sync = refl; no_head = refl }; valid = refl; ready = refl; inside = λ same. omega (arith, same); used = λ same. omega (arith, same) }, refl), tt)
     refl tt
 
-next_reached : IsReached image_a other_next
+pub next_reached : IsReached image_a other_next
 next_reached = enters_reached image_a other_end 1 1 (Load (Image 24)) [] (Follows ∷ []) [] end_reached (omega arith) (one_part 1) tt refl (record { valid = refl; named = refl })
     (record { free = record { not_won = refl; none_laid = refl; no_sync = refl; no_head = refl }; valid = refl; ready = refl; at_end = refl; linked = λ same. omega (arith, same) }, tt)
     refl tt

@@ -71,7 +71,7 @@ one_starts : IsStart one_made
 one_starts = (let r = image_starts in record { small = r.small; stands = r.stands; same_shape = r.same_shape; clear = r.clear; bitmap = r.bitmap; seats = record { some = omega arith; few = omega arith; made = inl refl } })
 
 split_reached : IsReached one_made split_once
-split_reached = reach (Splits 0) (first_reached one_made) (record { first = refl; made = omega arith; unspent = one_part 0; no_record = refl; no_call = refl; never_called = refl; room = omega arith })
+split_reached = reach (Splits 0) (first_reached one_made) (record { first = refl; made = omega arith; unspent = one_part 0; never_called = refl; room = omega arith })
 
 loaded_reached : IsReached one_made split_loaded
 loaded_reached = step_reached one_made split_once 1 1 (Load (Image 3)) (Begins Size [] ∷ []) split_reached (omega arith) (one_part 1)

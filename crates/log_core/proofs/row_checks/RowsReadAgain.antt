@@ -61,7 +61,7 @@ link_reached = step_reached image_a (over_from put_core) 1 2 (Load (Image 40)) [
 
 read_reached : IsReached image_a (read_from put_core)
 read_reached = enters_reached image_a (link_from put_core) 1 2 (Load (Image 33)) [] (EndsReading ∷ []) [] link_reached (omega arith) (one_part 1) tt refl (record { valid = refl; named = refl })
-    (record { reading = record { valid = refl; reading = refl; pinned = refl }; no_more = inr refl; link = λ none. cc; next = λ none. cc; kind_is = refl }, tt) refl tt
+    (record { reading = record { valid = refl; reading = refl; pinned = refl }; no_more = inr refl; followed = record { link = λ none. cc; next = λ none. cc; kind_is = refl } }, tt) refl tt
 
 tail_reached : IsReached image_a (tail_from put_core)
 tail_reached = step_reached image_a (read_from put_core) 1 2 (Load (Image 35)) [] read_reached (omega arith) (one_part 1) tt refl (record { valid = refl; named = refl })

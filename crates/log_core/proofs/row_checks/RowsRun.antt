@@ -108,9 +108,9 @@ views_join = (
 
 pub views_split : ViewsSplit
 views_split = (
-  record { first = refl; made = omega arith; unspent = one_part 0; no_record = refl; no_call = refl; never_called = refl; room = omega arith },
+  record { first = refl; made = omega arith; unspent = one_part 0; never_called = refl; room = omega arith },
   λ may. (let room = may.room in omega (arith, room)),
-  λ may. true≢false (ap is_op may.no_call),
+  λ may. (let none = may.never_called in omega (arith, none)),
   λ may. (let first = may.first in omega (arith, first)),
   refl,
   refl,

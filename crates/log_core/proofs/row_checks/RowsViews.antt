@@ -1,5 +1,5 @@
 -- The clauses on views, owned blocks and giving back hold in the middle of a collection.
-use Rattle.std.proofs.Common.{◌≡◌, ◌≢◌, ◌≤◌, ◌<◌, ◌+◌, ◌*◌, not, ℕ, zero, suc, true, false, [], ◌∷◌, refl, sym, ap, inl, inr, arith, Option, None, Some}
+use Rattle.std.proofs.Common.{⊎_elim, ◌≡◌, ◌≢◌, ◌≤◌, ◌<◌, ◌+◌, ◌*◌, not, ℕ, zero, suc, true, false, [], ◌∷◌, refl, sym, ap, inl, inr, arith, Option, None, Some}
 use Rattle.std.proofs.lemmas.Bool.{false≢true, true≢false}
 use Rattle.std.specs.Option.{option_or}
 use Rattle.log_image.specs.Entries.{direct_meaning}
@@ -36,12 +36,11 @@ table_one (suc (suc (suc (suc virt)))) = refl
 
 walk : (seat : ℕ) → (view_of collected.views seat).parts ≢ [] → WalkHolds (around image_a collected) (view_of collected.views seat).seat.hold (view_of collected.views seat).seat.walk
 walk zero some = record {
-  unwalked = λ none. absurd (omega (arith, none));
   to_end = omega arith;
   from_first = λ reading. absurd (false≢true reading);
   to_current = λ reading. absurd (false≢true reading);
   read = λ reading. absurd (false≢true reading);
-  kept_words = λ valid. (record { named = refl; inside = omega arith; word_is = inr (refl, refl) }, tt);
+  kept_words = λ valid. (record { named = refl; inside = omega arith; word_is = inr (refl, refl); early = λ at. ⊎_elim (λ e. absurd (omega (arith, e))) (λ e. absurd (omega (arith, e))) at }, tt);
   unpinned = λ invalid. absurd (true≢false invalid);
   walked = λ some stopped. record {
     table = table_zero;
@@ -56,15 +55,15 @@ walk zero some = record {
   ready_walked = λ ready. (λ none. omega (arith, none), refl, λ none. omega (arith, none));
   ready_base = λ ready. refl;
   ready_tail = λ ready. omega arith;
+  seeking = λ ready come_to. absurd (come_to refl);
   first_known = λ known. record { some = λ none. omega (arith, none); is = refl };
 }
 walk (suc zero) some = record {
-  unwalked = λ none. absurd (omega (arith, none));
   to_end = omega arith;
   from_first = λ reading. absurd (false≢true reading);
   to_current = λ reading. absurd (false≢true reading);
   read = λ reading. absurd (false≢true reading);
-  kept_words = λ valid. (record { named = refl; inside = omega arith; word_is = inr (refl, refl) }, tt);
+  kept_words = λ valid. (record { named = refl; inside = omega arith; word_is = inr (refl, refl); early = λ at. ⊎_elim (λ e. absurd (omega (arith, e))) (λ e. absurd (omega (arith, e))) at }, tt);
   unpinned = λ invalid. absurd (true≢false invalid);
   walked = λ some stopped. record {
     table = table_one;
@@ -79,6 +78,7 @@ walk (suc zero) some = record {
   ready_walked = λ ready. (λ none. omega (arith, none), refl, λ none. omega (arith, none));
   ready_base = λ ready. refl;
   ready_tail = λ ready. omega arith;
+  seeking = λ ready come_to. absurd (come_to refl);
   first_known = λ known. record { some = λ none. omega (arith, none); is = refl };
 }
 walk (suc (suc seat)) some = absurd (some refl)

@@ -6,7 +6,7 @@ use Rattle.log_image.specs.Maps.{map_of}
 use Rattle.log_image.proofs.HoldingLemmas.{names_none}
 use Rattle.pmem_words.specs.Maps.{map_at as mapped_at}
 use Rattle.log_core.specs.Walks.{read_meanings}
-use Rattle.log_core.specs.worked_rows.WalkGaps.{two_snapshots, two_contents, first_read, gone_on, PlaceOfAnother, FirstLogOfAnother}
+use Rattle.log_core.specs.worked_rows.WalkGaps.{two_snapshots, two_contents, first_read, gone_on, PlaceOfAnother, FirstLogOfAnother, FirstLogFound}
 use Rattle.log_core.proofs.row_checks.RowTells.{some_not_none}
 
 -- the entry of the first block is all that is read, before and after
@@ -29,9 +29,7 @@ place_of_another = (
   record {
     reading = record { valid = refl; reading = refl; pinned = refl };
     no_more = inr refl;
-    link = some_not_none 9;
-    next = some_not_none 9223372036854775815;
-    kind_is = refl;
+    followed = record { link = some_not_none 9; next = some_not_none 9223372036854775815; kind_is = refl };
   },
   record { inside = omega arith; block = refl; from = omega arith; upto = omega arith; table = first_table; size_is = refl; position_is = refl },
   refl,
@@ -54,6 +52,21 @@ first_log_of_another = (
   refl,
   refl,
   refl,
+  refl,
+  refl,
+)
+
+pub first_log_found : FirstLogFound
+first_log_found = (
+  record { at_front = record { valid = refl; pinned = refl; front = λ none. cc }; ready = refl; kind_is = refl },
+  refl,
+  record { inside = omega arith; block_is = refl },
+  λ at. (let past = at.inside in omega (arith, past)),
+  record { valid = refl; ready = refl; come_to = λ none. omega (arith, none); followed = record { link = λ none. cc; next = λ none. cc; kind_is = refl } },
+  λ may. (let kind = may.followed.kind_is in omega (arith, kind)),
+  λ may. may.come_to refl,
+  refl,
+  λ holds. (let other = (holds.seeking refl (λ none. omega (arith, none))).block_is in omega (arith, other)),
   refl,
   refl,
 )

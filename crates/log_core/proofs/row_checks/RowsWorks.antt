@@ -86,7 +86,7 @@ snapshot_read = (
   refl,
   refl,
   λ may. may.1 refl,
-  record { reading = record { valid = refl; reading = refl; pinned = refl }; no_more = inr refl; link = some_not_none 10; next = some_not_none 4611686018427387911; kind_is = refl },
+  record { reading = record { valid = refl; reading = refl; pinned = refl }; no_more = inr refl; followed = record { link = some_not_none 10; next = some_not_none 4611686018427387911; kind_is = refl } },
   λ may. no_end 7 (Some 1835009) refl refl may.no_more,
   refl,
   refl,

@@ -6,7 +6,7 @@ use Rattle.log_core.specs.Invariant.{Invariant}
 use Rattle.log_core.specs.Starts.{IsStart}
 use Rattle.log_core.specs.Laws.{StartMeets}
 use Rattle.log_core.proofs.starts.StartFacts.{Facts, facts}
-use Rattle.log_core.proofs.starts.StartSeats.{start_sizes, start_pins, start_walks, start_owned, start_givings, start_records, start_syncs}
+use Rattle.log_core.proofs.starts.StartSeats.{start_sizes, start_pins, start_walks, start_noted, start_owned, start_givings, start_records, start_syncs}
 use Rattle.log_core.proofs.starts.StartOrder.{start_heads, start_rises, start_log}
 use Rattle.log_core.proofs.starts.StartChains.{start_chains, start_synced}
 use Rattle.log_core.proofs.starts.StartOwners.{start_owners}
@@ -22,6 +22,7 @@ meets o start s = record {
   contents = start_contents o s (head_floor (first_memory o)) (first_views o);
   pins = start_pins o;
   walks = start_walks o;
+  noted = start_noted o;
   owned = start_owned o;
   givings = start_givings o s.generation;
   records = start_records o;

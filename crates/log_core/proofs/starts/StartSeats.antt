@@ -22,6 +22,7 @@ use Rattle.log_core.specs.Cores.{first_core, current, head_floor}
 use Rattle.log_core.specs.Sizes.{HasSeats, HasImage, SeatFits, Sizes}
 use Rattle.log_core.specs.Pins.{PinWordsFit, PinHolds}
 use Rattle.log_core.specs.Walks.{Around, WalkHolds, WalksHold}
+use Rattle.log_core.specs.Noted.{NotedBy, AllNoted}
 use Rattle.log_core.specs.Owned.{OwnedHold, OwnedAllHold}
 use Rattle.log_core.specs.Giving.{GivingHolds, ScanHolds}
 use Rattle.log_core.specs.Records.{one_if, WritesFit, WritesOnce, SeatsOnce, PutFits, RecordHolds, NeverFall, CallHolds, TailHolds, MarksFit, parts_with}
@@ -87,9 +88,8 @@ start_pins o = record { words = words; holds = each_view o (λ n v. PinHolds fir
     words seat inside = each_view o (λ n v. get_or (replicate o.seats 0) n 0 ≡ v.seat.hold.pin) (λ n before. zeros_after [] o.seats n) (λ n. zeros_after [] o.seats n) seat
 
 -- walks
-pub walks_at : (a : Around) (position : ℕ) → position ≡ first_position a.origin → position ≤ a.end → WalkHolds a no_hold (unwalked position)
-walks_at a position same below = record {
-  unwalked = λ no_tail still. same;
+pub walks_at : (a : Around) (position : ℕ) → position ≤ a.end → WalkHolds a no_hold (unwalked position)
+walks_at a position below = record {
   to_end = below;
   from_first = λ reading. absurd (false≢true reading);
   to_current = λ reading. absurd (false≢true reading);
@@ -100,12 +100,18 @@ walks_at a position same below = record {
   ready_walked = λ ready. absurd (false≢true ready);
   ready_base = λ ready. absurd (false≢true ready);
   ready_tail = λ ready. absurd (false≢true ready);
+  seeking = λ ready. absurd (false≢true ready);
   first_known = λ known. absurd (known refl);
 }
 
 pub start_walks : (o : Origin) → WalksHold (around o (first_core o)) (first_views o)
 start_walks o = each_view o (λ n v. v.parts ≢ [] → WalkHolds (around o (first_core o)) v.seat.hold v.seat.walk)
-    (λ n before unspent. walks_at (around o (first_core o)) (first_position o) refl (omega arith)) (λ n unspent. absurd (unspent refl))
+    (λ n before unspent. walks_at (around o (first_core o)) (first_position o) (omega arith)) (λ n unspent. absurd (unspent refl))
+
+-- nothing is noted
+pub start_noted : (o : Origin) → AllNoted (around o (first_core o)) (first_views o)
+start_noted o = each_view o (λ n v. v.parts ≢ [] → NotedBy (around o (first_core o)) v.seat)
+    (λ n before unspent. ((λ on. absurd (false≢true on)), (λ on. absurd (false≢true on)), (λ on. absurd (false≢true on)))) (λ n unspent. absurd (unspent refl))
 
 -- owned blocks
 pub start_owned : (o : Origin) → OwnedAllHold (λ word. cell (first_memory o) word) [] [] (first_views o)

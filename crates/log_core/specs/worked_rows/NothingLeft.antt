@@ -10,7 +10,7 @@ use Rattle.log_core.specs.Views.{view_of}
 use Rattle.log_core.specs.Cores.{Core}
 use Rattle.log_core.specs.Works.{KeepsTable}
 use Rattle.log_core.specs.After.{after}
-use Rattle.log_core.specs.Runs.{IsReached, IsIdle}
+use Rattle.log_core.specs.Runs.{IsReached, IsIdleView}
 use Rattle.log_core.specs.Invariant.{Invariant}
 use Rattle.log_core.specs.worked_rows.Samples.{image_a, step_of, stepping}
 use Rattle.log_core.specs.worked_rows.Rows.{first_call}
@@ -54,8 +54,8 @@ NothingLeft c =
     × ((view_of (nothing_from c).views 0).done ≡ first_call ∷ kept_call ∷ nothing_call ∷ [])
     × ((nothing_from c).memory.now.pins ≡ 0 ∷ 0 ∷ [])
     × (length (nothing_from c).generations ≡ 2)
-    × IsIdle (view_of (nothing_from c).views 0)
-    × IsIdle (view_of (nothing_from c).views 1)
+    × IsIdleView (view_of (nothing_from c).views 0)
+    × IsIdleView (view_of (nothing_from c).views 1)
 
 abbrev pub NothingLeftRuns : Type 0
 NothingLeftRuns = NothingLeft head_put

@@ -1,11 +1,13 @@
 -- Wrong walks that one clause alone refuses, and the right ones.
-use Rattle.std.specs.Prelude.{ℕ, ◌≡◌, ◌==◌, if◌then◌else◌, List, [], ◌∷◌, Some, None}
+use Rattle.std.specs.Prelude.{ℕ, ◌+◌, ◌*◌, ◌≡◌, ◌==◌, if◌then◌else◌, List, [], ◌∷◌, slice_index, Some, None}
+use Rattle.pmem_words.specs.declared.keeps.KeptWord.{KeptWord}
 use Rattle.pmem_words.specs.Seats.{Seat, Walk}
 use Rattle.log_core.specs.Views.{view_of, no_ghost}
 use Rattle.log_core.specs.Origin.{Generation}
-use Rattle.log_core.specs.Works.{MayWork, NextSnapshot, Forgets, state_after_work, walk_kept, walk_from_log, walk_from_snapshot}
+use Rattle.log_core.specs.Cores.{generation_at}
+use Rattle.log_core.specs.Works.{MayWork, NextSnapshot, Forgets, SeeksFirst, SeeksNext, FindsFirst, state_after_work, walk_kept, walk_from_log, walk_from_snapshot}
 use Rattle.log_core.specs.Steps.{StoresOwnPin, LoadsHead, effect}
-use Rattle.log_core.specs.Walks.{HasRead, IsFirstLog, WalkHolds}
+use Rattle.log_core.specs.Walks.{HasRead, IsFirstLog, IsSnapshotBlock, WalkHolds}
 use Rattle.log_core.specs.Invariant.{around}
 use Rattle.log_core.specs.worked_rows.Samples.{image_a}
 use Rattle.log_core.specs.worked_rows.Rows.{kept, snapshot_reader}
@@ -70,3 +72,27 @@ FirstLogOfAnother =
     × ((walk_kept (record (past_snapshot.walk) { first_log = 0 }) 1).first_log ≡ 4)
     × ((walk_from_log past_snapshot.walk 3 0).first_log ≡ 3)
     × ((walk_from_snapshot past_snapshot.walk 2 5 1 1).first_log ≡ 0)
+
+-- that seat with its table kept, its first log block not known, and these words of blocks
+abbrev pub seeking : (block place : ℕ) → List KeptWord → Seat
+seeking block place words = record past_snapshot { walk = record (past_snapshot.walk) { first_log = 0; reading_block = block; reading_place = place; kept = words } }
+
+-- a word of the image
+abbrev pub read_word : ℕ → ℕ → KeptWord
+read_word block slot = kept block slot (slice_index late_read.memory.now.words (block * 8 + slot))
+
+-- the first log block of a kept table is found over the blocks of its snapshot, which is block 5 alone, and the table stays. The block come
+-- to is one of the snapshot: another one is refused, though all else is the same, as its link would lead elsewhere
+abbrev pub FirstLogFound : Type 0
+FirstLogFound =
+    MayWork no_ghost (seeking 0 0 (read_word 5 1 ∷ [])) SeeksFirst
+    × (state_after_work (seeking 0 0 (read_word 5 1 ∷ [])) SeeksFirst ≡ seeking 5 0 [])
+    × IsSnapshotBlock (generation_at image_a late_read.generations 2) 0 5
+    × (IsSnapshotBlock (generation_at image_a late_read.generations 2) 1 5 → ⊥)
+    × MayWork no_ghost (seeking 5 0 (read_word 5 0 ∷ read_word 4 1 ∷ [])) FindsFirst
+    × (MayWork no_ghost (seeking 5 0 (read_word 5 0 ∷ read_word 4 1 ∷ [])) SeeksNext → ⊥)
+    × (MayWork no_ghost (seeking 0 0 (read_word 0 0 ∷ read_word 4 1 ∷ [])) FindsFirst → ⊥)
+    × (state_after_work (seeking 5 0 (read_word 5 0 ∷ read_word 4 1 ∷ [])) FindsFirst ≡ record past_snapshot { walk = record (past_snapshot.walk) { first_log = 4 } })
+    × (WalkHolds (around image_a late_read) past_snapshot.hold (seeking 3 0 []).walk → ⊥)
+    × ((pins_second (seeking 5 0 []) 2).walk.reading_block ≡ 5)
+    × ((walk_kept (seeking 5 0 []).walk 1).reading_block ≡ 0)

@@ -1,7 +1,8 @@
 //! The blocks that the present call has taken, found taken or named.
 
-ghost use Rattle.std.specs.Prelude.{◌≡◌, ◌+◌, ◌*◌, ◌<◌, ◌++◌, ◌∷◌, [], false, length, remove, replicate, take, slice_index, slice_set, bit_or};
+ghost use Rattle.std.specs.Prelude.{◌≡◌, ◌+◌, ◌*◌, ◌/◌, ◌<◌, ◌++◌, ◌∷◌, [], true, false, length, remove, replicate, take, slice_index, slice_set, bit_or};
 ghost use Rattle.pmem_words.specs.Owned.{without_block, with_filled, with_fenced, fenced_all, is_among, owned_but, contents_but};
+ghost use Rattle.pmem_words.specs.Noted.{noted_first, noted_more};
 ghost use Rattle.pmem_words.specs.Seats.{q_of, owned_room, bitmap_words};
 ghost use Rattle.asks.specs.Asks.{without_bits};
 
@@ -167,5 +168,32 @@ impl SeatState {
         ensures { self.new ≡ record self.old { blocks = record self.old.blocks { named = replicate (bitmap_words self.old.geometry) 0 } } }
     {
         self.named.fill(0);
+    }
+
+    /// Takes these bits out of word `word` of `named`.
+    pub fn remove_named(&mut self, word: u32, bits: u64)
+        requires { word < length self.old.blocks.named }
+        ensures { self.new ≡ record self.old { blocks = record self.old.blocks { named = slice_set self.old.blocks.named word (without_bits (slice_index self.old.blocks.named word) bits) } } }
+    {
+        self.named[word as usize] &= !bits;
+    }
+
+    /// Notes this block as the first one that the chain names: its bit alone is set in `named`. It has to be one of the image.
+    pub fn note_first(&mut self, block: u16)
+        requires { block / 64 < length self.old.blocks.named }
+        ensures { self.new ≡ record self.old { blocks = record self.old.blocks { named = noted_first true self.old.blocks.named block } } }
+    {
+        self.named.fill(0);
+        self.named[block as usize / 64] |= 1 << (block % 64);
+    }
+
+    /// Notes one block more that the chain names, where `noting` says so. It has to be one of the image.
+    pub fn note(&mut self, block: u16)
+        requires { block / 64 < length self.old.blocks.named }
+        ensures { self.new ≡ record self.old { blocks = record self.old.blocks { named = noted_more self.old.calling.noting self.old.blocks.named (block ∷ []) } } }
+    {
+        if self.noting {
+            self.named[block as usize / 64] |= 1 << (block % 64);
+        }
     }
 }

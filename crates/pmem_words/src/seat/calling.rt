@@ -142,4 +142,19 @@ impl SeatState {
     {
         self.sync_to = sync_to;
     }
+
+    /// Whether `named` has exactly the blocks that the walked chain names up to the walk's place: in a collection, from where
+    /// its walk began until the bits are changed for another end.
+    pub fn noting(&self) -> bool
+        ensures { result ≡ self.now.calling.noting }
+    {
+        self.noting
+    }
+
+    /// Sets whether the named blocks are noted.
+    pub fn set_noting(&mut self, noting: bool)
+        ensures { self.new ≡ record self.old { calling = record self.old.calling { noting = noting } } }
+    {
+        self.noting = noting;
+    }
 }

@@ -201,7 +201,8 @@ impl SeatState {
         self.reading_generation = reading_generation;
     }
 
-    /// While `reading`, the snapshot block come to. This stays until the reading ends or begins anew.
+    /// While `reading`, the snapshot block come to. This stays until the reading ends or begins anew. While `ready`, the one come
+    /// to on the way to the first log block; 0 where none.
     pub fn reading_block(&self) -> u16
         ensures { result ≡ self.now.walk.reading_block }
     {
@@ -229,7 +230,7 @@ impl SeatState {
         self.reading_slot = reading_slot;
     }
 
-    /// While `reading`, the place of that block in the snapshot: the blocks read so far, fewer than the blocks of an image.
+    /// The place of that block in the snapshot: the blocks gone over so far, fewer than the blocks of an image.
     pub fn reading_place(&self) -> u16
         ensures { result ≡ self.now.walk.reading_place }
     {

@@ -1,7 +1,8 @@
 use Rattle.log_core.proofs.row_checks.RowsCallGaps.{table_of_another, base_from_before, bases_dropped, base_left_over, first_base_short, tail_not_walked, head_of_no_collection, sync_of_no_sync, call_of_no_number}
 use Rattle.log_core.proofs.row_checks.RowsEnded.{write_not_put, size_before_tail, kept_too_early}
 use Rattle.log_core.proofs.row_checks.RowsCoreGaps.{begun_past_end, parts_of_another, made_more, overtaken_by_none, synced_before_start, write_of_another_size, entry_of_another_size, head_before_tail}
-use Rattle.log_core.proofs.row_checks.RowsWalkGaps.{place_of_another, first_log_of_another}
+use Rattle.log_core.proofs.row_checks.RowsWalkGaps.{place_of_another, first_log_of_another, first_log_found}
+use Rattle.log_core.proofs.row_checks.RowsNotedGaps.{noted_of_another}
 use Rattle.log_core.proofs.rows.law_gaps.Goals as goal
 
 pub returns : goal.returns
@@ -28,4 +29,6 @@ returns c = record {
   head_before_tail = head_before_tail;
   place_of_another = place_of_another;
   first_log_of_another = first_log_of_another;
+  first_log_found = first_log_found;
+  noted_of_another = noted_of_another;
 }
