@@ -289,7 +289,7 @@ module _ (o : Origin) (c : Core) (n : ℕ) (s : Seat) (g : Ghost) (pin began : �
       ready_walked = w.ready_walked;
       ready_base = w.ready_base;
       ready_tail = w.ready_tail;
-    seeking = w.seeking;
+      seeking = w.seeking;
       first_known = w.first_known;
     }
       where
@@ -347,17 +347,17 @@ module _ (o : Origin) (c : Core) (n : ℕ) (s : Seat) (g : Ghost) (pin began : �
         were_some : bases_left (tail_meaning s) s.calling.bases ≢ [] → s.calling.bases ≢ []
         were_some some none = some (ap (λ (l : List ℕ). bases_left (tail_meaning s) l) none)
 
-  -- the chain names the entry's blocks more
-  noted_taken : NotedHolds (around o c) s.hold new.walk s.calling new.blocks.named
-  noted_taken = (
-    (f.noted unspent).0,
-    (λ on reading. (let both : true ≡ false = sym reading ∙ (w.ready_walked found.ready).1 in cc)),
-    (λ on ready b low. more_noted s.calling.noting s.blocks.named (names (tail_meaning s)) b on (noted_inside o c n s g pin began f unspent b low)
-        ∙ (ap (λ (t : Bool). is_listed (names (tail_meaning s)) b || t) ((f.noted unspent).2 on ready b low)
-        ∙ (ap (λ (m : Meaning). is_listed (names m) b || is_named_before o c.logs es pinned s.walk b) meaning_is
-        ∙ sym (entry_more o (take (number + 1) c.logs) es pinned s.walk.position from_start (let base = w.ready_base found.ready in let tail = w.ready_tail found.ready in let position = position_is in omega (arith, base, tail, position)) inside_log b)))),
-  )
+    -- the chain names the entry's blocks more
+    noted_taken : NotedHolds (around o c) s.hold new.walk s.calling new.blocks.named
+    noted_taken = (
+      (f.noted unspent).0,
+      (λ on reading. (let both : true ≡ false = sym reading ∙ (w.ready_walked found.ready).1 in cc)),
+      (λ on ready b low. more_noted s.calling.noting s.blocks.named (names (tail_meaning s)) b on (noted_inside o c n s g pin began f unspent b low)
+          ∙ (ap (λ (t : Bool). is_listed (names (tail_meaning s)) b || t) ((f.noted unspent).2 on ready b low)
+          ∙ (ap (λ (m : Meaning). is_listed (names m) b || is_named_before o c.logs es pinned s.walk b) meaning_is
+          ∙ sym (entry_more o (take (number + 1) c.logs) es pinned s.walk.position from_start (let base = w.ready_base found.ready in let tail = w.ready_tail found.ready in let position = position_is in omega (arith, base, tail, position)) inside_log b)))),
+    )
 
     pub entry_facts : Knows o c n new g pin began
-  entry_facts = move_with_bases o c n s g pin began new.walk new.calling.bases new.calling.base_words s.calling.noting new.blocks.named (length_more s.calling.noting s.blocks.named _) f found.free (inr (w.ready_walked found.ready).1) bases_hold refl
-      (λ some. length_with_entry (tail_meaning s) s.walk.map ∙ (f.fits some).map) (λ some. walk_taken) (λ some. noted_taken)
+    entry_facts = move_with_bases o c n s g pin began new.walk new.calling.bases new.calling.base_words s.calling.noting new.blocks.named (length_more s.calling.noting s.blocks.named _) f found.free (inr (w.ready_walked found.ready).1) bases_hold refl
+        (λ some. length_with_entry (tail_meaning s) s.walk.map ∙ (f.fits some).map) (λ some. walk_taken) (λ some. noted_taken)
