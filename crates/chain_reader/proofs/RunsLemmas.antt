@@ -34,7 +34,7 @@ all_at test (number ∷ numbers) zero all inside = both_left (test number) (list
 all_at test (number ∷ numbers) (suc place) all inside = all_at test numbers place (both_right (test number) (list_all test numbers) all) (omega (arith, inside))
 
 -- a test of each element of some lists holds of each element of one of them
-all_in : (test : ℕ → Bool) (lists : ℕ → List ℕ) (numbers : List ℕ) (place : ℕ) → list_all test (flat_map lists numbers) ≡ true → place < length numbers → list_all test (lists (get_or numbers place 0)) ≡ true
+pub all_in : (test : ℕ → Bool) (lists : ℕ → List ℕ) (numbers : List ℕ) (place : ℕ) → list_all test (flat_map lists numbers) ≡ true → place < length numbers → list_all test (lists (get_or numbers place 0)) ≡ true
 all_in test lists [] place all inside = absurd (omega (arith, inside))
 all_in test lists (number ∷ numbers) zero all inside =
     both_left (list_all test (lists number)) (list_all test (flat_map lists numbers)) (sym (list_all-append test (lists number) (flat_map lists numbers)) ∙ all)

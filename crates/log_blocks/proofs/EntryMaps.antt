@@ -1,16 +1,21 @@
 -- A run that is mapped is an entry that is taken in; and partly touches m blocks that are dropped are those that an entry touches.
-use Rattle.std.proofs.Common.{◌≡◌, ◌<◌, ◌≤◌, ◌+◌, ◌-◌, ◌*◌, ◌&&◌, not, nat_le, nat_lt, max, ℕ, zero, suc, Bool, true, false, List, [], ◌∷◌, ◌++◌, length, take, drop, remove, filter, replicate, append-nil, Option, Some, None, if◌then◌else◌, refl, sym, ap, ◌∙◌, subst, arith}
+use Rattle.std.proofs.Common.{◌≡◌, ◌<◌, ◌≤◌, ◌+◌, ◌-◌, ◌*◌, ◌/◌, ◌%◌, ◌^◌, ◌&&◌, slice_index, slice_set, bit_or, not, nat_le, nat_lt, max, ℕ, zero, suc, Bool, true, false, List, [], ◌∷◌, ◌++◌, length, take, drop, remove, filter, replicate, append-nil, Option, Some, None, if◌then◌else◌, refl, sym, ap, ◌∙◌, subst, arith}
 use Rattle.std.specs.List.{range_with_len, slice_get, remove_range}
 use Rattle.std.proofs.Math.ListN.{drop_of_length-le}
 use Rattle.std.proofs.lemmas.List.FromFn.{length-range_with_len}
 use Rattle.std.proofs.lemmas.List.{length-replicate, take_all, length-take, length-drop, take-append-drop}
 use Rattle.log_entry.specs.Fields.{field}
 use Rattle.log_entry.specs.declared.layouts.TheConstants.{DIRECT_VIRT, DIRECT_BLOCK, DIRECT_COUNT, DIRECT_LEFTOVER}
+use Rattle.log_entry.specs.declared.shapes.Geometry.{Geometry}
+use Rattle.log_image.specs.Image.{shape_by}
+use Rattle.log_image.specs.Format.{fits}
 use Rattle.log_image.specs.Entries.{Meaning, direct_meaning}
 use Rattle.pmem_words.specs.Maps.{with_run, with_run_at}
+use Rattle.pmem_words.specs.Noted.{with_noted, noted_more}
 use Rattle.pmem_words.specs.Owned.{without_block}
-use Rattle.pmem_words.specs.Seats.{Seat, Calling, q_of}
+use Rattle.pmem_words.specs.Seats.{Seat, Calling, q_of, image_blocks}
 use Rattle.log_core.specs.Works.{with_entry, with_entry_from, words_of, touches, bases_left, base_words_left, without_bases}
+use Rattle.chain_reader.proofs.FitsLemmas.{Fitting, fitting, row_inside}
 use Rattle.chain_reader.proofs.MapLemmas.{run_gives, longer_gives}
 use Rattle.log_blocks.specs.Taking.{dropped, dropped_from, HasFewBases}
 
@@ -113,3 +118,34 @@ module _ (m : Meaning) (q : ℕ) where
 -- what is done with an entry that is in the table
 pub entry_passed : (m : Meaning) (s : Seat) → HasFewBases (words_of s) s.calling → (t : Seat) → t ≡ dropped m.virt (length m.blocks) 0 (dropped m.virt (length m.blocks) 1 s) → t ≡ record s { calling = without_bases (words_of s) m s.calling }
 entry_passed m s few t is = is ∙ ap (λ (c : Calling). record s { calling = c }) (both m (q_of s.geometry) s.calling s.calling.bases s.calling.base_words few.few few.words)
+
+-- more blocks are noted one list after the other
+with_noted_more : (front words back : List ℕ) → with_noted words (front ++ back) ≡ with_noted (with_noted words front) back
+with_noted_more [] words back = refl
+with_noted_more (block ∷ front) words back = with_noted_more front (slice_set words (block / 64) (bit_or (slice_index words (block / 64)) (2 ^ (block % 64)))) back
+
+pub noted_on : (noting : Bool) (words front back : List ℕ) → noted_more noting (noted_more noting words front) back ≡ noted_more noting words (front ++ back)
+noted_on true words front back = sym (with_noted_more front words back)
+noted_on false words front back = refl
+
+row_more : (from count : ℕ) → range_with_len from (count + 1) ≡ range_with_len from count ++ (from + count) ∷ []
+row_more from count = ap (λ (n : ℕ). range_with_len from n) (let is : count + 1 ≡ suc count = omega arith in is) ∙ by from count
+  where
+    by : (from count : ℕ) → range_with_len from (suc count) ≡ range_with_len from count ++ (from + count) ∷ []
+    by from zero = ap (λ (n : ℕ). n ∷ []) (let is : from ≡ from + 0 = omega arith in is)
+    by from (suc count) = ap (λ (l : List ℕ). from ∷ l) (by (from + 1) count ∙ ap (λ (n : ℕ). range_with_len (from + 1) count ++ n ∷ []) (let is : from + 1 + count ≡ from + suc count = omega arith in is))
+
+-- one block of a run more is noted
+pub run_noted : (noting : Bool) (words : List ℕ) (from block : ℕ) → from ≤ block →
+    noted_more noting (noted_more noting words (range_with_len from (block - from))) (block ∷ []) ≡ noted_more noting words (range_with_len from (block + 1 - from))
+run_noted noting words from block low = noted_on noting words (range_with_len from (block - from)) (block ∷ [])
+    ∙ ap (λ (l : List ℕ). noted_more noting words l)
+    (ap (λ (n : ℕ). range_with_len from (block - from) ++ n ∷ []) (let is : block ≡ from + (block - from) = omega (arith, low) in is)
+    ∙ (sym (row_more from (block - from)) ∙ ap (λ (n : ℕ). range_with_len from n) (let is : block - from + 1 ≡ block + 1 - from = omega (arith, low) in is)))
+
+-- the run of a direct entry is of the image
+pub direct_inside : (g : Geometry) (word : ℕ) → fits (shape_by g) 256 (direct_meaning word) ≡ true → field DIRECT_BLOCK word + (field DIRECT_COUNT word + 1) ≤ image_blocks g
+direct_inside g word good = (let is : Fitting (shape_by g) 256 (direct_meaning word) = fitting (shape_by g) 256 (direct_meaning word) good in
+    let inside : (1 ≤ field DIRECT_BLOCK word) × (field DIRECT_BLOCK word + (field DIRECT_COUNT word + 1) ≤ g.data_blocks + 1) =
+    row_inside (shape_by g) (field DIRECT_BLOCK word) (field DIRECT_COUNT word + 1) is.in_data (omega arith) in
+    let most = inside.1 in omega (arith, most))

@@ -5,15 +5,15 @@ use Rattle.std.proofs.lemmas.List.{length-drop, length-take, length-map, get_or-
 use Rattle.std.proofs.lemmas.List.FromFn.{length-range_with_len}
 use Rattle.log_entry.specs.Fields.{field}
 use Rattle.log_entry.specs.declared.layouts.TheConstants.{RUNS_VIRT, RUNS_RUNS, RUNS_LEFTOVER, RUN_BLOCK, RUN_COUNT}
-use Rattle.log_image.specs.Image.{words_in}
+use Rattle.log_image.specs.Image.{words_in, is_in_data}
 use Rattle.log_image.specs.Entries.{run_words, run_blocks, indirect_blocks, indirect_meaning}
 use Rattle.log_image.specs.Format.{fits, is_indirect_block}
 use Rattle.pmem_words.specs.declared.keeps.KeptWord.{KeptWord}
 use Rattle.pmem_words.specs.Maps.{with_run}
-use Rattle.pmem_words.specs.Seats.{Seat}
+use Rattle.pmem_words.specs.Seats.{Seat, image_blocks}
 use Rattle.log_core.specs.Works.{seat_shape, with_entry}
-use Rattle.chain_reader.proofs.FitsLemmas.{RunNumbers, Fitting, fitting}
-use Rattle.chain_reader.proofs.RunsLemmas.{first_runs, run_at, runs_fit, one_more, take_whole, RunAt}
+use Rattle.chain_reader.proofs.FitsLemmas.{RunNumbers, Fitting, fitting, row_inside}
+use Rattle.chain_reader.proofs.RunsLemmas.{all_in, first_runs, run_at, runs_fit, one_more, take_whole, RunAt}
 use Rattle.log_blocks.specs.Taking.{kept_words}
 use Rattle.log_blocks.proofs.EntryMaps.{longer_is, none_is}
 
@@ -88,8 +88,21 @@ module _ (s : Seat) (block : ℕ) (whole : length (kept_words s) ≡ words_in (s
       (subst (λ (n : ℕ). RunFits (field RUNS_VIRT (slice_index content 0) + length blocks) (field RUN_BLOCK (get_or (run_words content) place 0)) n) (sym count_is)
       (record { numbers = is.numbers; cut = is.cut }))))
 
+  -- and it is of the image
+  pub run_inside : (place first count : ℕ) → place < count_of_runs → first ≡ field RUN_BLOCK (kept_at_place (2 + place)) → count ≡ field RUN_COUNT (kept_at_place (2 + place)) → first + count ≤ image_blocks s.geometry
+  run_inside place first count low same_first same_count =
+      (let is : Fitting (seat_shape s) 256 (indirect_meaning block content) = fitting (seat_shape s) 256 (indirect_meaning block content) fit in
+      let within : place < length (run_words content) = subst (λ (n : ℕ). place < n) (sym long_runs) low in
+      let run : ℕ = get_or (run_words content) place 0 in
+      let first_is : first ≡ field RUN_BLOCK run = same_first ∙ ap (field RUN_BLOCK) (sym (run_word place low)) in
+      let count_is : count ≡ field RUN_COUNT run = same_count ∙ ap (field RUN_COUNT) (sym (run_word place low)) in
+      let numbers = run_fits place (past_at place) first count low refl same_first same_count in
+      let some = numbers.numbers.some in
+      let most = (row_inside (seat_shape s) (field RUN_BLOCK run) (field RUN_COUNT run) (all_in (is_in_data (seat_shape s)) run_blocks (run_words content) place is.in_data within) (omega (arith, some, count_is))).1 in
+      omega (arith, most, first_is, count_is))
+
   -- and the runs are one more then
-  longer : (place first count : ℕ) → place < count_of_runs → first ≡ field RUN_BLOCK (kept_at_place (2 + place)) → count ≡ field RUN_COUNT (kept_at_place (2 + place)) →
+  pub longer : (place first count : ℕ) → place < count_of_runs → first ≡ field RUN_BLOCK (kept_at_place (2 + place)) → count ≡ field RUN_COUNT (kept_at_place (2 + place)) →
       flat_map run_blocks (take (place + 1) (run_words content)) ≡ flat_map run_blocks (take place (run_words content)) ++ range_with_len first count
   longer place first count low same_first same_count =
       one_more content place (subst (λ (n : ℕ). place < n) (sym long_runs) low)
@@ -117,7 +130,7 @@ module _ (s : Seat) (block : ℕ) (whole : length (kept_words s) ≡ words_in (s
   pub map_none : s.walk.map ≡ with_entry (first_runs block content 0) s.walk.map
   map_none = sym (none_is (block ∷ []) (field RUNS_VIRT (slice_index content 0)) (field RUNS_LEFTOVER (slice_index content 0)) s.walk.map)
 
-  all_runs : (place : ℕ) → count_of_runs ≤ place → take place (run_words content) ≡ run_words content
+  pub all_runs : (place : ℕ) → count_of_runs ≤ place → take place (run_words content) ≡ run_words content
   all_runs place late = take_whole (run_words content) place (let long = long_runs in omega (arith, long, late))
 
   pub map_all : (place : ℕ) → count_of_runs ≤ place → with_entry (first_runs block content place) s.walk.map ≡ with_entry (indirect_meaning block content) s.walk.map

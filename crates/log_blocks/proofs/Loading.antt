@@ -41,6 +41,7 @@ known_from_zero o c n s g pin began f = record {
   pin_is = f.pin_is;
   pin_holds = f.pin_holds;
   walk = f.walk;
+  noted = f.noted;
   owned = f.owned;
   giving = f.giving;
   scan_others = f.scan_others;

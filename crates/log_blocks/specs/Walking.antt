@@ -8,7 +8,7 @@ use Rattle.log_image.specs.Format.{fits, is_indirect_block}
 use Rattle.asks.specs.declared.ask.Ask.{Ask}
 use Rattle.asks.specs.declared.ask.Ask.TheVariants.{Load}
 use Rattle.asks.specs.declared.ask.Place.TheVariants.{Image}
-use Rattle.pmem_words.specs.Seats.{Seat, kept_room}
+use Rattle.pmem_words.specs.Seats.{Seat, kept_room, image_blocks}
 use Rattle.pmem_words.specs.Scripts.{After, Script, Lowers}
 use Rattle.pmem_words.specs.declared.machine.Turn.TheVariants.{Go, Done}
 use Rattle.log_core.specs.Entries.{place_in}
@@ -131,9 +131,12 @@ walk_measure Link s = snapshot_left s + 2
 walk_measure (Next block) s = snapshot_left s + 1
 walk_measure (Indirect block word) s = log_left s * 1024 + (999 - word)
 
--- what a walk may be told: words that a chain has
+-- what a walk may be told: words that a chain has, of blocks of the image
 pub record IsKind (f : ℕ) : Type 0 where
   pub is : (field BLOCK_KIND f ≡ LOG) ⊎ (field BLOCK_KIND f ≡ SNAPSHOT)
+
+abbrev pub IsOfImage : Seat → ℕ → Type 0
+IsOfImage s block = block < image_blocks s.geometry
 
 pub record IsSlotWord (s : Seat) (f : ℕ) : Type 0 where
   pub room : HasRoom s.walk
@@ -141,6 +144,7 @@ pub record IsSlotWord (s : Seat) (f : ℕ) : Type 0 where
   pub direct : f ≢ EMPTY → f ≢ SEAL → field ENTRY_KIND f ≢ INDIRECT → fits (seat_shape s) 256 (direct_meaning f) ≡ true
 
 pub record IsWholeBlock (s : Seat) (block : ℕ) : Type 0 where
+  pub inside : IsOfImage s block
   pub room : HasRoom s.walk
   pub few : HasFewBases (words_of s) s.calling
   pub whole : length (kept_words s) ≡ words_in (seat_shape s)
@@ -148,15 +152,15 @@ pub record IsWholeBlock (s : Seat) (block : ℕ) : Type 0 where
   pub fits : fits (seat_shape s) 256 (indirect_meaning block (kept_words s)) ≡ true
 
 abbrev pub BeginAdmits : Bool → Seat → ℕ → Type 0
-BeginAdmits true s f = (s.walk.tail_slot ≢ words_of s → IsSlotWord s f) × (s.walk.tail_slot ≡ words_of s → f < 2 ^ 16)
-BeginAdmits false s f = IsKind f
+BeginAdmits true s f = (s.walk.tail_slot ≢ words_of s → IsSlotWord s f) × (s.walk.tail_slot ≡ words_of s → f ≢ EMPTY → IsOfImage s f)
+BeginAdmits false s f = IsKind f × IsOfImage s (front s)
 
 abbrev pub StageAdmits : Walk → Seat → ℕ → Type 0
 StageAdmits Begin s f = BeginAdmits s.walk.ready s f
-StageAdmits (Size base) s f = Unit {0}
+StageAdmits (Size base) s f = IsOfImage s (front s)
 StageAdmits Run s f = (s.walk.reading_slot + 1 < 2 ^ 16) × (f ≢ EMPTY → fits (seat_shape s) 256 (direct_meaning f) ≡ true)
 StageAdmits Link s f = f < 2 ^ 16
-StageAdmits (Next block) s f = IsKind f × (s.walk.reading_place + 1 < 2 ^ 16)
+StageAdmits (Next block) s f = IsKind f × (s.walk.reading_place + 1 < 2 ^ 16) × IsOfImage s block
 StageAdmits (Indirect block word) s f = (word < words_of s) × (word + 1 ≡ words_of s → IsWholeBlock (with_kept s block word f) block)
 
 -- there is a free place for the word, it is such, and the walk comes nearer to its end with it

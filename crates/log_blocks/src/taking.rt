@@ -1,18 +1,19 @@
 //! What a walk makes of its seat with a word that was loaded.
 
 ghost use Rattle.std.specs.Prelude.{◌≡◌, ◌+◌, ◌*◌, ◌<◌, ◌≤◌, ◌^◌, ◌∷◌, [], false, IsTrue, length, map, drop};
+ghost use Rattle.std.specs.List.{range_with_len};
 ghost use Rattle.log_image.specs.Image.{words_in};
 ghost use Rattle.log_image.specs.Entries.{Meaning, direct_meaning, indirect_meaning};
 ghost use Rattle.log_image.specs.Format.{fits, is_indirect_block};
-ghost use Rattle.pmem_words.specs.Seats.{kept_room};
-ghost use Rattle.log_core.specs.Works.{seat_shape, words_of, front};
+ghost use Rattle.pmem_words.specs.Seats.{kept_room, image_blocks};
+ghost use Rattle.log_core.specs.Works.{seat_shape, words_of, front, begun_at_front, blocks_noted};
 ghost use Rattle.log_blocks.specs.Taking.{with_kept, table_kept, log_begun, snapshot_begun, run_taken, next_begun, reading_ended, taken, HasRoom, HasFewBases, kept_words, seal_taken, followed, tail_found, passed, IsOfBlocks, dropped};
 
 use log_entry::layouts::{
     DIRECT_BLOCK, DIRECT_COUNT, DIRECT_LEFTOVER, DIRECT_VIRT, HEAD_BLOCK, RUN_BLOCK, RUN_COUNT,
     RUNS_LEFTOVER, RUNS_RUNS, RUNS_VIRT,
 };
-use pmem_words::{KeptWord, SeatState};
+use pmem_words::{KeptWord, SeatState, Task};
 
 /// The first block of the chain whose head was found last.
 pub fn front_of(seat: &SeatState) -> u16
@@ -38,13 +39,43 @@ pub fn keep_table(seat: &mut SeatState, base: u64)
     if base == seat.tail_base() {
         seat.set_first_log(seat.tail_block());
     }
+    seat.set_reading_block(0);
+    seat.set_reading_place(0);
+    seat.set_noting(false);
     seat.clear_kept();
+}
+
+/// In a collection the blocks that the chain names are noted from its first one on; in another call none are.
+fn note_front(seat: &mut SeatState)
+    requires { front seat.old < image_blocks seat.old.geometry }
+    ensures { seat.new ≡ begun_at_front seat.old seat.old.walk }
+{
+    let collects = seat.job() == Task::Collect;
+    seat.set_noting(collects);
+    if collects {
+        let block = front_of(seat);
+        seat.note_first(block);
+    }
+}
+
+/// Notes `count` blocks from `first` on, where they are noted.
+pub fn note_run(seat: &mut SeatState, first: u16, count: u16)
+    requires { first + count ≤ image_blocks seat.old.geometry }
+    ensures { seat.new ≡ record seat.old { blocks = blocks_noted seat.old (range_with_len first count) } }
+{
+    if seat.noting() {
+        for block in first..first + count {
+            seat.note(block);
+        }
+    }
 }
 
 /// Begins at the first log block of a chain without a snapshot.
 pub fn begin_log(seat: &mut SeatState, base: u64)
+    requires { front seat.old < image_blocks seat.old.geometry }
     ensures { seat.new ≡ log_begun seat.old base }
 {
+    note_front(seat);
     let block = front_of(seat);
     seat.set_position(base);
     seat.reset_table(0);
@@ -61,8 +92,10 @@ pub fn begin_log(seat: &mut SeatState, base: u64)
 
 /// Begins to read the snapshot of this position and size at the front of the chain.
 pub fn begin_snapshot(seat: &mut SeatState, base: u64, size: u64)
+    requires { front seat.old < image_blocks seat.old.geometry }
     ensures { seat.new ≡ snapshot_begun seat.old base size }
 {
+    note_front(seat);
     let block = front_of(seat);
     seat.set_position(base);
     seat.reset_table(size);
@@ -83,28 +116,30 @@ pub fn take_run(seat: &mut SeatState, word: u64)
     requires inside { seat.old.walk.reading_slot + 1 < 2 ^ 16 }
     ensures { seat.new ≡ run_taken seat.old word }
 {
-    seat.apply(
-        DIRECT_VIRT.of(word) as u16,
-        DIRECT_BLOCK.of(word) as u16,
-        DIRECT_COUNT.of(word) as u16 + 1,
-    );
+    let block = DIRECT_BLOCK.of(word) as u16;
+    let count = DIRECT_COUNT.of(word) as u16 + 1;
+    seat.apply(DIRECT_VIRT.of(word) as u16, block, count);
+    note_run(seat, block, count);
     seat.set_reading_slot(seat.reading_slot() + 1);
     seat.clear_kept();
 }
 
 /// Goes on to the next block of the snapshot.
 pub fn next_snapshot(seat: &mut SeatState, block: u16)
-    requires { seat.old.walk.reading_place + 1 < 2 ^ 16 }
+    requires place { seat.old.walk.reading_place + 1 < 2 ^ 16 }
+    requires inside { block < image_blocks seat.old.geometry }
     ensures { seat.new ≡ next_begun seat.old block }
 {
     seat.set_reading_block(block);
     seat.set_reading_slot(3);
     seat.set_reading_place(seat.reading_place() + 1);
+    seat.note(block);
     seat.clear_kept();
 }
 
 /// The snapshot was read whole, and this log block follows it.
 pub fn end_reading(seat: &mut SeatState, block: u16)
+    requires { block < image_blocks seat.old.geometry }
     ensures { seat.new ≡ reading_ended seat.old block }
 {
     let base = seat.position();
@@ -115,6 +150,7 @@ pub fn end_reading(seat: &mut SeatState, block: u16)
     seat.set_first_log(block);
     seat.set_ready(true);
     end_of_reading(seat);
+    seat.note(block);
     seat.clear_kept();
 }
 
@@ -136,8 +172,10 @@ pub fn take_direct(seat: &mut SeatState, word: u64)
     ensures { seat.new ≡ taken seat.old (direct_meaning word) }
 {
     let virt = DIRECT_VIRT.of(word);
+    let block = DIRECT_BLOCK.of(word) as u16;
     let count = DIRECT_COUNT.of(word) + 1;
-    seat.apply(virt as u16, DIRECT_BLOCK.of(word) as u16, count as u16);
+    seat.apply(virt as u16, block, count as u16);
+    note_run(seat, block, count as u16);
     pass_entry(seat, virt, count, DIRECT_LEFTOVER.of(word));
 }
 
@@ -148,15 +186,19 @@ pub fn take_indirect(seat: &mut SeatState, block: u16)
     requires fits { IsTrue (fits (seat_shape seat.old) 256 (indirect_meaning block (kept_words seat.old))) }
     requires room { HasRoom seat.old.walk }
     requires few { HasFewBases (words_of seat.old) seat.old.calling }
+    requires inside { block < image_blocks seat.old.geometry }
     ensures { seat.new ≡ taken seat.old (indirect_meaning block (kept_words seat.old)) }
 {
+    seat.note(block);
     let first = seat.kept()[1].word;
     let virt = RUNS_VIRT.of(first);
     let mut past = virt;
     for place in 0..RUNS_RUNS.of(first) as usize {
         let run = seat.kept()[2 + place].word;
         let count = RUN_COUNT.of(run);
-        seat.apply(past as u16, RUN_BLOCK.of(run) as u16, count as u16);
+        let block = RUN_BLOCK.of(run) as u16;
+        seat.apply(past as u16, block, count as u16);
+        note_run(seat, block, count as u16);
         past += count;
     }
     pass_entry(seat, virt, past - virt, RUNS_LEFTOVER.of(first));
@@ -203,11 +245,13 @@ pub fn take_seal(seat: &mut SeatState)
 
 /// Follows the link at the end of the tail's block, to this block.
 pub fn follow(seat: &mut SeatState, block: u16)
+    requires { block < image_blocks seat.old.geometry }
     ensures { seat.new ≡ followed seat.old block }
 {
     seat.set_tail_block(block);
     seat.set_tail_slot(3);
     seat.set_tail_base(seat.position());
+    seat.note(block);
     seat.clear_kept();
 }
 

@@ -68,6 +68,7 @@ impl Walk {
     fn tell_front(&mut self, seat: &mut SeatState, answer: u64)
         requires begin { self.old ≡ Begin }
         requires room { length seat.old.walk.kept < kept_room seat.old.geometry }
+        requires word { BeginAdmits false seat.old answer }
         ensures machine { self.new ≡ (begin_after false seat.old answer).machine }
         ensures seat { seat.new ≡ (begin_after false seat.old answer).seat }
     {

@@ -87,9 +87,12 @@ kept_room g = 2 * q_of g
 abbrev pub owned_room : Geometry → ℕ
 owned_room g = longest_of g.block_bytes + snapshot_blocks_of g.data_blocks g.block_bytes + 4
 
--- words of a bitmap of all blocks
+-- the blocks of the image, and the words of a bitmap of them all
+abbrev pub image_blocks : Geometry → ℕ
+image_blocks g = total_of g.data_blocks g.log_blocks g.block_bytes
+
 abbrev pub bitmap_words : Geometry → ℕ
-bitmap_words g = ceiling (total_of g.data_blocks g.log_blocks g.block_bytes) 64
+bitmap_words g = ceiling (image_blocks g) 64
 
 -- no head was loaded and no pin taken
 abbrev pub no_hold : Hold

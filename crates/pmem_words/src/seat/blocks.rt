@@ -3,7 +3,7 @@
 ghost use Rattle.std.specs.Prelude.{◌≡◌, ◌+◌, ◌*◌, ◌/◌, ◌<◌, ◌++◌, ◌∷◌, [], true, false, length, remove, replicate, take, slice_index, slice_set, bit_or};
 ghost use Rattle.pmem_words.specs.Owned.{without_block, with_filled, with_fenced, fenced_all, is_among, owned_but, contents_but};
 ghost use Rattle.pmem_words.specs.Noted.{noted_first, noted_more};
-ghost use Rattle.pmem_words.specs.Seats.{q_of, owned_room, bitmap_words};
+ghost use Rattle.pmem_words.specs.Seats.{q_of, owned_room, image_blocks, bitmap_words};
 ghost use Rattle.asks.specs.Asks.{without_bits};
 
 use super::SeatState;
@@ -180,7 +180,7 @@ impl SeatState {
 
     /// Notes this block as the first one that the chain names: its bit alone is set in `named`. It has to be one of the image.
     pub fn note_first(&mut self, block: u16)
-        requires { block / 64 < length self.old.blocks.named }
+        requires { block < image_blocks self.old.geometry }
         ensures { self.new ≡ record self.old { blocks = record self.old.blocks { named = noted_first true self.old.blocks.named block } } }
     {
         self.named.fill(0);
@@ -189,7 +189,7 @@ impl SeatState {
 
     /// Notes one block more that the chain names, where `noting` says so. It has to be one of the image.
     pub fn note(&mut self, block: u16)
-        requires { block / 64 < length self.old.blocks.named }
+        requires { block < image_blocks self.old.geometry }
         ensures { self.new ≡ record self.old { blocks = record self.old.blocks { named = noted_more self.old.calling.noting self.old.blocks.named (block ∷ []) } } }
     {
         if self.noting {
