@@ -28,8 +28,8 @@ use Rattle.log_core.proofs.ChainWords.{in_one_part}
 use Rattle.log_core.proofs.LogTails.{TailLog, tail_log, entries_short}
 use Rattle.log_core.proofs.clauses.Apart.{has_right, has_log, log_is_named}
 use Rattle.log_core.proofs.kinds.TakesEntry.{form, holder_named, listed_word}
-use Rattle.log_blocks.specs.Taking.{HasRoom, HasFewBases}
-use Rattle.log_blocks.proofs.FoundWords.{chain, chain_is_kept, named_small}
+use Rattle.log_blocks.specs.Walking.{IsOfImage}
+use Rattle.log_blocks.proofs.FoundWords.{chain, chain_is_kept, named_of_image}
 
 module _ (o : Origin) (c : Core) (n : ℕ) (s : Seat) (g : Ghost) (pin began : ℕ) (inv : Invariant o c) (f : Knows o c n s g pin began) (unspent : (view_of c.views n).parts ≢ []) (valid : s.hold.valid ≡ true) (ready : s.walk.ready ≡ true) where
   abbrev at : ℕ
@@ -107,18 +107,18 @@ module _ (o : Origin) (c : Core) (n : ℕ) (s : Seat) (g : Ghost) (pin began : �
     pub seal_late : word ≡ SEAL → 3 < s.walk.tail_slot
     seal_late seal = (let some = (inv.order.log.seal_last number slot (slot_word ∙ seal)).1 in let from = walked.from in omega (arith, some, from))
 
-  -- the link of a block leads to a block of the image, or is 0
-  pub link_small : (word : ℕ) → slice_index c.memory.now.words (place_in (shape o) s.walk.tail_block 0) ≡ word → word < 2 ^ 16
-  link_small word present = subst (λ (b : ℕ). b < 2 ^ 16) is (by (nat_lt (number + 1) (length c.logs)) refl)
+  -- the link of a block is 0 or leads to a block of the image
+  pub link_of_image : (word : ℕ) → slice_index c.memory.now.words (place_in (shape o) s.walk.tail_block 0) ≡ word → word ≢ EMPTY → IsOfImage s word
+  link_of_image word present some = subst (λ (b : ℕ). IsOfImage s b) is (by (nat_lt (number + 1) (length c.logs)) refl)
     where
       is : (nth_log c.logs (number + 1)).block ≡ word
       is = sym (inv.order.chains at in_chain number log.late log.inside).link.present
           ∙ (ap (λ (b : ℕ). slice_index c.memory.now.words (place_in (shape o) b 0)) log.block_is ∙ present)
 
-      by : (b : Bool) → nat_lt (number + 1) (length c.logs) ≡ b → (nth_log c.logs (number + 1)).block < 2 ^ 16
-      by true e = (let late = log.late in named_small o c inv at in_chain (nth_log c.logs (number + 1)).block
+      by : (b : Bool) → nat_lt (number + 1) (length c.logs) ≡ b → IsOfImage s (nth_log c.logs (number + 1)).block
+      by true e = (let late = log.late in named_of_image o c n s g pin began inv f valid unspent (nth_log c.logs (number + 1)).block
           (log_is_named o c.logs pinned (number + 1) (entries o c.history) (omega (arith, late)) (ltb-true (number + 1) (length c.logs) e)))
-      by false e = subst (λ (l : LogBlock). l.block < 2 ^ 16) (sym (Rattle.std.proofs.lemmas.List.get_or_past c.logs (number + 1) Rattle.log_core.specs.Origin.no_log (ltb-false (number + 1) (length c.logs) e))) (omega arith)
+      by false e = absurd (some (sym is ∙ ap (λ (l : LogBlock). l.block) (Rattle.std.proofs.lemmas.List.get_or_past c.logs (number + 1) Rattle.log_core.specs.Origin.no_log (ltb-false (number + 1) (length c.logs) e))))
 
 -- the form of an entry, by its kind
 module _ (content : ℕ → List ℕ) (image : Shape) (word : ℕ) (good : is_log_entry_by content image word ≡ true) where

@@ -8,7 +8,8 @@ use Rattle.log_entry.specs.declared.layouts.TheConstants.{BLOCK_KIND, HEAD_GENER
 use Rattle.log_image.specs.Image.{words_in, total}
 use Rattle.log_image.specs.Chains.{is_listed, all_different}
 use Rattle.persistence.specs.Memory.{cell}
-use Rattle.pmem_words.specs.Seats.{Seat}
+use Rattle.log_entry.specs.declared.shapes.Geometry.{Geometry}
+use Rattle.pmem_words.specs.Seats.{Seat, image_blocks}
 use Rattle.log_core.specs.Entries.{place_in}
 use Rattle.log_core.specs.Views.{Ghost, view_of}
 use Rattle.log_core.specs.Origin.{Origin, shape, first_generation, Owner, Free, LogBlock, Generation}
@@ -20,6 +21,7 @@ use Rattle.log_core.specs.Snapshots.{first_or, AreSnapshotBlocks}
 use Rattle.log_core.specs.Works.{front, IsReading, kept_at, kept_word}
 use Rattle.log_core.specs.Invariant.{Invariant, KeptIn}
 use Rattle.log_core.specs.Knows.{Knows}
+use Rattle.log_blocks.specs.Walking.{IsOfImage}
 use Rattle.log_core.proofs.FewBlocks.{few_different}
 use Rattle.log_core.proofs.Fronts.{head_front, snapshot_kind, base_small}
 use Rattle.log_core.proofs.PinnedChains.{place, kept, from_first, some_generation, chain_says}
@@ -116,6 +118,10 @@ module _ (o : Origin) (c : Core) (n : ℕ) (s : Seat) (g : Ghost) (pin began : �
   abbrev pub chain_is_kept : KeptIn o c chain
   chain_is_kept = kept o c n s g pin began inv f valid
 
+  -- a block that it names is of the seat's image
+  pub named_of_image : (view_of c.views n).parts ≢ [] → (block : ℕ) → is_named o c.logs (entries o c.history) (nth_generation c.generations chain) block ≡ true → IsOfImage s block
+  named_of_image unspent block named = subst (λ (geometry : Geometry). block < image_blocks geometry) (sym (f.fits unspent).geometry) (named_inside o c inv chain chain_is_kept block named)
+
   -- the block that the head found last names, where that is of the pinned generation
   pub front_known : field HEAD_GENERATION s.hold.head ≡ s.hold.generation → IsBlockOfChain o c inv chain chain_is_kept (front s)
   front_known same = subst (λ (block : ℕ). IsBlockOfChain o c inv chain chain_is_kept block) (sym is) (front_block o c inv chain chain_is_kept)
@@ -139,7 +145,7 @@ module _ (o : Origin) (c : Core) (n : ℕ) (s : Seat) (g : Ghost) (pin began : �
   pub next_known : (block : ℕ) → kept_at s.walk.kept s.walk.reading_block 0 ≡ Some block →
       IsBlockOfChain o c inv (chain o c n s g pin began inv f reading.valid) (chain_is_kept o c n s g pin began inv f reading.valid) block
   next_known block link = ⊎_elim
-      (λ last. subst (λ (b : ℕ). Known b) (sym last ∙ sym link_says) (cut_block o c inv _ in_chain))
+      (λ last. subst (λ (b : ℕ). Known b) (sym last.1 ∙ sym link_says) (cut_block o c inv _ in_chain))
       (λ later. subst (λ (b : ℕ). Known b) (later.1 ∙ sym link_says)
           (snapshot_block o c inv _ in_chain (slice_index pinned.snapshots (s.walk.reading_place + 1)) (Rattle.log_core.proofs.SnapshotReads.listed_at pinned.snapshots (s.walk.reading_place + 1) _ later.0 refl)))
       (next_at (shape o) c.recorded pinned.base pinned.size (nth_log c.logs pinned.cut).block pinned.snapshots s.walk.reading_place (are_blocks o c n s g pin began inv f reading unspent) read.inside)

@@ -24,12 +24,12 @@ use Rattle.log_blocks.specs.declared.walk.Tail.{Tail}
 use Rattle.log_blocks.specs.declared.walk.Walk.{Walk}
 use Rattle.log_blocks.specs.declared.walk.Walk.TheVariants.{Begin, Size, Run}
 use Rattle.log_blocks.specs.Taking.{table_kept, log_begun, snapshot_begun, with_kept}
-use Rattle.log_blocks.specs.Walking.{walk_script, walk_after, begin_after, front_after, keeps_table, walk_measure, begin_measure, whole_log, IsKind, WalkAdmits, BeginAdmits}
+use Rattle.log_blocks.specs.Walking.{walk_script, walk_after, begin_after, front_after, keeps_table, walk_measure, begin_measure, whole_log, IsKind, IsOfImage, WalkAdmits, BeginAdmits}
 use Rattle.log_blocks.specs.WalkWithin.{HasWalkedOn}
 use Rattle.log_blocks.proofs.WalkStanding.{IsUnderWay, IsAtBegin, IsAtSize, WalkStands}
-use Rattle.log_blocks.proofs.WalkWay.{MayGo, valid, free, pinned, goes_on, eight, log_small}
+use Rattle.log_blocks.proofs.WalkWay.{MayGo, valid, free, pinned, goes_on, begins_on, eight, log_small}
 use Rattle.log_blocks.proofs.KeptLists.{kept_last, kept_other}
-use Rattle.log_blocks.proofs.FoundWords.{front_known}
+use Rattle.log_blocks.proofs.FoundWords.{front_known, named_of_image}
 use Rattle.log_blocks.proofs.Loading.{NamesAlways, at_place, seen, Found, IsComputed, no_tail, lawful_load}
 
 never : {P : Type 0} {b : Bool} → b ≡ false → b ≡ true → P
@@ -46,12 +46,16 @@ module _ (o : Origin) (seat : ℕ) (s0 : Seat) (g0 : Ghost) (go : MayGo s0 g0) (
     named : (slot : ℕ) → NamesAlways o seat s g (front s) slot
     named slot c pin began inv unspent knows = (front_known o c seat s g pin began inv knows (valid s0 g0 go s g on_way) (pinned s0 g0 go s g on_way not_ready)).named
 
+    -- the front is of the image
+    of_image : (c : Core) (pin began : ℕ) → Invariant o c → (view_of c.views seat).parts ≢ [] → Knows o c seat s g pin began → IsOfImage s (front s)
+    of_image c pin began inv unspent knows = named_of_image o c seat s g pin began inv knows (valid s0 g0 go s g on_way) unspent (front s) (front_known o c seat s g pin began inv knows (valid s0 g0 go s g on_way) (pinned s0 g0 go s g on_way not_ready)).named
+
     -- what is said of a word of that block is of the image's word
-    found_kind : (c : Core) (pin began : ℕ) → Invariant o c → (view_of c.views seat).parts ≢ [] → Knows o c seat s g pin began → IsKind (found_answer c.memory (Load (Image (place_in (seat_shape s) (front s) 1))))
-    found_kind c pin began inv unspent knows = record {
+    found_kind : (c : Core) (pin began : ℕ) → Invariant o c → (view_of c.views seat).parts ≢ [] → Knows o c seat s g pin began → IsKind (found_answer c.memory (Load (Image (place_in (seat_shape s) (front s) 1)))) × IsOfImage s (front s)
+    found_kind c pin began inv unspent knows = (record {
       is = subst (λ (image : Shape). (field BLOCK_KIND (slice_index c.memory.now.words (place_in image (front s) 1)) ≡ LOG) ⊎ (field BLOCK_KIND (slice_index c.memory.now.words (place_in image (front s) 1)) ≡ SNAPSHOT))
           (sym (ap shape_by (knows.fits unspent).geometry)) (front_known o c seat s g pin began inv knows (valid s0 g0 go s g on_way) (pinned s0 g0 go s g on_way not_ready)).kind;
-    }
+    }, of_image c pin began inv unspent knows)
 
     -- no tail is found by a seat that is not ready
     same_tail : (slot f : ℕ) → (seen o seat s g (front s) slot f).walk.at_tail ≡ s.walk.at_tail
@@ -99,8 +103,8 @@ module _ (o : Origin) (seat : ℕ) (s0 : Seat) (g0 : Ghost) (go : MayGo s0 g0) (
           record {
             may = ((at_front f, eqb-false s.walk.tail_block 0 (not-true (s.walk.tail_block == 0) first.0), not-true s.walk.reading first.1, omega (arith, low, base)), (tt, tt));
             going_on = refl;
-            gives = ap (λ (b : ℕ). record s { walk = record (walk_kept s.walk b) { kept = [] } }) (sym base)
-                ∙ ap (λ (b : Bool). record s { walk = record (walk_kept s.walk (front_base (e f))) { kept = []; at_tail = b } }) (sym (same_tail 1 f));
+            gives = ap (λ (b : ℕ). table_kept s b) (sym base)
+                ∙ ap (λ (b : Bool). record s { walk = record (walk_kept s.walk (front_base (e f))) { kept = []; at_tail = b }; calling = record s.calling { noting = false } }) (sym (same_tail 1 f));
           })
       computed false true f keeps is kind = record {
         may = tt;
@@ -119,7 +123,7 @@ module _ (o : Origin) (seat : ℕ) (s0 : Seat) (g0 : Ghost) (go : MayGo s0 g0) (
       goes : (table snapshot : Bool) (f : ℕ) → (field BLOCK_KIND f == SNAPSHOT) ≡ snapshot → (front_after table snapshot s f).turn ≡ Go →
           P (front_after table snapshot s f).machine (front_after table snapshot s f).seat g
       goes true snapshot f is turn = record {
-        on_way = goes_on s0 g0 go s g on_way (table_kept s (field BLOCK_BASE f)).walk (λ ready. unready ready);
+        on_way = begins_on s0 g0 go s g on_way (table_kept s (field BLOCK_BASE f)).walk false s.blocks.named (λ ready. unready ready);
         stage = record { none_kept = refl; no_bases = λ other. cc };
       }
       goes false true f is turn = record {
@@ -134,7 +138,7 @@ module _ (o : Origin) (seat : ℕ) (s0 : Seat) (g0 : Ghost) (go : MayGo s0 g0) (
         };
       }
       goes false false f is turn = record {
-        on_way = goes_on s0 g0 go s g on_way (log_begun s (field BLOCK_BASE f)).walk (λ ready. unready ready);
+        on_way = begins_on s0 g0 go s g on_way (log_begun s (field BLOCK_BASE f)).walk (log_begun s (field BLOCK_BASE f)).calling.noting (log_begun s (field BLOCK_BASE f)).blocks.named (λ ready. unready ready);
         stage = record { none_kept = refl; no_bases = λ other. cc };
       }
 
@@ -149,9 +153,12 @@ module _ (o : Origin) (seat : ℕ) (s0 : Seat) (g0 : Ghost) (go : MayGo s0 g0) (
       no_end false false f out done = cc
 
       kind_admitted : (f : ℕ) → WalkAdmits Begin s f → IsKind f
-      kind_admitted f admits = subst (λ (b : Bool). BeginAdmits b s f) not_ready admits.stage
+      kind_admitted f admits = (front_admits (subst (λ (b : Bool). BeginAdmits b s f) not_ready admits.stage)).0
+        where
+          front_admits : BeginAdmits false s f → IsKind f × IsOfImage s (front s)
+          front_admits both = both
 
-      admitted : (f : ℕ) → IsKind f → WalkAdmits Begin s f
+      admitted : (f : ℕ) → IsKind f × IsOfImage s (front s) → WalkAdmits Begin s f
       admitted f kind = record {
         room = (let wide = eight s in let none = ap (λ (kept : List KeptWord). length kept) at.none_kept in omega (arith, wide, none));
         stage = subst (λ (b : Bool). BeginAdmits b s f) (sym not_ready) kind;
@@ -202,12 +209,12 @@ module _ (o : Origin) (seat : ℕ) (s0 : Seat) (g0 : Ghost) (go : MayGo s0 g0) (
         (λ f. StartsFromSnapshot ∷ []) (λ f. record { machine = Run; seat = snapshot_begun s base (field SNAPSHOT_SIZE f); turn = Go }) (λ f. refl)
         (λ c pin began inv unspent knows. record {
           room = (let wide = eight s in let one = ap (λ (kept : List KeptWord). length kept) at.kept in omega (arith, wide, one));
-          stage = tt;
+          stage = of_image at.not_ready c pin began inv unspent knows;
           falls = λ turn. omega arith;
         })
         (λ f found admits. computed_size f)
         (λ f found admits turn. record {
-          on_way = goes_on s0 g0 go s g on_way (snapshot_begun s base (field SNAPSHOT_SIZE f)).walk (λ ready. never at.not_ready ready);
+          on_way = begins_on s0 g0 go s g on_way (snapshot_begun s base (field SNAPSHOT_SIZE f)).walk (snapshot_begun s base (field SNAPSHOT_SIZE f)).calling.noting (snapshot_begun s base (field SNAPSHOT_SIZE f)).blocks.named (λ ready. never at.not_ready ready);
           stage = record {
             reads = record { not_ready = refl; no_bases = at.no_bases; reading = refl; pinned = refl; from = omega arith; upto = (let wide = eight s in omega (arith, wide)) };
             more = λ same. (let wide = eight s in omega (arith, wide, same));

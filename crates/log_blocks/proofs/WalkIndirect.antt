@@ -35,6 +35,7 @@ use Rattle.log_blocks.proofs.WalkWay.{MayGo, valid, free, few, goes_on, most}
 use Rattle.log_blocks.proofs.WalkTail.{takes_entry, taken_falls}
 use Rattle.log_blocks.proofs.KeptLists.{rows_push, rows_words, length_rows, row_at, first_at, content_is}
 use Rattle.log_blocks.proofs.FoundTail.{tail_upto, position_small, few_words, runs_of, runs_fit_so, entry_form, holder_is_named, holder_apart, holder_content}
+use Rattle.log_blocks.proofs.FoundWords.{named_of_image}
 use Rattle.log_blocks.proofs.Loading.{NamesAlways, at_place, seen, knows_seen, IsComputed, no_tail, lawful_load}
 
 module _ (o : Origin) (seat : ℕ) (s0 : Seat) (g0 : Ghost) (go : MayGo s0 g0) (s : Seat) (g : Ghost) (on_way : IsUnderWay s0 g0 s g) (block count : ℕ) (at : IsInBlock block count s) where
@@ -212,6 +213,7 @@ module _ (o : Origin) (seat : ℕ) (s0 : Seat) (g0 : Ghost) (go : MayGo s0 g0) (
 
       whole_is : count + 1 ≡ words_of s → IsWholeBlock (with_kept s block count f) block
       whole_is last = record {
+        inside = named_of_image o c seat s g pin began inv knows (valid s0 g0 go s g on_way) unspent block (named c pin began inv unspent knows);
         room = record { slot = (let high = upto in let wide = most s in omega (arith, high, wide)); position = small };
         few = record { few = few s0 g0 go s g on_way; words = few_words o c seat s g pin began inv knows unspent (valid s0 g0 go s g on_way) at.ready };
         whole = ap (λ (l : List ℕ). length l) (words_now f) ∙ (length_now f ∙ last);

@@ -5,7 +5,7 @@ use Rattle.std.proofs.lemmas.List.{length-append}
 use Rattle.log_entry.specs.Fields.{field}
 use Rattle.log_entry.specs.declared.layouts.TheConstants.{BLOCK_KIND, EMPTY, LOG, SNAPSHOT}
 use Rattle.log_image.specs.Image.{Shape, shape_by}
-use Rattle.log_image.specs.Entries.{direct_meaning}
+use Rattle.log_image.specs.Entries.{direct_meaning, names}
 use Rattle.log_image.specs.Format.{fits, is_snapshot_entry}
 use Rattle.asks.specs.declared.ask.Ask.TheVariants.{Load}
 use Rattle.asks.specs.declared.ask.Place.TheVariants.{Image}
@@ -19,7 +19,7 @@ use Rattle.log_core.specs.Entries.{place_in}
 use Rattle.log_core.specs.Views.{Ghost, view_of}
 use Rattle.log_core.specs.Origin.{Origin, shape}
 use Rattle.log_core.specs.Cores.{Core}
-use Rattle.log_core.specs.Works.{Work, ReadsRun, NextSnapshot, EndsReading, IsReading, HasReadBlock, kept_at, kept_word, word_or_zero, seat_shape, words_of, tail_index, with_entry}
+use Rattle.log_core.specs.Works.{Work, ReadsRun, NextSnapshot, EndsReading, IsReading, HasReadBlock, kept_at, kept_word, word_or_zero, seat_shape, words_of, tail_index, with_entry, blocks_noted}
 use Rattle.log_core.specs.Invariant.{Invariant}
 use Rattle.log_core.specs.Knows.{Knows}
 use Rattle.log_core.specs.Within.{no_record, Lawful}
@@ -31,9 +31,9 @@ use Rattle.log_blocks.specs.Taking.{with_kept, run_taken, next_begun, reading_en
 use Rattle.log_blocks.specs.Walking.{walk_script, run_after, run_or_link, next_after, walk_measure, snapshot_left, whole_log, IsKind, WalkAdmits}
 use Rattle.log_blocks.specs.WalkWithin.{HasWalkedOn}
 use Rattle.log_blocks.proofs.WalkStanding.{IsUnderWay, IsInSnapshot, IsAtRun, IsAtLink, IsAtNext, HasNoMore, WalkStands}
-use Rattle.log_blocks.proofs.WalkWay.{MayGo, valid, free, goes_on, eight, most, log_small}
+use Rattle.log_blocks.proofs.WalkWay.{MayGo, valid, free, goes_on, notes_on, eight, most, log_small}
 use Rattle.log_blocks.proofs.KeptLists.{kept_last, kept_other}
-use Rattle.log_blocks.proofs.FoundWords.{reading_known, next_known, place_small, named_small, chain, chain_is_kept}
+use Rattle.log_blocks.proofs.FoundWords.{reading_known, next_known, place_small, named_small, named_of_image, chain, chain_is_kept}
 use Rattle.log_blocks.proofs.Loading.{NamesAlways, at_place, seen, knows_seen, Found, IsComputed, no_tail, lawful_load}
 
 never : {P : Type 0} {b : Bool} → b ≡ false → b ≡ true → P
@@ -96,13 +96,13 @@ module _ (o : Origin) (seat : ℕ) (s0 : Seat) (g0 : Ghost) (go : MayGo s0 g0) (
       may = ((record { valid = valid s0 g0 go s g on_way; reading = reads.reading; pinned = reads.pinned }, λ none. eqb-false f EMPTY is (sym (found_word f) ∙ none)), tt);
       going_on = refl;
       gives = ap (λ (word : ℕ). run_taken s word) (sym (found_word f))
-          ∙ ap (λ (b : Bool). record s { walk = record s.walk { map = with_entry (direct_meaning (kept_word (e f) s.walk.reading_block s.walk.reading_slot)) s.walk.map; reading_slot = s.walk.reading_slot + 1; kept = []; at_tail = b } })
+          ∙ ap (λ (b : Bool). record s { walk = record s.walk { map = with_entry (direct_meaning (kept_word (e f) s.walk.reading_block s.walk.reading_slot)) s.walk.map; reading_slot = s.walk.reading_slot + 1; kept = []; at_tail = b }; blocks = blocks_noted s (names (direct_meaning (kept_word (e f) s.walk.reading_block s.walk.reading_slot))) })
           (sym (same_tail s.walk.reading_block s.walk.reading_slot f));
     }
 
     goes_by : (last : Bool) (f : ℕ) → (s.walk.reading_slot + 1 == words_of s) ≡ last → P (run_or_link last) (run_taken s f) g
     goes_by true f is = record {
-      on_way = goes_on s0 g0 go s g on_way (run_taken s f).walk (λ ready. unready ready);
+      on_way = notes_on s0 g0 go s g on_way (run_taken s f).walk (run_taken s f).blocks.named (λ ready. unready ready);
       stage = record {
         reads = record { not_ready = reads.not_ready; no_bases = reads.no_bases; reading = reads.reading; pinned = reads.pinned; from = (let low = reads.from in omega (arith, low)); upto = (let low = here in omega (arith, low)) };
         no_more = record { none = inl (eqb-true (s.walk.reading_slot + 1) (words_of s) is) };
@@ -110,7 +110,7 @@ module _ (o : Origin) (seat : ℕ) (s0 : Seat) (g0 : Ghost) (go : MayGo s0 g0) (
       };
     }
     goes_by false f is = record {
-      on_way = goes_on s0 g0 go s g on_way (run_taken s f).walk (λ ready. unready ready);
+      on_way = notes_on s0 g0 go s g on_way (run_taken s f).walk (run_taken s f).blocks.named (λ ready. unready ready);
       stage = record {
         reads = record { not_ready = reads.not_ready; no_bases = reads.no_bases; reading = reads.reading; pinned = reads.pinned; from = (let low = reads.from in omega (arith, low)); upto = (let low = here in omega (arith, low)) };
         more = eqb-false (s.walk.reading_slot + 1) (words_of s) is;
@@ -224,9 +224,11 @@ module _ (o : Origin) (seat : ℕ) (s0 : Seat) (g0 : Ghost) (go : MayGo s0 g0) (
     read_block kind f is = record {
       reading = record { valid = valid s0 g0 go s g on_way; reading = reads.reading; pinned = reads.pinned };
       no_more = (more_kept at.no_more block 1 f (omega arith)).none;
-      link = λ none. (let both : Some block ≡ None = sym (link_still f) ∙ none in cc);
-      next = λ none. (let both : Some f ≡ None = sym (kind_kept f) ∙ none in cc);
-      kind_is = ap (λ (found : Option ℕ). field BLOCK_KIND (word_or_zero found)) (kind_kept f) ∙ is;
+      followed = record {
+        link = λ none. (let both : Some block ≡ None = sym (link_still f) ∙ none in cc);
+        next = λ none. (let both : Some f ≡ None = sym (kind_kept f) ∙ none in cc);
+        kind_is = ap (λ (found : Option ℕ). field BLOCK_KIND (word_or_zero found)) (kind_kept f) ∙ is;
+      };
     }
 
     next_computed : (snapshot : Bool) (f : ℕ) → (field BLOCK_KIND f == SNAPSHOT) ≡ snapshot → IsKind f → IsComputed g (next_e f) (next_works snapshot) (next_after snapshot block s).seat
@@ -234,7 +236,7 @@ module _ (o : Origin) (seat : ℕ) (s0 : Seat) (g0 : Ghost) (go : MayGo s0 g0) (
       may = (read_block SNAPSHOT f (eqb-true (field BLOCK_KIND f) SNAPSHOT is), tt);
       going_on = refl;
       gives = ap (λ (b : ℕ). next_begun s b) (sym (link_word f))
-          ∙ ap (λ (b : Bool). record s { walk = record s.walk { reading_block = kept_word (next_e f) s.walk.reading_block 0; reading_slot = 3; reading_place = s.walk.reading_place + 1; kept = []; at_tail = b } }) (sym (same_tail block 1 f));
+          ∙ ap (λ (b : Bool). record s { walk = record s.walk { reading_block = kept_word (next_e f) s.walk.reading_block 0; reading_slot = 3; reading_place = s.walk.reading_place + 1; kept = []; at_tail = b }; blocks = blocks_noted s (kept_word (next_e f) s.walk.reading_block 0 ∷ []) }) (sym (same_tail block 1 f));
     }
     next_computed false f is kind = record {
       may = (read_block LOG f (⊎_elim (λ log. log) (λ snapshot. absurd (eqb-false (field BLOCK_KIND f) SNAPSHOT is snapshot)) kind.is), tt);
@@ -245,7 +247,7 @@ module _ (o : Origin) (seat : ℕ) (s0 : Seat) (g0 : Ghost) (go : MayGo s0 g0) (
 
     next_goes : (snapshot : Bool) → P (next_after snapshot block s).machine (next_after snapshot block s).seat g
     next_goes true = record {
-      on_way = goes_on s0 g0 go s g on_way (next_begun s block).walk (λ ready. unready ready);
+      on_way = notes_on s0 g0 go s g on_way (next_begun s block).walk (next_begun s block).blocks.named (λ ready. unready ready);
       stage = record {
         reads = record { not_ready = reads.not_ready; no_bases = reads.no_bases; reading = reads.reading; pinned = reads.pinned; from = omega arith; upto = (let wide = eight s in omega (arith, wide)) };
         more = λ same. (let wide = eight s in omega (arith, wide, same));
@@ -253,7 +255,7 @@ module _ (o : Origin) (seat : ℕ) (s0 : Seat) (g0 : Ghost) (go : MayGo s0 g0) (
       };
     }
     next_goes false = record {
-      on_way = goes_on s0 g0 go s g on_way (reading_ended s block).walk (λ ready. unready ready);
+      on_way = notes_on s0 g0 go s g on_way (reading_ended s block).walk (reading_ended s block).blocks.named (λ ready. unready ready);
       stage = record { none_kept = refl; no_bases = λ other. cc };
     }
 
@@ -276,7 +278,7 @@ module _ (o : Origin) (seat : ℕ) (s0 : Seat) (g0 : Ghost) (go : MayGo s0 g0) (
         (λ f. next_works (field BLOCK_KIND f == SNAPSHOT)) (λ f. next_after (field BLOCK_KIND f == SNAPSHOT) block s) (λ f. refl)
         (λ c pin began inv unspent knows. record {
           room = (let wide = eight s in let few = at.few_kept in omega (arith, wide, few));
-          stage = (kind_found c pin began inv unspent knows, place_small o c seat s g pin began inv knows unspent reading);
+          stage = (kind_found c pin began inv unspent knows, place_small o c seat s g pin began inv knows unspent reading, named_of_image o c seat s g pin began inv knows (valid s0 g0 go s g on_way) unspent block (next_named c pin began inv unspent knows));
           falls = λ turn. next_falls (field BLOCK_KIND (found_answer c.memory (Load (Image (place_in (seat_shape s) block 1)))) == SNAPSHOT) (place_small o c seat s g pin began inv knows unspent reading);
         })
         (λ f found admits. next_computed (field BLOCK_KIND f == SNAPSHOT) f refl (admits.stage).0)

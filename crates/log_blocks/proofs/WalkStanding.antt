@@ -16,7 +16,11 @@ rows block slot (word ∷ words) = record { block = block; slot = slot; word = w
 
 -- what a walk has kept of the seat since it began
 pub record IsUnderWay (s0 : Seat) (g0 : Ghost) (s : Seat) (g : Ghost) : Type 0 where
-  pub left : s ≡ record s0 { walk = s.walk; calling = record s0.calling { bases = s.calling.bases; base_words = s.calling.base_words } }
+  pub left : s ≡ record s0 {
+    walk = s.walk;
+    calling = record s0.calling { bases = s.calling.bases; base_words = s.calling.base_words; noting = s.calling.noting };
+    blocks = record s0.blocks { named = s.blocks.named };
+  }
   pub ghost : g ≡ g0
   pub few : length s.calling.bases ≤ length s0.calling.bases
   pub rises : s0.walk.ready ≡ true → (s.walk.ready ≡ true) × (s0.walk.position ≤ s.walk.position)

@@ -22,7 +22,7 @@ use Rattle.log_core.specs.Origin.{Origin, shape}
 use Rattle.log_core.specs.Cores.{Core}
 use Rattle.log_core.specs.Steps.{is_tail_found}
 use Rattle.log_core.specs.May.{is_log_entry_by}
-use Rattle.log_core.specs.Works.{Work, Forgets, Follows, TakesSeal, TakesEntry, HasFoundSlot, HasFoundLink, IsKeptWhole, kept_at, kept_word, kept_content, word_or_zero, seat_shape, words_of, tail_index, tail_word, tail_meaning, touches, bases_left, state_after_work}
+use Rattle.log_core.specs.Works.{Work, Forgets, Follows, TakesSeal, TakesEntry, HasFoundSlot, HasFoundLink, IsKeptWhole, kept_at, kept_word, kept_content, word_or_zero, seat_shape, words_of, tail_index, tail_word, tail_meaning, touches, bases_left, state_after_work, blocks_noted}
 use Rattle.log_core.specs.Invariant.{Invariant}
 use Rattle.log_core.specs.Knows.{Knows}
 use Rattle.log_core.specs.Within.{no_record, IsFound, Lawful}
@@ -33,9 +33,9 @@ use Rattle.log_blocks.specs.Taking.{with_kept, taken, seal_taken, followed, tail
 use Rattle.log_blocks.specs.Walking.{walk_script, walk_after, begin_after, tail_after, slot_after, indirect_after, tail_of, walk_measure, begin_measure, log_left, rank_by, IsSlotWord, IsWholeBlock, WalkAdmits, BeginAdmits}
 use Rattle.log_blocks.specs.WalkWithin.{HasWalkedOn}
 use Rattle.log_blocks.proofs.WalkStanding.{IsUnderWay, IsAtBegin, IsInBlock, WalkStands, rows}
-use Rattle.log_blocks.proofs.WalkWay.{MayGo, valid, free, few, goes_on, takes_on, eight, most, rank_small}
+use Rattle.log_blocks.proofs.WalkWay.{MayGo, valid, free, few, goes_on, goes_to, notes_on, eight, most, rank_small}
 use Rattle.log_blocks.proofs.KeptLists.{kept_last, rows_push, rows_words, length_rows, row_at, first_at, content_is}
-use Rattle.log_blocks.proofs.FoundTail.{tail_named, tail_from, tail_upto, position_small, few_words, seal_late, link_small, is_direct_kind, direct_fits, runs_of, runs_fit_so, entry_form, holder_is_named, holder_apart, holder_content}
+use Rattle.log_blocks.proofs.FoundTail.{tail_named, tail_from, tail_upto, position_small, few_words, seal_late, link_of_image, is_direct_kind, direct_fits, runs_of, runs_fit_so, entry_form, holder_is_named, holder_apart, holder_content}
 use Rattle.log_blocks.proofs.Loading.{NamesAlways, at_place, seen, knows_seen, IsComputed, no_tail, lawful_load}
 
 -- an entry leaves no more partly touched blocks than there were
@@ -61,7 +61,7 @@ module _ (o : Origin) (seat : ℕ) (s0 : Seat) (g0 : Ghost) (go : MayGo s0 g0) (
   -- the call takes in an entry: the walk is one position further
   pub takes_entry : (meaning : Meaning) → s.walk.ready ≡ true → P Begin (taken s meaning) g
   takes_entry meaning ready = record {
-    on_way = takes_on s0 g0 go s g on_way (taken s meaning).walk (taken s meaning).calling.bases (taken s meaning).calling.base_words (fewer_bases meaning s.calling.bases) (λ again. (ready, omega arith));
+    on_way = goes_to s0 g0 go s g on_way (taken s meaning).walk (taken s meaning).calling.bases (taken s meaning).calling.base_words s.calling.noting (taken s meaning).blocks.named (fewer_bases meaning s.calling.bases) (λ again. (ready, omega arith));
     stage = record { none_kept = refl; no_bases = λ other. (let both : true ≡ false = sym ready ∙ other in cc) };
   }
 
@@ -165,7 +165,7 @@ module _ (o : Origin) (seat : ℕ) (s0 : Seat) (g0 : Ghost) (go : MayGo s0 g0) (
       }, tt);
       going_on = refl;
       gives = ap (λ (b : ℕ). followed s b) (sym (link_word f is))
-          ∙ ap (λ (b : Bool). record s { walk = record s.walk { tail_block = kept_word (e f) s.walk.tail_block 0; tail_slot = 3; tail_base = s.walk.position; kept = []; at_tail = b } }) (sym (not_found f (eqb-false f EMPTY some)));
+          ∙ ap (λ (b : Bool). record s { walk = record s.walk { tail_block = kept_word (e f) s.walk.tail_block 0; tail_slot = 3; tail_base = s.walk.position; kept = []; at_tail = b }; blocks = blocks_noted s (kept_word (e f) s.walk.tail_block 0 ∷ []) }) (sym (not_found f (eqb-false f EMPTY some)));
     }
     computed false false f some is direct = slot_computed (f == SEAL) (field ENTRY_KIND f == INDIRECT) f refl refl (eqb-false f EMPTY some) is (λ seal indirect. direct (eqb-false f EMPTY some) refl seal indirect)
 
@@ -194,7 +194,7 @@ module _ (o : Origin) (seat : ℕ) (s0 : Seat) (g0 : Ghost) (go : MayGo s0 g0) (
     goes : (empty last : Bool) (f : ℕ) → closed ≡ last → (tail_after empty last s f).turn ≡ Go → P (tail_after empty last s f).machine (tail_after empty last s f).seat g
     goes true last f is turn = cc
     goes false true f is turn = record {
-      on_way = goes_on s0 g0 go s g on_way (followed s f).walk (λ again. (ready, omega arith));
+      on_way = notes_on s0 g0 go s g on_way (followed s f).walk (followed s f).blocks.named (λ again. (ready, omega arith));
       stage = record { none_kept = refl; no_bases = at.no_bases };
     }
     goes false false f is turn = slot_goes (f == SEAL) (field ENTRY_KIND f == INDIRECT) f refl is
@@ -280,7 +280,7 @@ module _ (o : Origin) (seat : ℕ) (s0 : Seat) (g0 : Ghost) (go : MayGo s0 g0) (
       admitted = record {
         room = (let wide = eight s in let none = ap (λ (kept : List KeptWord). length kept) at.none_kept in omega (arith, wide, none));
         stage = subst (λ (b : Bool). BeginAdmits b s f) (sym ready)
-            (slot_word_is, λ last. link_small o c seat s g pin began inv knows unspent (valid s0 g0 go s g on_way) ready f (present 0 (index_closed (eq-eqb s.walk.tail_slot (words_of s) last))));
+            (slot_word_is, λ last some. link_of_image o c seat s g pin began inv knows unspent (valid s0 g0 go s g on_way) ready f (present 0 (index_closed (eq-eqb s.walk.tail_slot (words_of s) last))) some);
         falls = λ turn. subst (λ (r : After Walk Tail). r.turn ≡ Go → walk_measure r.machine r.seat < begin_measure s.walk.ready s) (sym (ap (λ (b : Bool). begin_after b s f) ready))
             (λ on. subst (λ (b : Bool). walk_measure (told f).machine (told f).seat < begin_measure b s) (sym ready) (falls (f == EMPTY) closed refl on)) turn;
       }

@@ -54,20 +54,22 @@ module _ (s0 : Seat) (g0 : Ghost) (may : MayGo s0 g0) (s : Seat) (g : Ghost) (on
   pub few : length s.calling.bases ≤ 2
   few = (let low = on_way.few in let two = may.takes_in.few in omega (arith, low, two))
 
-  -- the walk goes on with another place, or takes in an entry
-  pub goes_on : (w : WalkPart) → (s.walk.ready ≡ true → (w.ready ≡ true) × (s.walk.position ≤ w.position)) → IsUnderWay s0 g0 (record s { walk = w }) g
-  goes_on w rises = record {
-    left = ap (λ (t : Seat). record t { walk = w }) on_way.left;
-    ghost = on_way.ghost;
-    few = on_way.few;
-    rises = λ ready. (let now = on_way.rises ready in let next = rises now.0 in (next.0, (let low = now.1 in let high = next.1 in omega (arith, low, high))));
-  }
-
-  pub takes_on : (w : WalkPart) (bases words : List ℕ) → length bases ≤ length s.calling.bases → (s.walk.ready ≡ true → (w.ready ≡ true) × (s.walk.position ≤ w.position)) →
-      IsUnderWay s0 g0 (record s { walk = w; calling = record s.calling { bases = bases; base_words = words } }) g
-  takes_on w bases words fewer rises = record {
-    left = ap (λ (t : Seat). record t { walk = w; calling = record t.calling { bases = bases; base_words = words } }) on_way.left;
+  -- the walk goes on to this place, with these partly touched blocks and these blocks noted
+  pub goes_to : (w : WalkPart) (bases words : List ℕ) (noting : Bool) (named : List ℕ) → length bases ≤ length s.calling.bases → (s.walk.ready ≡ true → (w.ready ≡ true) × (s.walk.position ≤ w.position)) →
+      IsUnderWay s0 g0 (record s { walk = w; calling = record s.calling { bases = bases; base_words = words; noting = noting }; blocks = record s.blocks { named = named } }) g
+  goes_to w bases words noting named fewer rises = record {
+    left = ap (λ (t : Seat). record t { walk = w; calling = record t.calling { bases = bases; base_words = words; noting = noting }; blocks = record t.blocks { named = named } }) on_way.left;
     ghost = on_way.ghost;
     few = (let low = on_way.few in omega (arith, low, fewer));
     rises = λ ready. (let now = on_way.rises ready in let next = rises now.0 in (next.0, (let low = now.1 in let high = next.1 in omega (arith, low, high))));
   }
+
+  pub goes_on : (w : WalkPart) → (s.walk.ready ≡ true → (w.ready ≡ true) × (s.walk.position ≤ w.position)) → IsUnderWay s0 g0 (record s { walk = w }) g
+  goes_on w rises = goes_to w s.calling.bases s.calling.base_words s.calling.noting s.blocks.named (omega arith) rises
+
+  pub notes_on : (w : WalkPart) (named : List ℕ) → (s.walk.ready ≡ true → (w.ready ≡ true) × (s.walk.position ≤ w.position)) → IsUnderWay s0 g0 (record s { walk = w; blocks = record s.blocks { named = named } }) g
+  notes_on w named rises = goes_to w s.calling.bases s.calling.base_words s.calling.noting named (omega arith) rises
+
+  pub begins_on : (w : WalkPart) (noting : Bool) (named : List ℕ) → (s.walk.ready ≡ true → (w.ready ≡ true) × (s.walk.position ≤ w.position)) →
+      IsUnderWay s0 g0 (record s { walk = w; calling = record s.calling { noting = noting }; blocks = record s.blocks { named = named } }) g
+  begins_on w noting named rises = goes_to w s.calling.bases s.calling.base_words noting named (omega arith) rises

@@ -33,8 +33,8 @@ pub record MayWalkOn (word : ℕ) (o : Origin) (seat : ℕ) (s : Seat) (g : Ghos
   pub kind : field ENTRY_KIND word ≡ INDIRECT
   pub kept : s.walk.kept ≡ record { block = s.walk.tail_block; slot = s.walk.tail_slot; word = word } ∷ []
 
--- the seat is ready and at the tail, which is the outcome. It keeps no word, and is else as before, but for its walk and those partly
--- touched blocks that later entries touch. Where it was ready its position has not fallen
+-- the seat is ready and at the tail, which is the outcome. It keeps no word, and is else as before, but for its walk, for those partly
+-- touched blocks that later entries touch, and for what a collection notes. Where it was ready its position has not fallen
 pub record HasWalkedOn (s0 : Seat) (g0 : Ghost) (out : Tail) (s : Seat) (g : Ghost) : Type 0 where
   pub out_is : out ≡ tail_of (s.walk.tail_slot == words_of s) s
   pub at_tail : s.walk.at_tail ≡ true
@@ -42,7 +42,11 @@ pub record HasWalkedOn (s0 : Seat) (g0 : Ghost) (out : Tail) (s : Seat) (g : Gho
   pub none_kept : s.walk.kept ≡ []
   pub few : length s.calling.bases ≤ length s0.calling.bases
   pub rises : s0.walk.ready ≡ true → s0.walk.position ≤ s.walk.position
-  pub left : s ≡ record s0 { walk = s.walk; calling = record s0.calling { bases = s.calling.bases; base_words = s.calling.base_words } }
+  pub left : s ≡ record s0 {
+    walk = s.walk;
+    calling = record s0.calling { bases = s.calling.bases; base_words = s.calling.base_words; noting = s.calling.noting };
+    blocks = record s0.blocks { named = s.blocks.named };
+  }
   pub ghost : g ≡ g0
 
 abbrev pub WalksWithin : Type 0
