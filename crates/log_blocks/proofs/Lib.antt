@@ -10,3 +10,5 @@ pub mod WalkSnapshot
 pub mod FoundTail
 pub mod WalkTail
 pub mod WalkIndirect
+pub mod WalkServes
+pub mod WalkOn

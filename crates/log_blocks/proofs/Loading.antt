@@ -57,6 +57,17 @@ known_from_zero o c n s g pin began f = record {
   syncs = f.syncs;
 }
 
+-- what each core that knows the seat so gives, a machine may be lawful by
+module _ {M Out : Type 0} (o : Origin) (seat : ℕ) (script : Script M Out) (rec : Out → Seat → List Call) (P : M → Seat → Ghost → Type 0) (R : Out → Seat → Ghost → Type 0) (m : M) (s : Seat) (g : Ghost) where
+  pub lawful_known : ((c : Core) (pin began : ℕ) → Invariant o c → (view_of c.views seat).parts ≢ [] → Knows o c seat s g pin began → Lawful o seat script rec P R m s g) → Lawful o seat script rec P R m s g
+  lawful_known known = record {
+    may = λ c pin began inv unspent knows. (known c pin began inv unspent knows).may c pin began inv unspent knows;
+    admitted = λ c pin began inv unspent knows. (known c pin began inv unspent knows).admitted c pin began inv unspent knows;
+    enters = λ f found. (known found.core found.pin found.began found.holds found.unspent found.knows).enters f found;
+    goes = λ f found. (known found.core found.pin found.began found.holds found.unspent found.knows).goes f found;
+    ends = λ f out found. (known found.core found.pin found.began found.holds found.unspent found.knows).ends f out found;
+  }
+
 -- a state comes from an earlier one by these computations of a call
 pub record IsComputed (g : Ghost) (e : Seat) (works : List Work) (t : Seat) : Type 0 where
   pub may : MayWorkAll g e works
