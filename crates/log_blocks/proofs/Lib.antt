@@ -4,3 +4,7 @@ pub mod Loading
 pub mod FoundWords
 pub mod WalkStanding
 pub mod KeptLists
+pub mod LeavingRuns
+pub mod OneExchange
+pub mod TailExchange
+pub mod GrowWithin

@@ -1,3 +1,5 @@
 pub mod Taking
 pub mod Walking
 pub mod WalkWithin
+pub mod Growing
+pub mod PutWithin

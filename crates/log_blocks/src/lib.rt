@@ -1,7 +1,11 @@
 //! The log: how a seat walks to its tail, and puts an entry, a link or a seal there.
 #![tactic(auto)]
 
+mod committing;
+mod grow;
+pub mod laws;
 mod taking;
 mod walk;
 
+pub use grow::{Grow, Grown};
 pub use walk::{Tail, Walk};
