@@ -5,6 +5,9 @@ pub mod FoundWords
 pub mod WalkStanding
 pub mod KeptLists
 pub mod LeavingRuns
+pub mod OwnedContent
+pub mod NewEntries
 pub mod OneExchange
 pub mod TailExchange
+pub mod LostSlot
 pub mod GrowWithin

@@ -4,8 +4,12 @@
 mod committing;
 mod grow;
 pub mod laws;
+mod offer;
+mod seal;
 mod taking;
 mod walk;
 
 pub use grow::{Grow, Grown};
+pub use offer::{Offer, Offered};
+pub use seal::{Seal, Sealed};
 pub use walk::{Tail, Walk};
