@@ -11,3 +11,5 @@ pub mod OneExchange
 pub mod TailExchange
 pub mod LostSlot
 pub mod GrowWithin
+pub mod OfferWithin
+pub mod SealWithin

@@ -20,16 +20,10 @@ use Rattle.log_core.specs.Steps.{Kind, ExchangesLink, ExchangesSlot, exchange_ki
 use Rattle.log_core.specs.Invariant.{Invariant}
 use Rattle.log_core.specs.Knows.{Knows}
 use Rattle.log_core.proofs.PinnedChains.{place, kept}
-use Rattle.log_core.proofs.TailEnds.{same_words, same_shape, tail, tail_named}
+use Rattle.log_core.proofs.TailEnds.{same_words, same_shape, walked, tail, tail_named}
 use Rattle.log_core.proofs.LogTails.{TailLog}
 use Rattle.log_core.proofs.clauses.Apart.{log_is_named}
 use Rattle.log_blocks.proofs.FoundWords.{named_small}
-
--- an exchange from 0 of a word that is not the head's is one of a link, where it is a block's first word, or of a slot
-kind_by : (head link : Bool) (word after : ℕ) → Kind
-kind_by true link word after = Rattle.log_core.specs.Steps.ExchangesHead 0 after
-kind_by false true word after = ExchangesLink word after
-kind_by false false word after = ExchangesSlot word after
 
 -- the word kept by an exchange that lost
 pub kept_is : (q block slot f : ℕ) → slot < q → kept_with q [] (block * q + slot) f ≡ record { block = block; slot = slot; word = f } ∷ []
@@ -72,6 +66,13 @@ module _ (o : Origin) (c : Core) (n : ℕ) (s : Seat) (g : Ghost) (pin began : �
     kind_at after = ap (λ (b : Bool). if b then Rattle.log_core.specs.Steps.ExchangesHead 0 after else (if word % words_in (shape o) == 0 then ExchangesLink word after else ExchangesSlot word after)) (ne_eqb word head_place no_head)
         ∙ ap (λ (q : ℕ). if word % q == 0 then ExchangesLink word after else ExchangesSlot word after) (sym words_same)
         ∙ ap (λ (k : ℕ). if k == 0 then ExchangesLink word after else ExchangesSlot word after) (mod-mul-add s.walk.tail_block (words_of s) slot inside)
+
+  -- so that of the tail's slot is an exchange of a slot
+  pub kind_at_slot : (inside : s.walk.tail_slot < words_of s) (after : ℕ) →
+      kind_of_ask (q_of_origin o) n (Exchange (Image (place_in (seat_shape s) s.walk.tail_block s.walk.tail_slot)) 0 after) ≡ ExchangesSlot (place_in (seat_shape s) s.walk.tail_block s.walk.tail_slot) after
+  kind_at_slot inside after = kind_at s.walk.tail_slot inside after
+      ∙ ap (λ (b : Bool). if b then ExchangesLink (place_in (seat_shape s) s.walk.tail_block s.walk.tail_slot) after else ExchangesSlot (place_in (seat_shape s) s.walk.tail_block s.walk.tail_slot) after)
+      (ne_eqb s.walk.tail_slot 0 (λ none. (let from = (walked o c n s g pin began inv knows unspent valid ready).from in omega (arith, from, none))))
 
   -- the link of the tail's block is 0 or the number of the next log block
   abbrev number : ℕ
