@@ -5,6 +5,8 @@ mod committing;
 mod grow;
 pub mod laws;
 mod offer;
+#[cfg(test)]
+mod put_tests;
 mod seal;
 mod taking;
 mod walk;
