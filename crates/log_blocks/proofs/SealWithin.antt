@@ -14,7 +14,7 @@ use Rattle.log_core.specs.Origin.{Origin, q_of_origin}
 use Rattle.log_core.specs.Cores.{Core}
 use Rattle.log_core.specs.Works.{Forgets, seat_shape, words_of}
 use Rattle.log_core.specs.Steps.{ExchangesSlot, kind_of_ask, slot_sealed, new_meaning, stored_but, stored_if}
-use Rattle.log_core.specs.May.{MayExchangeSlot}
+use Rattle.log_core.specs.May.{MaySeal, MayExchangeSlot}
 use Rattle.log_core.specs.Invariant.{Invariant}
 use Rattle.log_core.specs.Knows.{Knows}
 use Rattle.log_core.specs.Within.{no_record, IsFound, Serves}
@@ -33,17 +33,20 @@ module _ (o : Origin) (seat : ℕ) (s : Seat) (g : Ghost) (may : MayPutSeal o se
   abbrev word : ℕ
   word = place_in (seat_shape s) s.walk.tail_block s.walk.tail_slot
 
+  seals : MaySeal s word
+  seals = record { at_tail = may.at_tail; slot = refl; later = may.later; inside = may.inside; job = may.job }
+
   module _ (c : Core) (pin began : ℕ) (inv : Invariant o c) (unspent : (view_of c.views seat).parts ≢ []) (knows : Knows o c seat s g pin began) where
     kind_is : kind_of_ask (q_of_origin o) seat (Exchange (Image word) 0 SEAL) ≡ ExchangesSlot word SEAL
-    kind_is = kind_at_slot o c seat s g pin began inv knows unspent may.seals.at_tail.valid may.seals.at_tail.ready may.seals.inside SEAL
+    kind_is = kind_at_slot o c seat s g pin began inv knows unspent seals.at_tail.valid seals.at_tail.ready seals.inside SEAL
 
     may_slot : MayExchangeSlot o c.history s word SEAL
-    may_slot = ((λ seal. may.seals), (λ other. absurd (other refl)))
+    may_slot = ((λ seal. seals), (λ other. absurd (other refl)))
 
     admits_present : SealAdmits s (slice_index c.memory.now.words word)
     admits_present = record {
       none_kept = may.none_kept;
-      lost = λ some. slot_word o c seat s g pin began inv knows unspent may.seals.at_tail.valid may.seals.at_tail.ready may.takes_in may.seals.inside may.none_kept;
+      lost = λ some. slot_word o c seat s g pin began inv knows unspent seals.at_tail.valid seals.at_tail.ready may.takes_in seals.inside may.none_kept;
     }
 
   abbrev Found : ℕ → Type 0
@@ -52,8 +55,8 @@ module _ (o : Origin) (seat : ℕ) (s : Seat) (g : Ghost) (may : MayPutSeal o se
   enters_by : (won : Bool) (f : ℕ) → (f == 0) ≡ won → Found f → Enters g (slot_sealed s word f won) (seal_after won seal_of s f).seat []
   enters_by true f is found = enters_works g (slot_sealed s word f true) (Forgets ∷ []) (tt, tt) refl
   enters_by false f is found =
-      subst (λ (e : Seat). Enters g e (lost_taken f s) []) (sym (kept_so s f s.calling.lost may.none_kept may.seals.inside))
-      (lost_enters o found.core seat s g found.pin found.began found.holds found.knows found.unspent may.seals.at_tail.valid may.seals.at_tail.ready may.takes_in may.seals.inside may.none_kept f s.calling.lost (sym found.is) (eqb-false f 0 is))
+      subst (λ (e : Seat). Enters g e (lost_taken f s) []) (sym (kept_so s f s.calling.lost may.none_kept seals.inside))
+      (lost_enters o found.core seat s g found.pin found.began found.holds found.knows found.unspent seals.at_tail.valid seals.at_tail.ready may.takes_in seals.inside may.none_kept f s.calling.lost (sym found.is) (eqb-false f 0 is))
 
   ends_by : (won : Bool) (f : ℕ) (out : Sealed) → (f == 0) ≡ won → Found f → (seal_after won seal_of s f).turn ≡ Done out → HasSealed o seat s g out (seal_after won seal_of s f).seat g
   ends_by true f out is found done = subst (λ (x : Sealed). HasSealed o seat s g x (sealed s) g) (outcome done) (record { left = refl; ghost = refl })
@@ -63,7 +66,7 @@ module _ (o : Origin) (seat : ℕ) (s : Seat) (g : Ghost) (may : MayPutSeal o se
         some = omega (arith, other);
         left = refl;
         ghost = refl;
-        walks_on = λ kind. may_walk_on o found.core seat s g found.pin found.began found.holds found.knows found.unspent may.seals.at_tail.valid may.seals.at_tail.ready may.takes_in may.seals.inside may.none_kept f s.calling.lost kind;
+        walks_on = λ kind. may_walk_on o found.core seat s g found.pin found.began found.holds found.knows found.unspent seals.at_tail.valid seals.at_tail.ready may.takes_in seals.inside may.none_kept f s.calling.lost kind;
       })
 
   stops : (won : Bool) (f : ℕ) → (seal_after won seal_of s f).turn ≡ Go → ⊥

@@ -8,6 +8,7 @@ use Rattle.log_entry.specs.declared.layouts.TheConstants.{ENTRY_KIND, INDIRECT}
 use Rattle.log_image.specs.Image.{is_in_log}
 use Rattle.log_image.specs.Entries.{names}
 use Rattle.log_image.specs.Chains.{is_listed}
+use Rattle.pmem_words.specs.declared.keeps.Task.TheVariants.{Collect}
 use Rattle.pmem_words.specs.Seats.{Seat}
 use Rattle.log_core.specs.Entries.{place_in}
 use Rattle.log_core.specs.Views.{Ghost, view_of}
@@ -15,7 +16,7 @@ use Rattle.log_core.specs.Origin.{Origin}
 use Rattle.log_core.specs.Cores.{Core}
 use Rattle.log_core.specs.Works.{seat_shape, words_of, IsFree}
 use Rattle.log_core.specs.Steps.{content_of, new_meaning, stored_but}
-use Rattle.log_core.specs.May.{MayCommit, MaySeal, is_fenced}
+use Rattle.log_core.specs.May.{IsAtTail, MayCommit, is_fenced}
 use Rattle.log_core.specs.Invariant.{Invariant}
 use Rattle.log_core.specs.Knows.{Knows}
 use Rattle.log_core.specs.Promising.{Promises}
@@ -94,7 +95,10 @@ OffersWithin = (entry : ℕ) → Promises offer_script (MayOffer entry) (HasOffe
 pub record MayPutSeal (o : Origin) (seat : ℕ) (s : Seat) (g : Ghost) : Type 0 where
   pub takes_in : MayTakeIn s g
   pub none_kept : s.walk.kept ≡ []
-  pub seals : MaySeal s (place_in (seat_shape s) s.walk.tail_block s.walk.tail_slot)
+  pub at_tail : IsAtTail s
+  pub later : 3 < s.walk.tail_slot
+  pub inside : s.walk.tail_slot < words_of s
+  pub job : s.calling.job ≡ Collect
 
 -- the tail's block is sealed, and the seat at its end
 pub record HasPutSeal (s0 : Seat) (g0 : Ghost) (s : Seat) (g : Ghost) : Type 0 where
