@@ -12,3 +12,12 @@ pub mod WalkTail
 pub mod WalkIndirect
 pub mod WalkServes
 pub mod WalkOn
+pub mod LeavingRuns
+pub mod OwnedContent
+pub mod NewEntries
+pub mod OneExchange
+pub mod TailExchange
+pub mod LostSlot
+pub mod GrowWithin
+pub mod OfferWithin
+pub mod SealWithin

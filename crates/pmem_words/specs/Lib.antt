@@ -9,3 +9,4 @@ pub mod Drives
 pub mod Leads
 pub mod Parts
 pub mod PlainWords
+pub mod Runs

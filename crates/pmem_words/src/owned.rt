@@ -2,7 +2,10 @@
 
 ghost use Rattle.std.specs.Prelude.{◌≡◌, ◌+◌, ◌*◌, ◌<◌, ◌≤◌, ◌++◌, ◌∷◌, [], false, IfOk, length, remove, replicate, take, slice_set};
 
-use crate::leaving::{fence_blocks, keep_blocks, keep_contents};
+use crate::keeps::KeptWord;
+use crate::leaving::{
+    fence_blocks, keep_blocks, keep_blocks_outside, keep_contents, keep_contents_outside,
+};
 use crate::lists::{append_zeros, remove_words};
 use log_entry::Area;
 use std::alloc::{AllocError, Global};
@@ -45,6 +48,7 @@ impl Model for OwnedBlocks {
 }
 
 impl OwnedBlocks {
+    ghost use Rattle.pmem_words.specs.Runs.{is_in_runs};
     ghost use Rattle.pmem_words.specs.Owned.{Owned, without_block, with_filled, with_fenced, fenced_all, is_among, owned_but, contents_but};
 
     /// No blocks, with room for `room` blocks of `block_words` words. Only want of memory refuses it.
@@ -174,5 +178,23 @@ impl OwnedBlocks {
             bits,
         );
         keep_blocks(&mut self.blocks, word, bits);
+    }
+
+    /// Removes the `count` blocks from `first` on, and the blocks of the runs that these words say, and their contents, in one pass.
+    pub fn disown_runs(&mut self, first: u16, count: u16, runs: &[KeptWord])
+        ensures { self.new ≡ record self.old {
+          blocks = owned_but (is_in_runs first count runs.now) self.old.blocks;
+          contents = contents_but self.old.block_words (is_in_runs first count runs.now) self.old.blocks self.old.contents;
+        } }
+    {
+        keep_contents_outside(
+            &mut self.contents,
+            self.blocks.as_slice(),
+            self.block_words as usize,
+            first,
+            count,
+            runs,
+        );
+        keep_blocks_outside(&mut self.blocks, first, count, runs);
     }
 }

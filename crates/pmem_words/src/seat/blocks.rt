@@ -1,7 +1,9 @@
 //! The blocks that the present call has taken, found taken or named.
 
-ghost use Rattle.std.specs.Prelude.{◌≡◌, ◌+◌, ◌*◌, ◌/◌, ◌<◌, ◌++◌, ◌∷◌, [], true, false, length, remove, replicate, take, slice_index, slice_set, bit_or};
+ghost use Rattle.std.specs.Prelude.{◌≡◌, ◌+◌, ◌*◌, ◌/◌, ◌<◌, ◌≤◌, ◌++◌, ◌∷◌, [], true, false, length, remove, replicate, take, slice_index, slice_set, bit_or};
+ghost use Rattle.std.specs.List.{slice_range};
 ghost use Rattle.pmem_words.specs.Owned.{without_block, with_filled, with_fenced, fenced_all, is_among, owned_but, contents_but};
+ghost use Rattle.pmem_words.specs.Runs.{is_in_runs};
 ghost use Rattle.pmem_words.specs.Noted.{noted_first, noted_more};
 ghost use Rattle.pmem_words.specs.Seats.{q_of, owned_room, image_blocks, bitmap_words};
 ghost use Rattle.asks.specs.Asks.{without_bits};
@@ -88,6 +90,33 @@ impl SeatState {
         } }
     {
         self.owned.disown_in_word(word, bits);
+    }
+
+    /// Removes the `count` blocks from `first` on, and their contents: they were committed.
+    pub fn disown_run(&mut self, first: u16, count: u16)
+        ensures { self.new ≡ record self.old {
+          blocks = record self.old.blocks {
+            owned = owned_but (is_in_runs first count []) self.old.blocks.owned;
+            contents = contents_but (q_of self.old.geometry) (is_in_runs first count []) self.old.blocks.owned self.old.blocks.contents;
+          };
+        } }
+    {
+        self.owned.disown_runs(first, count, &[]);
+    }
+
+    /// Removes this block, and the blocks of the runs that the kept words from place `from` up to `past` say, and their contents:
+    /// they were committed.
+    pub fn disown_kept_runs(&mut self, block: u16, from: usize, past: usize)
+        requires order { from ≤ past }
+        requires inside { past ≤ length self.old.walk.kept }
+        ensures { self.new ≡ record self.old {
+          blocks = record self.old.blocks {
+            owned = owned_but (is_in_runs block 1 (slice_range self.old.walk.kept from past)) self.old.blocks.owned;
+            contents = contents_but (q_of self.old.geometry) (is_in_runs block 1 (slice_range self.old.walk.kept from past)) self.old.blocks.owned self.old.blocks.contents;
+          };
+        } }
+    {
+        self.owned.disown_runs(block, 1, &self.kept[from..past]);
     }
 
     /// Removes the block at this place, and its content: it was committed or given back.
