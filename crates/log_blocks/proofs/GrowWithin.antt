@@ -1,5 +1,8 @@
 -- Linking a block at the tail is lawful within a core.
-use Rattle.std.proofs.Common.{◌≡◌, ◌≢◌, ◌<◌, ◌^◌, ◌==◌, ℕ, Bool, true, false, if◌then◌else◌, List, [], ◌∷◌, refl, sym, ◌∙◌, ap, subst, arith, Some}
+use Rattle.log_blocks.specs.Walking.{IsOfImage}
+use Rattle.log_image.specs.Image.{total, shape_by}
+use Rattle.std.proofs.lemmas.Bool.{ltb-true, and_parts}
+use Rattle.std.proofs.Common.{slice_index, nat_lt, ◌≡◌, ◌≢◌, ◌<◌, ◌^◌, ◌==◌, ℕ, Bool, true, false, if◌then◌else◌, List, [], ◌∷◌, refl, sym, ◌∙◌, ap, subst, arith, Some}
 use Rattle.std.proofs.lemmas.Bool.{eqb-true, eqb-false, ne_eqb}
 use Rattle.asks.specs.declared.ask.Ask.TheVariants.{Exchange}
 use Rattle.asks.specs.declared.ask.Place.TheVariants.{Image}
@@ -22,11 +25,12 @@ use Rattle.log_core.proofs.machines.MachineLaws.{Law, promised}
 use Rattle.log_blocks.specs.declared.grow.Grow.{Grow}
 use Rattle.log_blocks.specs.declared.grow.Grown.{Grown}
 use Rattle.log_blocks.specs.Taking.{followed}
-use Rattle.log_blocks.specs.Growing.{grow_of, linked, grow_after, grow_script, grow_lowers}
+use Rattle.log_blocks.specs.Growing.{GrowAdmits, grow_of, linked, grow_after, grow_script, grow_lowers}
 use Rattle.log_blocks.specs.PutWithin.{MayGrow, HasGrown, HasLinked, HasFollowed, GrowsWithin}
 use Rattle.log_blocks.proofs.KeptLists.{kept_last}
 use Rattle.log_blocks.proofs.OneExchange.{IsAtFirst, at_first, outcome, serves_at_first}
-use Rattle.log_blocks.proofs.TailExchange.{kept_is, kind_at, link_small, wide}
+use Rattle.log_blocks.proofs.TailExchange.{kept_is, kind_at, wide}
+use Rattle.log_blocks.proofs.FoundTail.{link_of_image}
 
 module _ (o : Origin) (seat : ℕ) (s : Seat) (g : Ghost) (block : ℕ) (may : MayGrow block o seat s g) where
   abbrev word : ℕ
@@ -38,6 +42,10 @@ module _ (o : Origin) (seat : ℕ) (s : Seat) (g : Ghost) (block : ℕ) (may : M
 
     kind_is : kind_of_ask (q_of_origin o) seat (Exchange (Image word) 0 block) ≡ ExchangesLink word block
     kind_is = kind_at o c seat s g pin began inv knows unspent may.valid may.ready 0 some_words block
+
+  -- the block is of the image
+  own_inside : IsOfImage s block
+  own_inside = ltb-true block (total (seat_shape s)) (and_parts (nat_lt (seat_shape s).data_blocks block) (nat_lt block (total (seat_shape s))) may.in_log).1
 
   may_link : MayExchangeLink s word block
   may_link = record { valid = may.valid; ready = may.ready; link = refl; at_end = may.at_end; owned = may.owned; in_log = may.in_log; content = may.content }
@@ -68,10 +76,10 @@ module _ (o : Origin) (seat : ℕ) (s : Seat) (g : Ghost) (block : ℕ) (may : M
   enters_by false f is found = subst (λ (t : Seat). Enters g (lost f) t []) (ap (λ (b : ℕ). followed s b) (link_word f found))
       (enters_works g (lost f) (Follows ∷ []) (may_follow f found (eqb-false f 0 is), tt) refl)
 
-  ends_by : (won : Bool) (f : ℕ) (out : Grown) → (f == 0) ≡ won → f < 2 ^ 16 → (grow_after won (grow_of block) s f).turn ≡ Done out →
+  ends_by : (won : Bool) (f : ℕ) (out : Grown) → (f == 0) ≡ won → GrowAdmits block s f → (grow_after won (grow_of block) s f).turn ≡ Done out →
       HasGrown block o seat s g out (grow_after won (grow_of block) s f).seat (record g { stored = stored_if won (stored_but (words_of s) (λ (other : ℕ). other == block) g.stored) g.stored })
   ends_by true f out is small done = subst (λ (x : Grown). HasGrown block o seat s g x (linked block s) (record g { stored = stored_but (words_of s) (λ (other : ℕ). other == block) g.stored })) (outcome done) (record { left = refl; ghost = refl })
-  ends_by false f out is small done = subst (λ (x : Grown). HasGrown block o seat s g x (followed s f) g) (outcome done) (record { some = (let other = eqb-false f 0 is in omega (arith, other)); small = small; left = refl; ghost = refl })
+  ends_by false f out is small done = subst (λ (x : Grown). HasGrown block o seat s g x (followed s f) g) (outcome done) (record { some = (let other = eqb-false f 0 is in omega (arith, other)); small = (let low = small.found (eqb-false f 0 is) in let few = s.geometry.few_blocks in omega (arith, low, few)); left = refl; ghost = refl })
 
   stops : (won : Bool) (f : ℕ) → (grow_after won (grow_of block) s f).turn ≡ Go → ⊥
   stops true f go = cc
@@ -79,7 +87,7 @@ module _ (o : Origin) (seat : ℕ) (s : Seat) (g : Ghost) (block : ℕ) (may : M
 
   pub grow_serves : Serves o seat grow_script no_record (λ m t h. IsAtFirst (grow_of block) s g m t h) (HasGrown block o seat s g)
   grow_serves = serves_at_first o seat grow_script (HasGrown block o seat s g) (grow_of block) s g (ExchangesLink word block) kind_is (λ c pin began inv unspent knows. may_link)
-      (λ c pin began inv unspent knows. link_small o c seat s g pin began inv knows unspent may.valid may.ready)
+      (λ c pin began inv unspent knows. record { own = own_inside; found = link_of_image o c seat s g pin began inv knows unspent may.valid may.ready _ (ap (λ image. slice_index c.memory.now.words (place_in image s.walk.tail_block 0)) (sym (ap shape_by (knows.fits unspent).geometry))) })
       (λ f found admits. enters_by (f == 0) f refl found) (λ f go. stops (f == 0) f go) (λ f out found admits done. ends_by (f == 0) f out refl admits done)
 
 abbrev pub grow_law : (block : ℕ) → Law grow_script (grow_of block)

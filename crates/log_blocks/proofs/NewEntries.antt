@@ -1,4 +1,7 @@
 -- What the entry means that a seat has put in, and the seat then.
+use Rattle.pmem_words.specs.Noted.{noted_more}
+use Rattle.log_image.specs.Entries.{names}
+use Rattle.log_blocks.specs.Taking.{taken}
 use Rattle.std.proofs.Common.{◌≡◌, ◌≢◌, ◌==◌, ℕ, Bool, true, false, if◌then◌else◌, refl, sym, ◌∙◌, ap}
 use Rattle.std.proofs.lemmas.Bool.{eq-eqb, ne_eqb}
 use Rattle.log_entry.specs.Fields.{field}
@@ -20,3 +23,7 @@ new_indirect s entry other = ap (λ (b : Bool). if b then direct_meaning entry e
 
 pub committed_by : (s : Seat) (entry : ℕ) (meaning : Meaning) → new_meaning s entry ≡ meaning → put_in (taken_out meaning s) ≡ committed entry s
 committed_by s entry meaning is = ap (λ (m : Meaning). put_in (taken_out m s)) (sym is)
+
+-- where nothing is noted, an entry that is taken in leaves the blocks as they are
+pub not_noted : (t : Seat) (m : Meaning) → t.calling.noting ≡ false → taken t m ≡ record (taken t m) { blocks = t.blocks }
+not_noted t m none = ap (λ (b : Bool). record (taken t m) { blocks = record t.blocks { named = noted_more b t.blocks.named (names m) } }) none

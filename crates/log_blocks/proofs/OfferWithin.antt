@@ -1,5 +1,12 @@
 -- Putting an entry in at the tail is lawful within a core.
-use Rattle.std.proofs.Common.{◌≡◌, ◌≢◌, ◌<◌, ◌≤◌, ◌+◌, ◌-◌, ◌^◌, ◌==◌, ◌&&◌, ◌||◌, not, min, ℕ, Bool, true, false, if◌then◌else◌, List, [], ◌∷◌, length, refl, sym, ◌∙◌, ap, subst, arith, slice_index}
+use Rattle.log_entry.specs.declared.calls.Op.{Op}
+use Rattle.log_entry.specs.declared.calls.Op.TheVariants.{Pwrite as PwriteOp, Append as AppendOp, Pread as PreadOp, Size as SizeOp, Sync as SyncOp, Collect as CollectOp}
+use Rattle.log_entry.specs.Legal.{is_write}
+use Rattle.log_core.specs.Files.{accepted_reply}
+use Rattle.log_core.specs.Views.{op_of}
+use Rattle.pmem_words.specs.declared.keeps.Task.{Task}
+use Rattle.chain_reader.proofs.FitsLemmas.{inside_data}
+use Rattle.std.proofs.Common.{Option, Some, None, ◌≡◌, ◌≢◌, ◌<◌, ◌≤◌, ◌+◌, ◌-◌, ◌^◌, ◌==◌, ◌&&◌, ◌||◌, not, min, ℕ, Bool, true, false, if◌then◌else◌, List, [], ◌∷◌, length, refl, sym, ◌∙◌, ap, subst, arith, slice_index}
 use Rattle.std.proofs.lemmas.Bool.{eqb-true, eqb-false, eq-eqb, ne_eqb, and_parts}
 use Rattle.log_entry.specs.Fields.{field}
 use Rattle.log_entry.specs.Shape.{longest_of}
@@ -79,6 +86,7 @@ module _ (o : Origin) (seat : ℕ) (s : Seat) (g : Ghost) (entry : ℕ) (may : M
 
     offered : IsOffered entry s
     offered = record {
+      not_noting = quiet s.calling.noting refl;
       none_kept = may.none_kept;
       wide = (let many = wide o c seat s g pin began inv knows unspent here.at_tail.valid here.at_tail.ready in omega (arith, many));
       room = room o c seat s g pin began inv knows unspent here.at_tail.valid here.at_tail.ready may.takes_in here.inside;
@@ -88,12 +96,27 @@ module _ (o : Origin) (seat : ℕ) (s : Seat) (g : Ghost) (entry : ℕ) (may : M
           let meaning = new_indirect s entry other in
           let owned = fenced_owned s.blocks.owned block (here.owned block (subst (λ (m : Meaning). is_listed (names m) block ≡ true) (sym meaning) (listed_first block _))) in
           record {
+            inside = (let low = (inside_data (seat_shape s) block (here.in_data block (subst (λ (m : Meaning). is_listed (names m) block ≡ true) (sym meaning) (listed_first block _)))).1 in omega (arith, low));
             owned = owned;
             whole = content_long _ _ _ seat g s knows.owned block owned;
             runs = runs_by (λ b. content_of s b) (seat_shape s) entry here.form other;
             fits = subst (λ (m : Meaning). fits (seat_shape s) 256 m ≡ true) meaning (entry_fits (λ b. content_of s b) (seat_shape s) entry here.form);
           });
     }
+
+      where
+        -- a call that notes is a collection, and puts in no entry
+        quiet : (b : Bool) → s.calling.noting ≡ b → b ≡ false
+        quiet false e = refl
+        quiet true e = no_write here.op (sym here.job ∙ ap (λ (task : Task). op_of task s.calling.bytes) ((knows.noted unspent).0 e)) here.is_write
+          where
+            no_write : (op : Op) → Some op ≡ Some CollectOp → is_write op (accepted_reply op s.walk.size) ≡ true → true ≡ false
+            no_write CollectOp is write = cc
+            no_write (PwriteOp offset bytes) is write = cc
+            no_write (AppendOp bytes) is write = cc
+            no_write (PreadOp offset count) is write = cc
+            no_write SizeOp is write = cc
+            no_write SyncOp is write = cc
 
     admits_present : OfferAdmits entry s (slice_index c.memory.now.words word)
     admits_present = record {

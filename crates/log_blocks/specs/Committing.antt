@@ -13,6 +13,7 @@ use Rattle.log_core.specs.Needs.{owned_numbers}
 use Rattle.log_core.specs.Works.{seat_shape, words_of, walk_past, without_bases}
 use Rattle.log_core.specs.Steps.{blocks_but, content_of, new_meaning}
 use Rattle.log_blocks.specs.Taking.{with_kept, taken, seal_taken, HasRoom, HasFewBases}
+use Rattle.log_blocks.specs.Walking.{IsOfImage}
 
 -- the first place of a block in a list; the list's length where it is not there
 abbrev pub owned_place : ℕ → List OwnedBlock → ℕ
@@ -44,13 +45,15 @@ committed entry s = record s {
 
 -- an indirect block whose words are the content of an owned block
 pub record IsOwnedRuns (s : Seat) (block : ℕ) : Type 0 where
+  pub inside : IsOfImage s block
   pub owned : is_listed (owned_numbers s.blocks.owned) block ≡ true
   pub whole : length (content_of s block) ≡ words_in (seat_shape s)
   pub runs : is_indirect_block (seat_shape s) (content_of s block) ≡ true
   pub fits : fits (seat_shape s) 256 (indirect_meaning block (content_of s block)) ≡ true
 
--- an entry that the seat can take in once it is put in
+-- an entry that the seat can take in once it is put in. No collection notes it, since those put none in
 pub record IsOffered (entry : ℕ) (s : Seat) : Type 0 where
+  pub not_noting : s.calling.noting ≡ false
   pub none_kept : s.walk.kept ≡ []
   pub wide : 1 ≤ words_of s
   pub room : HasRoom s.walk

@@ -1,5 +1,7 @@
 -- What linking a block at the tail means.
-use Rattle.std.specs.Prelude.{ℕ, ◌+◌, ◌*◌, ◌^◌, ◌<◌, ◌≡◌, ◌==◌, Bool, true, false, []}
+use Rattle.pmem_words.specs.Noted.{noted_more}
+use Rattle.log_blocks.specs.Walking.{IsOfImage}
+use Rattle.std.specs.Prelude.{◌∷◌, ◌≢◌, [], ℕ, ◌+◌, ◌*◌, ◌^◌, ◌<◌, ◌≡◌, ◌==◌, Bool, true, false, []}
 use Rattle.log_entry.specs.declared.layouts.TheConstants.{EMPTY}
 use Rattle.asks.specs.declared.ask.Ask.TheVariants.{Exchange}
 use Rattle.asks.specs.declared.ask.Place.TheVariants.{Image}
@@ -21,18 +23,22 @@ grow_of block = record { block = block }
 abbrev pub linked : ℕ → Seat → Seat
 linked block s = record s {
   walk = record s.walk { tail_block = block; tail_slot = 3; tail_base = s.walk.position; at_tail = true; kept = [] };
-  blocks = blocks_but (words_of s) (λ (other : ℕ). other == block) s.blocks;
+  blocks = record (blocks_but (words_of s) (λ (other : ℕ). other == block) s.blocks) { named = noted_more s.calling.noting s.blocks.named (block ∷ []) };
 }
 
 abbrev pub grow_after : Bool → Grow → Seat → ℕ → After Grow Grown
 grow_after true m s f = record { machine = m; seat = linked m.block s; turn = Done Linked }
 grow_after false m s f = record { machine = m; seat = followed s f; turn = Done (Overtaken f) }
 
--- what it finds is the number of a block
+-- its block, and one whose number it finds, are of the image
+pub record GrowAdmits (block : ℕ) (s : Seat) (f : ℕ) : Type 0 where
+  pub own : IsOfImage s block
+  pub found : f ≢ EMPTY → IsOfImage s f
+
 abbrev pub grow_script : Script Grow Grown
 grow_script = record {
   asks = λ m s. Exchange (Image (place_in (seat_shape s) s.walk.tail_block 0)) EMPTY m.block;
-  admits = λ m s f. f < 2 ^ 16;
+  admits = λ m s f. GrowAdmits m.block s f;
   after = λ m s f. grow_after (f == EMPTY) m s f;
   measure = λ m s. 0;
 }

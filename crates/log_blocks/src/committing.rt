@@ -1,6 +1,6 @@
 //! What an exchange puts into the chain: its blocks leave the seat's list, and an entry is taken in.
 
-ghost use Rattle.std.specs.Prelude.{◌≡◌, ◌≢◌, ◌==◌, ◌+◌, ◌++◌, ◌≤◌, ◌∷◌, [], true, ℕ, IsTrue, length};
+ghost use Rattle.std.specs.Prelude.{◌≡◌, ◌≢◌, ◌==◌, ◌+◌, ◌++◌, ◌≤◌, ◌∷◌, [], true, false, ℕ, IsTrue, length};
 ghost use Rattle.log_entry.specs.Fields.{field};
 ghost use Rattle.log_image.specs.Image.{words_in};
 ghost use Rattle.log_image.specs.Entries.{names, direct_meaning, indirect_meaning};
@@ -96,6 +96,7 @@ fn commit_indirect(seat: &mut SeatState, entry: u64, block: u16)
     requires wide { 1 ≤ words_of seat.old }
     requires room { HasRoom seat.old.walk }
     requires few { HasFewBases (words_of seat.old) seat.old.calling }
+    requires quiet { seat.old.calling.noting ≡ false }
     requires runs { IsOwnedRuns seat.old block }
     ensures { seat.new ≡ taken_out (indirect_meaning block (content_of seat.old block)) seat.old }
 {

@@ -1,4 +1,4 @@
-use Rattle.std.proofs.Common.{◌≡◌, ◌+◌, ℕ, Bool, [], ap, ◌∙◌}
+use Rattle.std.proofs.Common.{◌+◌, ℕ, Bool, [], ap, ◌∙◌}
 use Rattle.log_entry.specs.Fields.{field}
 use Rattle.log_entry.specs.declared.layouts.TheConstants.{DIRECT_BLOCK}
 use Rattle.pmem_words.specs.Runs.{is_in_runs}

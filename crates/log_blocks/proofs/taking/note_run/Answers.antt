@@ -1,8 +1,5 @@
-use Rattle.std.proofs.Common.{◌≡◌, ◌+◌, ◌-◌, ◌≤◌, ◌∷◌, [], ℕ, true, Bool, List, refl, sym, ap, ◌∙◌, arith}
-use Rattle.std.specs.List.{range_with_len}
-use Rattle.pmem_words.specs.Noted.{noted_more}
+use Rattle.std.proofs.Common.{ℕ, List, ap, arith}
 use Rattle.pmem_words.specs.Seats.{Seat}
-use Rattle.log_core.specs.Works.{blocks_noted}
 use Rattle.log_blocks.proofs.EntryMaps.{run_noted}
 use Rattle.log_blocks.proofs.taking.note_run.Goals as goal
 

@@ -1,4 +1,4 @@
-use Rattle.std.proofs.Common.{◌≡◌, ◌-◌, ◌≤◌, ℕ}
+use Rattle.std.proofs.Common.{◌≡◌, ◌-◌, ◌≤◌}
 use Rattle.std.specs.List.{range_with_len}
 use Rattle.log_core.specs.Works.{blocks_noted}
 use Rattle.log_blocks.proofs.taking.note_run.Given as goal

@@ -1,8 +1,6 @@
-use Rattle.std.proofs.Common.{◌≡◌, ◌+◌, ◌*◌, ◌-◌, max, ℕ, false, [], length, refl, ap, ◌∙◌, subst, sym}
-use Rattle.log_image.specs.Entries.{Meaning}
+use Rattle.std.proofs.Common.{◌≡◌, ◌+◌, ◌*◌, ◌-◌, max, length, refl}
 use Rattle.pmem_words.specs.Seats.{Seat}
-use Rattle.log_core.specs.Works.{seat_shape, words_of, without_bases, walk_past}
-use Rattle.log_blocks.specs.Taking.{passed, dropped}
+use Rattle.log_blocks.specs.Taking.{dropped}
 use Rattle.log_blocks.proofs.EntryMaps.{entry_passed}
 use Rattle.log_blocks.proofs.taking.pass_entry.Goals as goal
 

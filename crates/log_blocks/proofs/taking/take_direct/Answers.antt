@@ -1,11 +1,11 @@
-use Rattle.std.proofs.Common.{◌≡◌, ◌+◌, ◌≤◌, ℕ, List, [], Option, refl, sym, ap, ◌∙◌, arith}
+use Rattle.std.proofs.Common.{◌≡◌, ◌+◌, ℕ, List, Option, sym, ap, ◌∙◌, arith}
 use Rattle.std.proofs.lemmas.List.FromFn.{length-range_with_len}
 use Rattle.log_entry.specs.Fields.{field}
-use Rattle.log_entry.specs.declared.layouts.TheConstants.{DIRECT_VIRT, DIRECT_BLOCK, DIRECT_COUNT, DIRECT_LEFTOVER}
+use Rattle.log_entry.specs.declared.layouts.TheConstants.{DIRECT_VIRT, DIRECT_BLOCK, DIRECT_COUNT}
 use Rattle.log_image.specs.Entries.{direct_meaning, names}
 use Rattle.pmem_words.specs.Maps.{with_run}
 use Rattle.pmem_words.specs.Seats.{Seat}
-use Rattle.log_core.specs.Works.{seat_shape, words_of, with_entry, blocks_noted}
+use Rattle.log_core.specs.Works.{seat_shape, with_entry, blocks_noted}
 use Rattle.chain_reader.proofs.FitsLemmas.{RunNumbers, direct_numbers}
 use Rattle.log_blocks.specs.Taking.{passed}
 use Rattle.log_blocks.proofs.EntryMaps.{direct_is, direct_inside}

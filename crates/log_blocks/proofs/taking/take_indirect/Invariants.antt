@@ -1,4 +1,4 @@
-use Rattle.std.proofs.Common.{◌≡◌, ◌+◌, ◌∷◌, ℕ, length, take}
+use Rattle.std.proofs.Common.{◌≡◌, ◌+◌, ◌∷◌, length, take}
 use Rattle.std.specs.List.{flat_map}
 use Rattle.log_image.specs.Entries.{run_words, run_blocks}
 use Rattle.log_core.specs.Works.{with_entry, blocks_noted}
