@@ -1,0 +1,2 @@
+-- When a write, or a new log block, may be put into the chain: by the seat's state alone.
+pub mod LaidBytes
