@@ -1,2 +1,4 @@
 -- When a write, or a new log block, may be put into the chain: by the seat's state alone.
 pub mod LaidBytes
+pub mod GivenBlocks
+pub mod WholeWrites
