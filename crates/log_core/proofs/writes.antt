@@ -2,3 +2,4 @@
 pub mod LaidBytes
 pub mod GivenBlocks
 pub mod WholeWrites
+pub mod OwnContents
