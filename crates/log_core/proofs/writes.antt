@@ -3,3 +3,4 @@ pub mod LaidBytes
 pub mod GivenBlocks
 pub mod WholeWrites
 pub mod OwnContents
+pub mod NewLogBlocks
