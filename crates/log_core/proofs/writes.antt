@@ -4,3 +4,4 @@ pub mod GivenBlocks
 pub mod WholeWrites
 pub mod OwnContents
 pub mod NewLogBlocks
+pub mod PlacedBytes
