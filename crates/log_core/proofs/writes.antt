@@ -5,3 +5,4 @@ pub mod WholeWrites
 pub mod OwnContents
 pub mod NewLogBlocks
 pub mod PlacedBytes
+pub mod EntryWords

@@ -1,7 +1,7 @@
 -- The blocks of an entry: what it gives a virtual block, that they are of the data area, and that its word is no seal.
 use Rattle.std.proofs.Common.{◌≡◌, ◌≢◌, ◌<◌, ◌≤◌, ◌+◌, ◌-◌, ◌==◌, ◌&&◌, ◌⊎◌, inl, inr, nat_le, nat_lt, ℕ, Bool, true, false, List, length, slice_index, if◌then◌else◌, Some, None, refl, sym, ap, ◌∙◌, subst, arith}
 use Rattle.std.specs.List.{slice_get, list_all}
-use Rattle.std.proofs.lemmas.Bool.{cases_lt, le-leb, leb-true, and_parts}
+use Rattle.std.proofs.lemmas.Bool.{cases_lt, le-leb, lt-ltb, leb-true, and_parts}
 use Rattle.std.proofs.lemmas.Option.{slice_get_within, get_or_from_slice_get, slice_get-get_or}
 use Rattle.log_entry.specs.Fields.{field}
 use Rattle.log_entry.specs.Shape.{longest_of}
@@ -60,6 +60,12 @@ fitting image longest meaning good =
     let three = and_parts (some && few && inside) area four.0 in
     let two = and_parts some few (and_parts (some && few) inside three.0).0 in
     record { some = leb-true 1 (length meaning.blocks) two.0; few = leb-true (length meaning.blocks) longest two.1; in_data = three.1 })
+
+-- and an entry of such numbers fits
+pub fits_by : (image : Shape) (longest : ℕ) (meaning : Meaning) → 1 ≤ length meaning.blocks → length meaning.blocks ≤ longest → meaning.virt + length meaning.blocks ≤ 65536 →
+    list_all (is_in_data image) meaning.blocks ≡ true → meaning.leftover < image.block_bytes → fits image longest meaning ≡ true
+fits_by image longest meaning some few inside area low =
+    rw (le-leb 1 (length meaning.blocks) some, le-leb (length meaning.blocks) longest few, le-leb (meaning.virt + length meaning.blocks) 65536 inside, area, lt-ltb meaning.leftover image.block_bytes low) refl
 
 held_then : (kind unnamed held : Bool) → kind ≡ false → (if kind && unnamed then true else held) ≡ true → held ≡ true
 held_then true unnamed held is form = cc

@@ -1,6 +1,8 @@
 -- Owned blocks, by their places, that hold the bytes of the call, one block after another.
-use Rattle.std.proofs.Common.{◌≡◌, ◌<◌, ◌+◌, ◌*◌, ◌/◌, ◌%◌, ℕ, true, List, [], ◌∷◌, length, slice_index, sym, ap, ◌∙◌, subst, arith}
+use Rattle.std.proofs.Common.{◌≡◌, ◌<◌, ◌+◌, ◌*◌, ◌/◌, ◌%◌, ◌==◌, ◌||◌, ℕ, suc, Bool, true, false, List, [], ◌∷◌, length, slice_index, refl, sym, ap, ◌∙◌, subst, arith}
+use Rattle.std.proofs.lemmas.Bool.{eqb-true}
 use Rattle.log_entry.specs.WordBytes.{word_bytes}
+use Rattle.log_image.specs.Chains.{is_listed}
 use Rattle.pmem_words.specs.Owned.{owned_at}
 use Rattle.pmem_words.specs.Seats.{Seat}
 use Rattle.log_core.specs.Works.{words_of, owned_block, content_word}
@@ -31,8 +33,22 @@ module _ (s : Seat) (owns : OwnsWhole s) (block from : ℕ) (has : HasBytes s bl
       eight : 8 * words_of s ≡ s.geometry.block_bytes
       eight = eight_words s.geometry.block_bytes s.geometry.block_allowed
 
--- so blocks that do, one after another, hold them all
-pub blocks_hold : (s : Seat) → OwnsWhole s → (blocks : List ℕ) → ((place : ℕ) → place < length blocks → HasBytes s (slice_index blocks place) (place * s.geometry.block_bytes)) →
-    (place at : ℕ) → place < length blocks → at < s.geometry.block_bytes →
-    slice_index (word_bytes (content_of s (slice_index blocks place))) at ≡ slice_index s.calling.bytes (place * s.geometry.block_bytes + at)
-blocks_hold s owns blocks each place at inside low = bytes_hold s owns (slice_index blocks place) (place * s.geometry.block_bytes) (each place inside) at low
+-- a number that is listed stands at a place
+listed_place : (numbers : List ℕ) (number : ℕ) → is_listed numbers number ≡ true → (place : ℕ) × (place < length numbers) × (slice_index numbers place ≡ number)
+listed_place [] number listed = cc
+listed_place (first ∷ numbers) number listed = go (first == number) refl listed (λ later. listed_place numbers number later)
+  where
+    go : (same : Bool) → (first == number) ≡ same → (same || is_listed numbers number) ≡ true → (is_listed numbers number ≡ true → (place : ℕ) × (place < length numbers) × (slice_index numbers place ≡ number)) →
+        (place : ℕ) × (place < length (first ∷ numbers)) × (slice_index (first ∷ numbers) place ≡ number)
+    go true is some rest = (0, omega arith, eqb-true first number is)
+    go false is some rest = (let r = rest some in (suc r.0, (let low : r.0 < length numbers = r.1 in omega (arith, low)), r.2))
+
+-- so blocks that do, one after another, are fenced, and hold them all
+module _ (s : Seat) (owns : OwnsWhole s) (blocks : List ℕ) (each : (place : ℕ) → place < length blocks → HasBytes s (slice_index blocks place) (place * s.geometry.block_bytes)) where
+  pub blocks_fenced : (block : ℕ) → is_listed blocks block ≡ true → is_fenced s.blocks.owned block ≡ true
+  blocks_fenced block listed = (let r = listed_place blocks block listed in
+      subst (λ (b : ℕ). is_fenced s.blocks.owned b ≡ true) r.2 (bytes_fenced s owns (slice_index blocks r.0) (r.0 * s.geometry.block_bytes) (each r.0 r.1)))
+
+  pub blocks_hold : (place at : ℕ) → place < length blocks → at < s.geometry.block_bytes →
+      slice_index (word_bytes (content_of s (slice_index blocks place))) at ≡ slice_index s.calling.bytes (place * s.geometry.block_bytes + at)
+  blocks_hold place at inside low = bytes_hold s owns (slice_index blocks place) (place * s.geometry.block_bytes) (each place inside) at low
