@@ -3,6 +3,7 @@ pub mod LaidBytes
 pub mod GivenBlocks
 pub mod WholeWrites
 pub mod OwnContents
+pub mod OwnAreas
 pub mod NewLogBlocks
 pub mod PlacedBytes
 pub mod EntryWords
