@@ -7,3 +7,4 @@ pub mod OwnAreas
 pub mod NewLogBlocks
 pub mod PlacedBytes
 pub mod EntryWords
+pub mod RunWrites

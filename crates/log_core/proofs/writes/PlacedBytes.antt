@@ -2,6 +2,7 @@
 use Rattle.std.proofs.Common.{◌≡◌, ◌<◌, ◌+◌, ◌*◌, ◌/◌, ◌%◌, ◌==◌, ◌||◌, ℕ, suc, Bool, true, false, List, [], ◌∷◌, length, slice_index, refl, sym, ap, ◌∙◌, subst, arith}
 use Rattle.std.proofs.lemmas.Bool.{eqb-true}
 use Rattle.log_entry.specs.WordBytes.{word_bytes}
+use Rattle.log_entry.specs.declared.shapes.Area.TheVariants.{Data}
 use Rattle.log_image.specs.Chains.{is_listed}
 use Rattle.pmem_words.specs.Owned.{owned_at}
 use Rattle.pmem_words.specs.Seats.{Seat}
@@ -11,12 +12,13 @@ use Rattle.log_core.specs.May.{is_fenced}
 use Rattle.log_core.proofs.WordBytesAt.{eight_words}
 use Rattle.log_core.proofs.writes.OwnContents.{OwnsWhole, content_byte, fenced_at}
 
--- the block is the owned one at this place, it is fenced, and the bytes of each of its words are those of the call from one on
+-- the block is the owned one at this place, a fenced one of the data area, and the bytes of each of its words are those of the call from one on
 pub record HasBytes (s : Seat) (block from : ℕ) : Type 0 where
   pub place : ℕ
   pub inside : place < length s.blocks.owned
   pub block_is : owned_block s place ≡ block
   pub fenced : (owned_at s.blocks.owned place).fenced ≡ true
+  pub area : (owned_at s.blocks.owned place).area ≡ Data
   pub bytes : (index at : ℕ) → index < words_of s → at < 8 → slice_index (word_bytes (content_word s place index ∷ [])) at ≡ slice_index s.calling.bytes (from + 8 * index + at)
 
 module _ (s : Seat) (owns : OwnsWhole s) (block from : ℕ) (has : HasBytes s block from) where

@@ -51,7 +51,7 @@ pub record IsWholeWrite (s : Seat) (word entry : ℕ) : Type 0 where
   pub holds : (place at : ℕ) → place < length (new_meaning s entry).blocks → at < s.geometry.block_bytes →
       slice_index (word_bytes (content_of s (slice_index (new_meaning s entry).blocks place))) at ≡ slice_index s.calling.bytes (place * s.geometry.block_bytes + at)
 
-some_block_bytes : (bytes : ℕ) → is_block_bytes bytes ≡ true → 0 < bytes
+pub some_block_bytes : (bytes : ℕ) → is_block_bytes bytes ≡ true → 0 < bytes
 some_block_bytes bytes allowed = by (bytes == 64) (bytes == 512) (bytes == 4096) refl refl refl allowed
   where
     by : (small middle large : Bool) → (bytes == 64) ≡ small → (bytes == 512) ≡ middle → (bytes == 4096) ≡ large → (small || middle || large) ≡ true → 0 < bytes
