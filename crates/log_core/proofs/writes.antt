@@ -8,3 +8,5 @@ pub mod NewLogBlocks
 pub mod PlacedBytes
 pub mod EntryWords
 pub mod RunWrites
+pub mod RunLists
+pub mod IndirectBlocks
