@@ -1,16 +1,20 @@
 -- The words of an indirect block, by the runs of its blocks, and the word of its entry.
-use Rattle.std.proofs.Common.{◌≡◌, ◌<◌, ◌≤◌, ◌+◌, ◌-◌, ◌^◌, ◌==◌, ◌&&◌, nat_le, nat_lt, ℕ, zero, suc, Bool, true, List, [], ◌∷◌, ◌++◌, length, map, take, drop, replicate, slice_index, refl, sym, ap, ◌∙◌, arith}
+use Rattle.std.proofs.Common.{◌≡◌, ◌<◌, ◌≤◌, ◌+◌, ◌-◌, ◌^◌, ◌==◌, ◌&&◌, nat_le, nat_lt, ℕ, zero, suc, Bool, true, false, List, [], ◌∷◌, ◌++◌, length, length-append, map, take, drop, replicate, slice_index, if◌then◌else◌, refl, sym, ap, ◌∙◌, arith}
 use Rattle.std.specs.List.{flat_map, list_all, AllByRecursion}
 use Rattle.std.proofs.Math.Seq.{take-append_seam, drop-append_seam}
 use Rattle.std.proofs.lemmas.Bool.{le-leb, lt-ltb, eq-eqb}
-use Rattle.std.proofs.lemmas.List.{length-map}
+use Rattle.std.proofs.lemmas.List.{length-map, length-replicate}
 use Rattle.log_entry.specs.Fields.{field}
-use Rattle.log_entry.specs.Words.{indirect_word, run_word}
-use Rattle.log_entry.specs.declared.layouts.TheConstants.{RUNS_VIRT, RUNS_COUNT, RUNS_RUNS, RUNS_LEFTOVER, RUNS_UNNAMED, RUN_BLOCK, RUN_COUNT, RUN_UNNAMED}
+use Rattle.log_entry.specs.Words.{entry_word, indirect_word, run_word}
+use Rattle.log_entry.specs.Shape.{longest_of}
+use Rattle.log_entry.specs.declared.entries.Entry.TheVariants.{Indirect}
+use Rattle.log_core.specs.Entries.{meaning_by}
+use Rattle.log_core.specs.May.{is_log_entry_by}
+use Rattle.log_entry.specs.declared.layouts.TheConstants.{ENTRY_KIND, INDIRECT, INDIRECT_BLOCK, INDIRECT_UNNAMED, RUNS_VIRT, RUNS_COUNT, RUNS_RUNS, RUNS_LEFTOVER, RUNS_UNNAMED, RUN_BLOCK, RUN_COUNT, RUN_UNNAMED}
 use Rattle.log_entry.specs.declared.words.RunWord.{RunWord}
-use Rattle.log_image.specs.Image.{Shape, words_in}
-use Rattle.log_image.specs.Entries.{run_blocks, run_words, indirect_blocks, indirect_meaning}
-use Rattle.log_image.specs.Format.{all_zero, is_run, is_indirect_block}
+use Rattle.log_image.specs.Image.{Shape, words_in, is_in_data}
+use Rattle.log_image.specs.Entries.{Meaning, run_blocks, run_words, indirect_blocks, indirect_meaning}
+use Rattle.log_image.specs.Format.{all_zero, fits, is_run, is_direct, is_indirect, is_indirect_block}
 use Rattle.log_core.proofs.writes.RunLists.{blocks_of_run, blocks_of, IsSmallRun}
 
 -- the words of an indirect block of so many words: its first word, those of the runs, and then 0
@@ -110,3 +114,41 @@ module _ (words virt leftover most : ℕ) (runs : List RunWord) (small_virt : vi
       (ap (λ (l : List ℕ). list_all is_run l) words_are ∙ runs_are most runs low all)
       (eq-eqb (length (indirect_blocks content)) (field RUNS_COUNT first) (ap (λ (l : List ℕ). length l) blocks_are ∙ sym total_field))
       (ap all_zero behind ∙ zeros (words - (1 + length runs))))
+
+  pub indirect_long : 1 + length runs ≤ words → length content ≡ words
+  indirect_long room = (let all_runs = length-append (map run_word runs) rest in let many = long in let zeros_long = length-replicate {A = ℕ} (words - (1 + length runs)) 0 in omega (arith, all_runs, many, zeros_long, room))
+
+-- the word of an indirect entry
+module _ (holder : ℕ) (small : holder < 2 ^ 16) where
+  abbrev pub holder_word : ℕ
+  holder_word = entry_word (Indirect holder)
+
+  holder_kind : field ENTRY_KIND holder_word ≡ INDIRECT
+  holder_kind = omega (arith, small)
+
+  holder_field : field INDIRECT_BLOCK holder_word ≡ holder
+  holder_field = omega (arith, small)
+
+  holder_unnamed : field INDIRECT_UNNAMED holder_word ≡ 0
+  holder_unnamed = omega (arith, small)
+
+  pub holder_small : holder_word < 2 ^ 64
+  holder_small = omega (arith, small)
+
+  holder_is : is_indirect holder_word ≡ true
+  holder_is = rw (holder_kind, holder_unnamed) refl
+
+  -- it means what the words of its block say
+  pub holder_means : (held : ℕ → List ℕ) → meaning_by held holder_word ≡ indirect_meaning holder (held holder)
+  holder_means held = rw (holder_kind) (ap (λ (b : ℕ). indirect_meaning b (held b)) holder_field)
+
+  -- and a log block may have it where that is an indirect block of the data area, and fits
+  pub holder_form : (held : ℕ → List ℕ) (image : Shape) → is_in_data image holder ≡ true → is_indirect_block image (held holder) ≡ true →
+      fits image (longest_of image.block_bytes) (indirect_meaning holder (held holder)) ≡ true → is_log_entry_by held image holder_word ≡ true
+  holder_form held image in_data runs fitting = either (is_direct holder_word) (is_indirect holder_word) (is_in_data image (field INDIRECT_BLOCK holder_word)) (is_indirect_block image (held (field INDIRECT_BLOCK holder_word)))
+      (fits image (longest_of image.block_bytes) (meaning_by held holder_word)) holder_is (ap (λ (b : ℕ). is_in_data image b) holder_field ∙ in_data) (ap (λ (b : ℕ). is_indirect_block image (held b)) holder_field ∙ runs)
+      (ap (λ (m : Meaning). fits image (longest_of image.block_bytes) m) (holder_means held) ∙ fitting)
+    where
+      either : (direct a b c d : Bool) → a ≡ true → b ≡ true → c ≡ true → d ≡ true → ((if direct then true else a && b && c) && d) ≡ true
+      either true a b c d one two three four = four
+      either false a b c d one two three four = rw (one, two, three, four) refl

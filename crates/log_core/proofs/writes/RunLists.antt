@@ -1,8 +1,13 @@
 -- Blocks as runs: each next block makes the last run longer, or begins one.
-use Rattle.std.proofs.Common.{◌≡◌, ◌<◌, ◌≤◌, ◌+◌, ◌^◌, ◌==◌, ℕ, zero, suc, Bool, true, false, List, [], ◌∷◌, ◌++◌, length, refl, sym, ap, ◌∙◌, subst, arith, append_assoc}
+use Rattle.std.proofs.Common.{◌≡◌, ◌<◌, ◌≤◌, ◌+◌, ◌^◌, ◌==◌, ℕ, zero, suc, Bool, true, false, List, [], ◌∷◌, ◌++◌, length, length-append, refl, sym, ap, ◌∙◌, arith, append_assoc}
 use Rattle.std.specs.List.{range_with_len, flat_map, AllByRecursion}
 use Rattle.std.proofs.lemmas.Bool.{eqb-true}
+use Rattle.std.proofs.lemmas.List.FromFn.{length-range_with_len}
 use Rattle.log_entry.specs.declared.words.RunWord.{RunWord}
+use Rattle.log_image.specs.Chains.{is_listed}
+use Rattle.log_core.proofs.BlockLists.{in_range}
+use Rattle.log_core.proofs.Each.{each_weaker}
+use Rattle.log_core.proofs.clauses.Apart.{has_left, has_right}
 
 abbrev pub blocks_of_run : RunWord → List ℕ
 blocks_of_run run = range_with_len run.block run.count
@@ -63,57 +68,61 @@ blocks_from runs (block ∷ blocks) = blocks_from (pushed runs block) blocks ∙
 pub blocks_back : (blocks : List ℕ) → blocks_of (runs_of blocks) ≡ blocks
 blocks_back blocks = blocks_from [] blocks
 
--- they are no more than the blocks, and some where there are some
-pub few_pushed : (runs : List RunWord) (block : ℕ) → length (pushed runs block) ≤ length runs + 1
-few_pushed [] block = omega arith
-few_pushed (run ∷ []) block = go (run.block + run.count == block)
+-- with one block more they are these
+pub runs_more : (blocks : List ℕ) (block : ℕ) → runs_of (blocks ++ block ∷ []) ≡ pushed (runs_of blocks) block
+runs_more blocks block = from [] blocks
   where
-    go : (next : Bool) → length (extended next run block) ≤ 2
-    go true = omega arith
-    go false = omega arith
-few_pushed (run ∷ next ∷ runs) block = (let rest = few_pushed (next ∷ runs) block in omega (arith, rest))
+    from : (runs : List RunWord) (blocks : List ℕ) → runs_from runs (blocks ++ block ∷ []) ≡ pushed (runs_from runs blocks) block
+    from runs [] = refl
+    from runs (first ∷ blocks) = from (pushed runs first) blocks
 
-pub some_pushed : (runs : List RunWord) (block : ℕ) → (1 ≤ length (pushed runs block)) × (length runs ≤ length (pushed runs block))
-some_pushed [] block = (omega arith, omega arith)
-some_pushed (run ∷ []) block = go (run.block + run.count == block)
+-- runs of at least one block each
+abbrev pub AreRuns : List RunWord → Type 0
+AreRuns runs = AllByRecursion (λ (run : RunWord). 1 ≤ run.count) runs
+
+pub are_pushed : (runs : List RunWord) (block : ℕ) → AreRuns runs → AreRuns (pushed runs block)
+are_pushed [] block all = (omega arith, tt)
+are_pushed (run ∷ []) block all = go (run.block + run.count == block)
   where
-    go : (next : Bool) → (1 ≤ length (extended next run block)) × (1 ≤ length (extended next run block))
-    go true = (omega arith, omega arith)
-    go false = (omega arith, omega arith)
-some_pushed (run ∷ next ∷ runs) block = (let rest = (some_pushed (next ∷ runs) block).1 in (omega arith, omega (arith, rest)))
+    go : (next : Bool) → AreRuns (extended next run block)
+    go true = (omega arith, tt)
+    go false = (all.0, (omega arith, tt))
+are_pushed (run ∷ next ∷ runs) block all = (all.0, are_pushed (next ∷ runs) block all.1)
 
-few_from : (runs : List RunWord) (blocks : List ℕ) → (length runs ≤ length (runs_from runs blocks)) × (length (runs_from runs blocks) ≤ length runs + length blocks)
-few_from runs [] = (omega arith, omega arith)
-few_from runs (block ∷ blocks) = (let rest = few_from (pushed runs block) blocks in let few = few_pushed runs block in let some = (some_pushed runs block).1 in
-    (omega (arith, rest.0, some), omega (arith, rest.1, few)))
+pub are_runs : (blocks : List ℕ) → AreRuns (runs_of blocks)
+are_runs blocks = from [] blocks tt
+  where
+    from : (runs : List RunWord) (blocks : List ℕ) → AreRuns runs → AreRuns (runs_from runs blocks)
+    from runs [] all = all
+    from runs (block ∷ blocks) all = from (pushed runs block) blocks (are_pushed runs block all)
 
-pub few_runs : (blocks : List ℕ) → length (runs_of blocks) ≤ length blocks
-few_runs blocks = (let few = (few_from [] blocks).1 in omega (arith, few))
-
-pub some_runs : (blocks : List ℕ) → 1 ≤ length blocks → 1 ≤ length (runs_of blocks)
-some_runs [] some = absurd (omega (arith, some))
-some_runs (block ∷ blocks) some = (let more = (few_from (pushed [] block) blocks).0 in omega (arith, more))
-
--- a run of blocks of at most so many, whose first has 16 bits
+-- a run of at least one block and at most so many, whose first has 16 bits
 pub record IsSmallRun (most : ℕ) (run : RunWord) : Type 0 where
   pub block : run.block < 2 ^ 16
   pub some : 1 ≤ run.count
   pub few : run.count ≤ most
 
-pub small_pushed : (most : ℕ) (runs : List RunWord) (block : ℕ) → block < 2 ^ 16 → AllByRecursion (IsSmallRun most) runs → AllByRecursion (IsSmallRun (most + 1)) (pushed runs block)
-small_pushed most [] block small all = (record { block = small; some = omega arith; few = omega arith }, tt)
-small_pushed most (run ∷ []) block small all = go (run.block + run.count == block)
-  where
-    go : (next : Bool) → AllByRecursion (IsSmallRun (most + 1)) (extended next run block)
-    go true = (record { block = all.0.block; some = omega arith; few = (let few = all.0.few in omega (arith, few)) }, tt)
-    go false = (record { block = all.0.block; some = all.0.some; few = (let few = all.0.few in omega (arith, few)) }, (record { block = small; some = omega arith; few = omega arith }, tt))
-small_pushed most (run ∷ next ∷ runs) block small all =
-    (record { block = all.0.block; some = all.0.some; few = (let few = all.0.few in omega (arith, few)) }, small_pushed most (next ∷ runs) block small all.1)
+-- runs are no more than their blocks, and of no other numbers
+pub length_blocks : (run : RunWord) (runs : List RunWord) → length (blocks_of (run ∷ runs)) ≡ run.count + length (blocks_of runs)
+length_blocks run runs = length-append (blocks_of_run run) (blocks_of runs) ∙ ap (λ (n : ℕ). n + length (blocks_of runs)) (length-range_with_len run.block run.count)
 
-small_from : (most : ℕ) (runs : List RunWord) (blocks : List ℕ) → AllByRecursion (λ (block : ℕ). block < 2 ^ 16) blocks → AllByRecursion (IsSmallRun most) runs → AllByRecursion (IsSmallRun (most + length blocks)) (runs_from runs blocks)
-small_from most runs [] small all = subst (λ (n : ℕ). AllByRecursion (IsSmallRun n) runs) (let same : most ≡ most + 0 = omega arith in same) all
-small_from most runs (block ∷ blocks) small all = subst (λ (n : ℕ). AllByRecursion (IsSmallRun n) (runs_from (pushed runs block) blocks)) (let same : most + 1 + length blocks ≡ most + suc (length blocks) = omega arith in same)
-    (small_from (most + 1) (pushed runs block) blocks small.1 (small_pushed most runs block small.0 all))
+pub few_runs : (runs : List RunWord) → AreRuns runs → length runs ≤ length (blocks_of runs)
+few_runs [] all = omega arith
+few_runs (run ∷ runs) all = (let rest = few_runs runs all.1 in let long = length_blocks run runs in let some = all.0 in omega (arith, rest, long, some))
 
-pub small_runs : (blocks : List ℕ) → AllByRecursion (λ (block : ℕ). block < 2 ^ 16) blocks → AllByRecursion (IsSmallRun (length blocks)) (runs_of blocks)
-small_runs blocks small = subst (λ (n : ℕ). AllByRecursion (IsSmallRun n) (runs_of blocks)) (let same : 0 + length blocks ≡ length blocks = omega arith in same) (small_from 0 [] blocks small tt)
+pub some_runs : (runs : List RunWord) → 1 ≤ length (blocks_of runs) → 1 ≤ length runs
+some_runs [] some = absurd (omega (arith, some))
+some_runs (run ∷ runs) some = omega arith
+
+pub small_runs : (runs : List RunWord) → AreRuns runs → ((block : ℕ) → is_listed (blocks_of runs) block ≡ true → block < 2 ^ 16) → AllByRecursion (IsSmallRun (length (blocks_of runs))) runs
+small_runs [] all small = tt
+small_runs (run ∷ runs) all small = (
+  record {
+    block = small run.block (has_left (blocks_of_run run) (blocks_of runs) run.block (in_range run.block run.count run.block (omega arith) (let some = all.0 in omega (arith, some))));
+    some = all.0;
+    few = (let long = length_blocks run runs in omega (arith, long));
+  },
+  each_weaker (IsSmallRun (length (blocks_of runs))) (IsSmallRun (length (blocks_of (run ∷ runs)))) runs
+      (λ other is. record { block = is.block; some = is.some; few = (let low = is.few in let long = length_blocks run runs in omega (arith, low, long)) })
+      (small_runs runs all.1 (λ block listed. small block (has_right (blocks_of_run run) (blocks_of runs) block listed))),
+)
