@@ -10,3 +10,4 @@ pub mod EntryWords
 pub mod RunWrites
 pub mod RunLists
 pub mod IndirectBlocks
+pub mod RunsWrites

@@ -36,7 +36,7 @@ module _ (s : Seat) (owns : OwnsWhole s) (block from : ℕ) (has : HasBytes s bl
       eight = eight_words s.geometry.block_bytes s.geometry.block_allowed
 
 -- a number that is listed stands at a place
-listed_place : (numbers : List ℕ) (number : ℕ) → is_listed numbers number ≡ true → (place : ℕ) × (place < length numbers) × (slice_index numbers place ≡ number)
+pub listed_place : (numbers : List ℕ) (number : ℕ) → is_listed numbers number ≡ true → (place : ℕ) × (place < length numbers) × (slice_index numbers place ≡ number)
 listed_place [] number listed = cc
 listed_place (first ∷ numbers) number listed = go (first == number) refl listed (λ later. listed_place numbers number later)
   where
