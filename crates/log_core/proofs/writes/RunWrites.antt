@@ -1,10 +1,12 @@
 -- When a write of whole blocks into one run of owned blocks may be committed, with a direct entry.
-use Rattle.std.proofs.Common.{◌≡◌, ◌≢◌, ◌<◌, ◌≤◌, ◌+◌, ◌-◌, ◌*◌, ◌^◌, nat_le, ℕ, true, [], length, slice_index, sym, ap, ◌∙◌, subst, arith}
+use Rattle.std.proofs.Common.{◌≡◌, ◌≢◌, ◌<◌, ◌≤◌, ◌+◌, ◌-◌, ◌*◌, ◌^◌, nat_le, nat_lt, ℕ, zero, suc, Bool, true, false, if◌then◌else◌, List, [], ◌∷◌, length, slice_index, refl, sym, ap, ◌∙◌, subst, arith}
 use Rattle.std.specs.List.{range_with_len}
-use Rattle.std.proofs.lemmas.Bool.{leb-true, and_parts}
+use Rattle.std.proofs.Math.Nat.{le_of_mul-le-mul_right}
+use Rattle.std.proofs.lemmas.Bool.{leb-true, ltb-false, and_parts}
 use Rattle.std.proofs.lemmas.List.FromFn.{length-range_with_len, get_or-range_with_len}
-use Rattle.log_entry.specs.Shape.{longest_of}
-use Rattle.log_entry.specs.Legal.{last_position}
+use Rattle.log_entry.specs.Shape.{longest_of, limit_of}
+use Rattle.log_entry.specs.Legal.{last_position, touched_blocks}
+use Rattle.log_entry.specs.declared.calls.Op.TheVariants.{Pwrite as PwriteOp}
 use Rattle.log_entry.specs.WordBytes.{word_bytes}
 use Rattle.log_entry.specs.Words.{entry_word}
 use Rattle.log_entry.specs.declared.entries.Entry.TheVariants.{Direct}
@@ -18,7 +20,7 @@ use Rattle.log_core.specs.Entries.{place_in}
 use Rattle.log_core.specs.Views.{Ghost, view_of}
 use Rattle.log_core.specs.Origin.{Origin}
 use Rattle.log_core.specs.Cores.{Core}
-use Rattle.log_core.specs.Works.{seat_shape, words_of}
+use Rattle.log_core.specs.Works.{seat_shape, words_of, is_quiet}
 use Rattle.log_core.specs.Steps.{content_of, new_meaning}
 use Rattle.log_core.specs.May.{is_fenced, IsAtTail, MayExchangeSlot}
 use Rattle.log_core.specs.Invariant.{Invariant}
@@ -26,7 +28,7 @@ use Rattle.log_core.specs.Knows.{Knows}
 use Rattle.log_core.proofs.writes.OwnAreas.{owns_whole, owned_in_data}
 use Rattle.log_core.proofs.writes.PlacedBytes.{HasBytes, blocks_fenced, blocks_hold}
 use Rattle.log_core.proofs.writes.EntryWords.{direct_small, direct_meaning_by, direct_form}
-use Rattle.log_core.proofs.writes.WholeWrites.{IsWholeWrite, some_block_bytes, may_exchange_whole}
+use Rattle.log_core.proofs.writes.WholeWrites.{IsWholeWrite, whole_touched, some_block_bytes, may_exchange_whole}
 
 -- a view at its tail's slot runs a `pwrite` of whole blocks that no position refuses
 pub record IsWriting (s : Seat) (word virt count : ℕ) : Type 0 where
@@ -39,6 +41,28 @@ pub record IsWriting (s : Seat) (word virt count : ℕ) : Type 0 where
   pub some : 0 < count
   pub few : count ≤ longest_of s.geometry.block_bytes
   pub within : virt + count ≤ 65536
+
+-- whole blocks that are not refused on their arguments alone are some, no more than a write may touch, and within the file
+pub not_quiet : (size virt count : ℕ) (bytes : List ℕ) → 0 < size → length bytes ≡ count * size → is_quiet size (PwriteOp (virt * size) bytes) ≡ false →
+    (0 < count) × (count ≤ longest_of size) × (virt + count ≤ 65536)
+not_quiet size virt count [] big long loud = cc
+not_quiet size virt zero (byte ∷ bytes) big long loud = absurd (omega (arith, long))
+not_quiet size virt (suc count) (byte ∷ bytes) big long loud = (
+  omega arith,
+  (let few = ltb-false (longest_of size) (touched_blocks size (virt * size) (length (byte ∷ bytes))) parts.0 in omega (arith, few, touched)),
+  le_of_mul-le-mul_right (let low = ltb-false (limit_of size) (virt * size + length (byte ∷ bytes)) parts.1 in
+      let all : (virt + suc count) * size ≡ virt * size + suc count * size = omega arith in omega (arith, low, all, long)) big,
+)
+  where
+    touched : touched_blocks size (virt * size) (length (byte ∷ bytes)) ≡ suc count
+    touched = ap (λ (n : ℕ). touched_blocks size (virt * size) n) long ∙ whole_touched size virt (suc count) big (omega arith)
+
+    neither : (a b : Bool) → (if a then true else b) ≡ false → (a ≡ false) × (b ≡ false)
+    neither true b e = cc
+    neither false b e = (refl, e)
+
+    parts : (nat_lt (longest_of size) (touched_blocks size (virt * size) (length (byte ∷ bytes))) ≡ false) × (nat_lt (limit_of size) (virt * size + length (byte ∷ bytes)) ≡ false)
+    parts = neither (nat_lt (longest_of size) (touched_blocks size (virt * size) (length (byte ∷ bytes)))) (nat_lt (limit_of size) (virt * size + length (byte ∷ bytes))) loud
 
 -- as many blocks from one on are owned and hold its bytes, one after another
 pub record IsRunWrite (s : Seat) (word virt block count : ℕ) : Type 0 where

@@ -65,7 +65,7 @@ some_list [] some = absurd (omega (arith, some))
 some_list (byte ∷ bytes) some = refl
 
 -- whole blocks touch as many as they are
-whole_touched : (bytes virt count : ℕ) → 0 < bytes → 1 ≤ count → touched_blocks bytes (virt * bytes) (count * bytes) ≡ count
+pub whole_touched : (bytes virt count : ℕ) → 0 < bytes → 1 ≤ count → touched_blocks bytes (virt * bytes) (count * bytes) ≡ count
 whole_touched bytes virt count some few =
     (let room : 1 * bytes ≤ count * bytes = mul-le-mul_right bytes few in
     let last_is : virt * bytes + count * bytes - 1 ≡ (virt + (count - 1)) * bytes + (bytes - 1) =
