@@ -11,3 +11,4 @@ pub mod RunWrites
 pub mod RunLists
 pub mod IndirectBlocks
 pub mod RunsWrites
+pub mod WriteRows
