@@ -1,8 +1,9 @@
 -- Seats that meet the conditions of writes and of new log blocks: those of worked rows.
-use Rattle.std.proofs.Common.{◌≡◌, ◌<◌, ◌≤◌, ◌+◌, ◌*◌, ◌==◌, ℕ, zero, suc, true, [], ◌∷◌, replicate, slice_index, refl, arith}
+use Rattle.std.proofs.Common.{◌≡◌, ◌<◌, ◌≤◌, ◌+◌, ◌*◌, ◌==◌, ℕ, zero, suc, Bool, true, [], ◌∷◌, length, replicate, slice_index, refl, arith}
 use Rattle.log_entry.specs.WordBytes.{word_bytes}
 use Rattle.log_entry.specs.declared.shapes.Area.TheVariants.{Data}
-use Rattle.pmem_words.specs.Seats.{Seat}
+use Rattle.pmem_words.specs.Owned.{owned_at}
+use Rattle.pmem_words.specs.Seats.{Seat, Blocks}
 use Rattle.log_core.specs.Views.{view_of}
 use Rattle.log_core.specs.Works.{content_word}
 use Rattle.log_core.specs.worked_rows.Rows.{linking}
@@ -18,9 +19,12 @@ use Rattle.log_core.proofs.writes.NewLogBlocks.{IsNewLogBlock, IsAtLink}
 two_below : (m n : ℕ) (f g : ℕ → ℕ → ℕ) (i j : ℕ) → all_below m (λ a. all_below n (λ b. f a b == g a b)) ≡ true → i < m → j < n → f i j ≡ g i j
 two_below m n f g i j all low less = below_same n (λ b. f i b) (λ b. g i b) j (below_all m (λ a. all_below n (λ b. f a b == g a b)) i all low) less
 
--- 128 bytes at 256 into the blocks 1 and 3, whose runs block 5 holds
-runs_writing : IsWriting runs_writer 83 4 2
-runs_writing = record {
+-- the seat that writes 128 bytes at 256, with these blocks
+abbrev writer : Blocks → Seat
+writer blocks = record runs_writer { blocks = blocks }
+
+writing : (blocks : Blocks) → IsWriting (writer blocks) 83 4 2
+writing blocks = record {
   at_tail = record { valid = refl; ready = refl; not_won = refl; at_tail = refl };
   slot = refl;
   inside = omega arith;
@@ -35,9 +39,25 @@ runs_writing = record {
 abbrev word_byte : Seat → ℕ → ℕ → ℕ → ℕ
 word_byte s place index at = slice_index (word_bytes (content_word s place index ∷ [])) at
 
+-- a block has 64 of its bytes
+abbrev are_bytes : Seat → ℕ → ℕ → Bool
+are_bytes s place from = all_below 8 (λ index. all_below 8 (λ at. word_byte s place index at == slice_index (replicate 128 7) (from + 8 * index + at)))
+
+full : (blocks : Blocks) (place from : ℕ) → place < length blocks.owned → (owned_at blocks.owned place).fenced ≡ true → (owned_at blocks.owned place).area ≡ Data → are_bytes (writer blocks) place from ≡ true →
+    HasBytes (writer blocks) (owned_at blocks.owned place).block from
+full blocks place from inside fenced area all = record {
+  place = place;
+  inside = inside;
+  block_is = refl;
+  fenced = fenced;
+  area = area;
+  bytes = λ index at low less. two_below 8 8 (λ k b. word_byte (writer blocks) place k b) (λ k b. slice_index (replicate 128 7) (from + 8 * k + b)) index at all low less;
+}
+
+-- it writes into the blocks 1 and 3, whose runs block 5 holds
 runs_row : IsRunsWrite runs_writer 83 4 5 (runs_of (1 ∷ 3 ∷ []))
 runs_row = record {
-  writing = runs_writing;
+  writing = writing runs_writer.blocks;
   are_runs = (omega arith, (omega arith, tt));
   once = refl;
   each = each;
@@ -45,66 +65,23 @@ runs_row = record {
 }
   where
     each : (place : ℕ) → place < 2 → HasBytes runs_writer (slice_index (1 ∷ 3 ∷ []) place) (place * 64)
-    each zero low = record {
-      place = 0;
-      inside = omega arith;
-      block_is = refl;
-      fenced = refl;
-      area = refl;
-      bytes = λ index at low less. two_below 8 8 (λ k b. word_byte runs_writer 0 k b) (λ k b. slice_index (replicate 128 7) (0 * 64 + 8 * k + b)) index at refl low less;
-    }
-    each (suc zero) low = record {
-      place = 1;
-      inside = omega arith;
-      block_is = refl;
-      fenced = refl;
-      area = refl;
-      bytes = λ index at low less. two_below 8 8 (λ k b. word_byte runs_writer 1 k b) (λ k b. slice_index (replicate 128 7) (1 * 64 + 8 * k + b)) index at refl low less;
-    }
+    each zero low = full runs_writer.blocks 0 0 (omega arith) refl refl refl
+    each (suc zero) low = full runs_writer.blocks 1 64 (omega arith) refl refl refl
     each (suc (suc place)) low = absurd (omega (arith, low))
 
--- the same bytes into the blocks 1 and 2
-abbrev pub run_writer : Seat
-run_writer = record runs_writer {
-  blocks = record runs_writer.blocks {
-    owned = record { block = 1; area = Data; filled = true; fenced = true } ∷ record { block = 2; area = Data; filled = true; fenced = true } ∷ [];
-    contents = replicate 16 sevens;
-  };
+-- and into the blocks 1 and 2
+abbrev one_run : Blocks
+one_run = record runs_writer.blocks {
+  owned = record { block = 1; area = Data; filled = true; fenced = true } ∷ record { block = 2; area = Data; filled = true; fenced = true } ∷ [];
+  contents = replicate 16 sevens;
 }
 
-run_row : IsRunWrite run_writer 83 4 1 2
-run_row = record {
-  writing = record {
-    at_tail = record { valid = refl; ready = refl; not_won = refl; at_tail = refl };
-    slot = refl;
-    inside = omega arith;
-    below_last = λ e. omega (arith, e);
-    job = refl;
-    long = refl;
-    some = omega arith;
-    few = omega arith;
-    within = omega arith;
-  };
-  each = each;
-}
+run_row : IsRunWrite (writer one_run) 83 4 1 2
+run_row = record { writing = writing one_run; each = each }
   where
-    each : (place : ℕ) → place < 2 → HasBytes run_writer (1 + place) (place * 64)
-    each zero low = record {
-      place = 0;
-      inside = omega arith;
-      block_is = refl;
-      fenced = refl;
-      area = refl;
-      bytes = λ index at low less. two_below 8 8 (λ k b. word_byte run_writer 0 k b) (λ k b. slice_index (replicate 128 7) (0 * 64 + 8 * k + b)) index at refl low less;
-    }
-    each (suc zero) low = record {
-      place = 1;
-      inside = omega arith;
-      block_is = refl;
-      fenced = refl;
-      area = refl;
-      bytes = λ index at low less. two_below 8 8 (λ k b. word_byte run_writer 1 k b) (λ k b. slice_index (replicate 128 7) (1 * 64 + 8 * k + b)) index at refl low less;
-    }
+    each : (place : ℕ) → place < 2 → HasBytes (writer one_run) (1 + place) (place * 64)
+    each zero low = full one_run 0 0 (omega arith) refl refl refl
+    each (suc zero) low = full one_run 1 64 (omega arith) refl refl refl
     each (suc (suc place)) low = absurd (omega (arith, low))
 
 -- a log block that was filled for the link of a sealed one
