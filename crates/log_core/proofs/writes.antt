@@ -12,3 +12,4 @@ pub mod RunLists
 pub mod IndirectBlocks
 pub mod RunsWrites
 pub mod WriteRows
+pub mod AskedExchanges
