@@ -1,6 +1,10 @@
 -- Owned blocks, by their places, that hold the bytes of the call, one block after another.
-use Rattle.std.proofs.Common.{◌≡◌, ◌<◌, ◌+◌, ◌*◌, ◌/◌, ◌%◌, ◌==◌, ◌||◌, ℕ, suc, Bool, true, false, List, [], ◌∷◌, length, slice_index, refl, sym, ap, ◌∙◌, subst, arith}
-use Rattle.std.proofs.lemmas.Bool.{eqb-true}
+use Rattle.std.proofs.Common.{◌≡◌, ◌<◌, ◌≤◌, ◌+◌, ◌*◌, ◌/◌, ◌%◌, ◌==◌, ◌||◌, ◌⊎◌, inl, inr, ℕ, suc, Bool, true, false, List, [], ◌∷◌, ◌++◌, length, take, drop, slice_index, refl, sym, ap, ◌∙◌, subst, arith}
+use Rattle.std.proofs.lemmas.Bool.{eqb-true, cases_lt}
+use Rattle.std.proofs.lemmas.List.{length-take, length-drop, get_or-take, get_or-drop, get_or_past, get_or_append_left}
+use Rattle.byteorder.specs.Endian.{little_bytes, little_number}
+use Rattle.byteorder.specs.Numbers.{little_from-take}
+use Rattle.log_entry.proofs.WordBytesLemmas.{bytes_back}
 use Rattle.log_entry.specs.WordBytes.{word_bytes}
 use Rattle.log_entry.specs.declared.shapes.Area.TheVariants.{Data}
 use Rattle.log_image.specs.Chains.{is_listed}
@@ -20,6 +24,29 @@ pub record HasBytes (s : Seat) (block from : ℕ) : Type 0 where
   pub fenced : (owned_at s.blocks.owned place).fenced ≡ true
   pub area : (owned_at s.blocks.owned place).area ≡ Data
   pub bytes : (index at : ℕ) → index < words_of s → at < 8 → slice_index (word_bytes (content_word s place index ∷ [])) at ≡ slice_index s.calling.bytes (from + 8 * index + at)
+
+-- the number that eight bytes are is a word that has them
+pub word_has : (bytes : List ℕ) (from : ℕ) → from + 8 ≤ length bytes → ((k : ℕ) → slice_index bytes k < 256) →
+    (at : ℕ) → at < 8 → slice_index (word_bytes (little_number 8 (drop from bytes) ∷ [])) at ≡ slice_index bytes (from + at)
+word_has bytes from inside small at low =
+    ap (λ (l : List ℕ). slice_index (l ++ []) at) (ap (λ (n : ℕ). little_bytes 8 n) same ∙ bytes_back next eight next_small)
+    ∙ (get_or_append_left next [] 0 at (omega (arith, low, eight)) ∙ (get_or-take 8 (drop from bytes) at 0 low ∙ get_or-drop from bytes at 0))
+  where
+    next : List ℕ
+    next = take 8 (drop from bytes)
+
+    eight : length next ≡ 8
+    eight = length-take 8 (drop from bytes) ∙ (let long = length-drop from bytes in omega (arith, long, inside))
+
+    same : little_number 8 (drop from bytes) ≡ little_number 8 next
+    same = sym (little_from-take 0 8 8 (drop from bytes) (omega arith))
+
+    next_small : (k : ℕ) → slice_index next k < 256
+    next_small k = go (cases_lt k 8)
+      where
+        go : (k < 8) ⊎ (8 ≤ k) → slice_index next k < 256
+        go (inl below) = subst (λ (byte : ℕ). byte < 256) (sym (get_or-take 8 (drop from bytes) k 0 below ∙ get_or-drop from bytes k 0)) (small (from + k))
+        go (inr past) = subst (λ (byte : ℕ). byte < 256) (sym (get_or_past next k 0 (omega (arith, past, eight)))) (omega arith)
 
 module _ (s : Seat) (owns : OwnsWhole s) (block from : ℕ) (has : HasBytes s block from) where
   pub bytes_fenced : is_fenced s.blocks.owned block ≡ true
