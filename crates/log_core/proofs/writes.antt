@@ -1,6 +1,7 @@
 -- When a write, or a new log block, may be put into the chain: by the seat's state alone.
 pub mod LaidBytes
 pub mod GivenBlocks
+pub mod LaidWrites
 pub mod WholeWrites
 pub mod OwnContents
 pub mod OwnAreas

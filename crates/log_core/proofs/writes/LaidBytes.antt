@@ -1,5 +1,7 @@
 -- A file after bytes are laid over it, place by place.
-use Rattle.std.proofs.Common.{◌≡◌, ◌<◌, ◌≤◌, ◌+◌, ◌-◌, max, ℕ, List, [], ◌∷◌, ◌++◌, length, take, drop, replicate, slice_index, refl, ap, ◌∙◌, arith, length-append, length-take, length-drop}
+use Rattle.std.proofs.Common.{◌≡◌, ◌<◌, ◌≤◌, ◌+◌, ◌-◌, ◌⊎◌, inl, inr, max, ℕ, List, [], ◌∷◌, ◌++◌, length, take, drop, replicate, slice_index, refl, sym, ap, ◌∙◌, arith, length-append, length-take, length-drop}
+use Rattle.std.proofs.lemmas.Bool.{cases_lt}
+use Rattle.std.proofs.lemmas.Grind.{same_number_lists}
 use Rattle.std.proofs.lemmas.List.{get_or_append_left, get_or-append_right, get_or-take, get_or-drop, length-replicate}
 use Rattle.log_entry.specs.ByteFile.{write, with_zeros_to, with_bytes_over}
 use Rattle.log_image.proofs.HoldingLemmas.{zeros_after}
@@ -53,3 +55,14 @@ module _ (file : List ℕ) (offset : ℕ) (bytes : List ℕ) (some : 0 < length 
       ∙ (get_or-drop (offset + length bytes) long (at - (offset + length bytes)) 0
       ∙ (ap (λ (k : ℕ). slice_index long k) (let same : offset + length bytes + (at - (offset + length bytes)) ≡ at = omega (arith, past) in same)
       ∙ zeros_after file (offset - length file) at)))
+
+-- an append lays bytes over the file from its end on
+pub append_laid : (file : List ℕ) (offset : ℕ) (bytes : List ℕ) → 0 < length bytes → offset ≡ length file → file ++ bytes ≡ write file offset bytes
+append_laid file offset bytes some is = same_number_lists (file ++ bytes) (write file offset bytes)
+    (length-append file bytes ∙ (let long = length_laid file offset bytes some in omega (arith, long, is))) (λ at low. go at low (cases_lt at offset))
+  where
+    go : (at : ℕ) → at < length (file ++ bytes) → (at < offset) ⊎ (offset ≤ at) → slice_index (file ++ bytes) at ≡ slice_index (write file offset bytes) at
+    go at low (inl before) = get_or_append_left file bytes 0 at (omega (arith, before, is)) ∙ sym (byte_before file offset bytes some at before)
+    go at low (inr past) = get_or-append_right file bytes offset at 0 (sym is) past
+        ∙ (sym (byte_inside file offset bytes some (at - offset) (omega (arith, low, past, is, length-append file bytes)))
+        ∙ ap (λ (k : ℕ). slice_index (write file offset bytes) k) (let same : offset + (at - offset) ≡ at = omega (arith, past) in same))
