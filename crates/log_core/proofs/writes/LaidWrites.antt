@@ -1,5 +1,5 @@
 -- When a write of any bytes may be committed: by the seat's state alone.
-use Rattle.std.proofs.Common.{◌≡◌, ◌≢◌, ◌<◌, ◌≤◌, ◌+◌, ◌-◌, ◌*◌, ◌^◌, ◌==◌, ◌⊎◌, inl, inr, max, ℕ, Bool, true, false, List, [], ◌∷◌, length, slice_index, Some, None, refl, sym, ap, ◌∙◌, subst, arith, mul-le-mul_right}
+use Rattle.std.proofs.Common.{◌≡◌, ◌≢◌, ◌<◌, ◌≤◌, ◌+◌, ◌-◌, ◌*◌, ◌^◌, ◌==◌, ◌⊎◌, inl, inr, max, ℕ, Bool, true, false, List, [], ◌∷◌, length, slice_index, Option, Some, None, refl, sym, ap, ◌∙◌, subst, arith, mul-le-mul_right}
 use Rattle.std.proofs.lemmas.Bool.{eqb-true, eqb-false, cases_lt}
 use Rattle.log_entry.specs.WordBytes.{word_bytes}
 use Rattle.log_entry.specs.ByteFile.{write}
@@ -12,15 +12,18 @@ use Rattle.log_image.specs.Entries.{Meaning, names}
 use Rattle.log_image.specs.Maps.{block_in, entry_end}
 use Rattle.log_image.specs.Chains.{is_listed, all_different}
 use Rattle.log_image.proofs.NameLemmas.{test_in}
+use Rattle.pmem_words.specs.Maps.{map_at}
 use Rattle.pmem_words.specs.Seats.{Seat}
 use Rattle.log_core.specs.Entries.{place_in}
 use Rattle.log_core.specs.Views.{Ghost, view_of, op_in}
-use Rattle.log_core.specs.Origin.{Origin, shape}
+use Rattle.log_core.specs.Origin.{Origin, shape, Generation}
 use Rattle.log_core.specs.Files.{entries, file_at, accepted_reply, byte_in}
 use Rattle.log_core.specs.Cores.{Core}
 use Rattle.log_core.specs.Works.{seat_shape, words_of}
 use Rattle.log_core.specs.Steps.{content_of, new_meaning}
 use Rattle.log_core.specs.May.{is_fenced, is_log_entry_by, refusal_at, IsAtTail, MayCommit, MayExchangeSlot}
+use Rattle.log_core.specs.Order.{nth_generation}
+use Rattle.log_core.specs.Contents.{HoldsFileAt}
 use Rattle.log_core.specs.Walks.{WalkHolds, HasWalked}
 use Rattle.log_core.specs.Invariant.{Invariant, around}
 use Rattle.log_core.specs.Knows.{Knows}
@@ -42,9 +45,14 @@ pub record IsBaseByte (s : Seat) (virt at byte : ℕ) : Type 0 where
   pub known : base * s.geometry.block_bytes + at < 8 * length s.calling.base_words
   pub is : byte ≡ slice_index (word_bytes s.calling.base_words) (base * s.geometry.block_bytes + at)
 
+-- a byte of a virtual block as it is: by the bases, or 0 where the view's map has no block for it
+pub data IsOldByte (s : Seat) (virt at byte : ℕ) : Type 0 where
+  ByBase : IsBaseByte s virt at byte → IsOldByte s virt at byte
+  Unmapped : map_at s.walk.map virt ≡ None → byte ≡ 0 → IsOldByte s virt at byte
+
 -- a write that nothing refuses, and an entry for the tail's slot whose virtual blocks have the bytes' places, and which ends where they
 -- do or before the file's end. The blocks that it names are owned and fenced, none twice; they hold the call's bytes, and elsewhere the
--- bytes of the bases
+-- bytes that there are
 pub record IsLaidWrite (s : Seat) (word entry : ℕ) : Type 0 where
   pub at_tail : IsAtTail s
   pub slot : word ≡ place_in (seat_shape s) s.walk.tail_block s.walk.tail_slot
@@ -67,7 +75,7 @@ pub record IsLaidWrite (s : Seat) (word entry : ℕ) : Type 0 where
       slice_index (word_bytes (content_of s (slice_index (new_meaning s entry).blocks place))) at ≡ slice_index s.calling.bytes byte
   pub old : (place at : ℕ) → place < length (new_meaning s entry).blocks → at < s.geometry.block_bytes →
       (((new_meaning s entry).virt + place) * s.geometry.block_bytes + at < offset) ⊎ (offset + length s.calling.bytes ≤ ((new_meaning s entry).virt + place) * s.geometry.block_bytes + at) →
-      IsBaseByte s ((new_meaning s entry).virt + place) at (slice_index (word_bytes (content_of s (slice_index (new_meaning s entry).blocks place))) at)
+      IsOldByte s ((new_meaning s entry).virt + place) at (slice_index (word_bytes (content_of s (slice_index (new_meaning s entry).blocks place))) at)
 
 pub some_list : (bytes : List ℕ) → 0 < length bytes → is_some_bytes bytes ≡ true
 some_list [] some = absurd (omega (arith, some))
@@ -88,7 +96,7 @@ lays_write s offset op lays some = elim lays as (λ o l. is_write o (accepted_re
 ]
 
 module _ (s : Seat) (word entry : ℕ) (w : IsLaidWrite s word entry) (file : List ℕ) (same_size : s.walk.size ≡ length file)
-    (known : (virt at byte : ℕ) → at < s.geometry.block_bytes → IsBaseByte s virt at byte → byte ≡ slice_index file (virt * s.geometry.block_bytes + at)) where
+    (known : (virt at byte : ℕ) → at < s.geometry.block_bytes → IsOldByte s virt at byte → byte ≡ slice_index file (virt * s.geometry.block_bytes + at)) where
   abbrev m : Meaning
   m = new_meaning s entry
 
@@ -163,11 +171,22 @@ module _ (o : Origin) (c : Core) (n : ℕ) (s : Seat) (g : Ghost) (pin began : �
         go true e = (let at = (has_walked.at_end (eqb-true s.walk.tail_slot (words_in (shape o)) e)).1 in omega (arith, at))
         go false e = (let at = (has_walked.inside (eqb-false s.walk.tail_slot (words_in (shape o)) e)).0 in omega (arith, at))
 
+    abbrev chain : Generation
+    chain = nth_generation c.generations (place o c n s g pin began inv f valid)
+
+    base_low : chain.base ≤ s.walk.position
+    base_low = (let base = walk_holds.ready_base ready in let tail = walk_holds.ready_tail ready in let past = past_tail in omega (arith, base, tail, past))
+
+    held : HoldsFileAt o c.history c.recorded s.walk.position
+    held = (inv.contents (place o c n s g pin began inv f valid) (kept o c n s g pin began inv f valid)).files s.walk.position base_low walk_holds.to_end
+
     pub size_is_file : s.walk.size ≡ length (file_at o c.history s.walk.position)
-    size_is_file = has_walked.size_is ∙ sym (inv.writes.sizes s.walk.position
-        (let low = inv.order.generations_rise.from_first (place o c n s g pin began inv f valid) (kept o c n s g pin began inv f valid).inside in
-        let base = walk_holds.ready_base ready in let tail = walk_holds.ready_tail ready in let past = past_tail in omega (arith, low, base, tail, past))
-        walk_holds.to_end)
+    size_is_file = has_walked.size_is ∙ sym held.size_is
+
+    -- and where its map has no block the file is 0
+    pub unmapped_zero : s.walk.at_tail ≡ true → (virt at : ℕ) → map_at s.walk.map virt ≡ None → at < o.geometry.block_bytes → 0 ≡ slice_index (file_at o c.history s.walk.position) (virt * o.geometry.block_bytes + at)
+    unmapped_zero at_tail virt at none low = ap (λ (found : Option ℕ). byte_in c.recorded found at) (sym (sym (has_walked.table virt) ∙ none))
+        ∙ (held.held (subst (λ (first : ℕ). first ≤ s.walk.position) (f.fits unspent).first (f.tail at_tail).from_first)).each virt at low
 
   module _ (word entry : ℕ) (w : IsLaidWrite s word entry) where
     abbrev file : List ℕ
@@ -185,6 +204,11 @@ module _ (o : Origin) (c : Core) (n : ℕ) (s : Seat) (g : Ghost) (pin began : �
         (f.calls.bases.bytes (λ none. (let both : None ≡ Some w.op = sym none ∙ w.job in cc)) by.base at by.inside (subst (λ (size : ℕ). at < size) (sym bytes_same) low)
         (subst (λ (size : ℕ). by.base * size + at < 8 * length s.calling.base_words) (sym bytes_same) by.known))
         ∙ ap (λ (v : ℕ). slice_index file (v * s.geometry.block_bytes + at)) by.virt_is)
+
+    old_known : (virt at byte : ℕ) → at < s.geometry.block_bytes → IsOldByte s virt at byte → byte ≡ slice_index file (virt * s.geometry.block_bytes + at)
+    old_known virt at byte low (ByBase by) = bases_known virt at byte low by
+    old_known virt at byte low (Unmapped none is) = is ∙ subst (λ (size : ℕ). 0 ≡ slice_index file (virt * size + at)) bytes_same
+        (unmapped_zero w.at_tail.valid w.at_tail.ready w.at_tail.at_tail virt at none (subst (λ (size : ℕ). at < size) (sym bytes_same) low))
 
     after_is : file_after file w.op (accepted_reply w.op s.walk.size) ≡ write file w.offset s.calling.bytes
     after_is = lays_is s w.offset w.op file w.lays w.some size_same
@@ -204,9 +228,9 @@ module _ (o : Origin) (c : Core) (n : ℕ) (s : Seat) (g : Ghost) (pin began : �
       owned = w.owned;
       in_data = λ block listed. test_in (is_in_data (seat_shape s)) (names (new_meaning s entry)) block (names_in_data (λ other. content_of s other) (seat_shape s) entry w.form) listed;
       once = w.once;
-      size_is = next_size s word entry w file size_same bases_known ∙ ap (λ (l : List ℕ). length l) (sym after_is);
-      holds = λ virt block at found low. next_holds s word entry w file size_same bases_known virt block at found low ∙ ap (λ (l : List ℕ). slice_index l (virt * s.geometry.block_bytes + at)) (sym after_is);
-      rest = λ virt at none low. next_rest s word entry w file size_same bases_known virt at none low ∙ ap (λ (l : List ℕ). slice_index l (virt * s.geometry.block_bytes + at)) (sym after_is);
+      size_is = next_size s word entry w file size_same old_known ∙ ap (λ (l : List ℕ). length l) (sym after_is);
+      holds = λ virt block at found low. next_holds s word entry w file size_same old_known virt block at found low ∙ ap (λ (l : List ℕ). slice_index l (virt * s.geometry.block_bytes + at)) (sym after_is);
+      rest = λ virt at none low. next_rest s word entry w file size_same old_known virt at none low ∙ ap (λ (l : List ℕ). slice_index l (virt * s.geometry.block_bytes + at)) (sym after_is);
     }
 
     pub may_exchange_laid : MayExchangeSlot o c.history s word entry
