@@ -5,12 +5,12 @@ pub mod LaidWrites
 pub mod WholeWrites
 pub mod OwnContents
 pub mod OwnAreas
-pub mod NewLogBlocks
 pub mod PlacedBytes
 pub mod EntryWords
 pub mod RunWrites
 pub mod RunLists
 pub mod IndirectBlocks
 pub mod RunsWrites
-pub mod WriteRows
+pub mod NewLogBlocks
 pub mod AskedExchanges
+pub mod WriteRows

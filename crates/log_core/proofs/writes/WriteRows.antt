@@ -1,14 +1,21 @@
 -- Seats that meet the conditions of writes and of new log blocks: those of worked rows.
-use Rattle.std.proofs.Common.{◌≡◌, ◌<◌, ◌≤◌, ◌+◌, ◌*◌, ◌==◌, ℕ, zero, suc, Bool, true, [], ◌∷◌, length, replicate, slice_index, refl, arith}
+use Rattle.std.proofs.Common.{◌≡◌, ◌<◌, ◌≤◌, ◌+◌, ◌*◌, ◌==◌, ◌⊎◌, inl, inr, ℕ, zero, suc, Bool, true, [], ◌∷◌, length, replicate, slice_index, refl, arith}
 use Rattle.log_entry.specs.WordBytes.{word_bytes}
 use Rattle.log_entry.specs.declared.shapes.Area.TheVariants.{Data}
+use Rattle.log_entry.specs.declared.calls.Op.TheVariants.{Pwrite as PwriteOp}
+use Rattle.pmem_words.proofs.MapLaws.{map_at_unmapped}
 use Rattle.pmem_words.specs.Owned.{owned_at}
 use Rattle.pmem_words.specs.Seats.{Seat, Blocks}
 use Rattle.log_core.specs.Views.{view_of}
 use Rattle.log_core.specs.Works.{content_word}
-use Rattle.log_core.specs.worked_rows.Rows.{linking}
+use Rattle.log_core.specs.Steps.{content_of}
+use Rattle.log_core.specs.May.{is_fenced}
+use Rattle.log_core.specs.worked_rows.Rows.{linking, to_first}
+use Rattle.log_core.specs.worked_rows.Refused.{seat_zero}
+use Rattle.log_core.specs.worked_rows.Written.{own_at_tail}
 use Rattle.log_core.specs.worked_rows.Accepted.{runs_writer, sevens}
-use Rattle.log_core.proofs.row_checks.RowChecks.{all_below, below_all, below_same}
+use Rattle.log_core.proofs.row_checks.RowChecks.{all_below, below_all, below_same, in_all}
+use Rattle.log_core.proofs.writes.LaidWrites.{Within, Unmapped, IsOldByte, IsLaidWrite}
 use Rattle.log_core.proofs.writes.PlacedBytes.{HasBytes}
 use Rattle.log_core.proofs.writes.RunLists.{runs_of}
 use Rattle.log_core.proofs.writes.IndirectBlocks.{indirect_content}
@@ -95,3 +102,41 @@ link_row = record { inside = omega arith; fenced = refl; area = λ e. cc; link =
 
 link_at : IsAtLink (view_of linking.views 0).seat 24
 link_at = record { valid = refl; ready = refl; link = refl; at_end = refl }
+
+-- a byte is written at 0 of an empty file, into block 1
+byte_row : IsLaidWrite (seat_zero own_at_tail) 27 to_first
+byte_row = record {
+  at_tail = record { valid = refl; ready = refl; not_won = refl; at_tail = refl };
+  slot = refl;
+  inside = omega arith;
+  small = omega arith;
+  form = refl;
+  op = PwriteOp 0 (170 ∷ []);
+  offset = 0;
+  job = refl;
+  lays = Within;
+  some = omega arith;
+  allowed = refl;
+  starts = omega arith;
+  ends = omega arith;
+  end_is = refl;
+  owned = λ block named. in_all (λ b. is_fenced (seat_zero own_at_tail).blocks.owned b) (1 ∷ []) block refl named;
+  once = refl;
+  new = new;
+  old = old;
+}
+  where
+    held : ℕ → ℕ
+    held at = slice_index (word_bytes (content_of (seat_zero own_at_tail) 1)) at
+
+    new : (place at byte : ℕ) → place < 1 → at < 64 → byte < 1 → (0 + place) * 64 + at ≡ 0 + byte → slice_index (word_bytes (content_of (seat_zero own_at_tail) (slice_index (1 ∷ []) place))) at ≡ slice_index (170 ∷ []) byte
+    new zero zero zero low inside among same = refl
+    new zero zero (suc byte) low inside among same = absurd (omega (arith, among))
+    new zero (suc at) byte low inside among same = absurd (omega (arith, among, same))
+    new (suc place) at byte low inside among same = absurd (omega (arith, low))
+
+    old : (place at : ℕ) → place < 1 → at < 64 → ((0 + place) * 64 + at < 0) ⊎ (1 ≤ (0 + place) * 64 + at) → IsOldByte (seat_zero own_at_tail) (0 + place) at (slice_index (word_bytes (content_of (seat_zero own_at_tail) (slice_index (1 ∷ []) place))) at)
+    old zero at low inside (inl before) = absurd (omega (arith, before))
+    old zero zero low inside (inr past) = absurd (omega (arith, past))
+    old zero (suc at) low inside (inr past) = Unmapped (map_at_unmapped 0) (below_same 63 (λ k. held (suc k)) (λ k. 0) at refl (omega (arith, inside)))
+    old (suc place) at low inside outside = absurd (omega (arith, low))
