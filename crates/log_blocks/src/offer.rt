@@ -46,7 +46,8 @@ impl Machine for Offer {
     ghost script = { offer_script };
 
     fn ask(&self, seat: &SeatState) -> Ask {
-        let place = u32::from(seat.tail_block()) * seat.geometry().q() + u32::from(seat.tail_slot());
+        let place = u32::from(seat.tail_block()) * seat.geometry().q()
+            + u32::from(seat.tail_slot());
         Ask::Exchange {
             place: Place::Image(place),
             old: EMPTY,

@@ -39,7 +39,8 @@ impl Machine for Seal {
     ghost script = { seal_script };
 
     fn ask(&self, seat: &SeatState) -> Ask {
-        let place = u32::from(seat.tail_block()) * seat.geometry().q() + u32::from(seat.tail_slot());
+        let place = u32::from(seat.tail_block()) * seat.geometry().q()
+            + u32::from(seat.tail_slot());
         Ask::Exchange {
             place: Place::Image(place),
             old: EMPTY,
