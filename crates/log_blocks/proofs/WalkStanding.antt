@@ -6,13 +6,9 @@ use Rattle.pmem_words.specs.declared.keeps.KeptWord.{KeptWord}
 use Rattle.pmem_words.specs.Seats.{Seat}
 use Rattle.log_core.specs.Views.{Ghost}
 use Rattle.log_core.specs.Works.{words_of, front, kept_at}
+use Rattle.log_blocks.specs.Committing.{rows}
 use Rattle.log_blocks.specs.declared.walk.Walk.{Walk}
 use Rattle.log_blocks.specs.declared.walk.Walk.TheVariants.{Begin, Size, Run, Link, Next, Indirect}
-
--- the words of a block from one on, as they are kept
-abbrev pub rows : ℕ → ℕ → List ℕ → List KeptWord
-rows block slot [] = []
-rows block slot (word ∷ words) = record { block = block; slot = slot; word = word } ∷ rows block (slot + 1) words
 
 -- what a walk has kept of the seat since it began
 pub record IsUnderWay (s0 : Seat) (g0 : Ghost) (s : Seat) (g : Ghost) : Type 0 where

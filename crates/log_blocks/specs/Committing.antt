@@ -1,19 +1,27 @@
 -- What an exchange of the tail's slot makes of its seat, won or lost.
 use Rattle.std.specs.Prelude.{ℕ, suc, ◌+◌, ◌≤◌, ◌≡◌, ◌≢◌, ◌==◌, Bool, true, false, if◌then◌else◌, List, [], ◌∷◌, length}
 use Rattle.log_entry.specs.Fields.{field}
-use Rattle.log_entry.specs.declared.layouts.TheConstants.{DIRECT, ENTRY_KIND, INDIRECT, INDIRECT_BLOCK, SEAL}
+use Rattle.log_entry.specs.declared.layouts.TheConstants.{DIRECT, EMPTY, ENTRY_KIND, INDIRECT, INDIRECT_BLOCK, SEAL}
 use Rattle.log_image.specs.Image.{words_in}
 use Rattle.log_image.specs.Entries.{Meaning, names, direct_meaning, indirect_meaning}
 use Rattle.log_image.specs.Format.{fits, is_indirect_block}
 use Rattle.log_image.specs.Chains.{is_listed}
+use Rattle.asks.specs.declared.ask.Ask.{Ask}
+use Rattle.asks.specs.declared.ask.Ask.TheVariants.{Exchange}
+use Rattle.asks.specs.declared.ask.Place.TheVariants.{Image}
 use Rattle.pmem_words.specs.declared.keeps.KeptWord.{KeptWord}
 use Rattle.pmem_words.specs.declared.owned.OwnedBlock.{OwnedBlock}
 use Rattle.pmem_words.specs.Seats.{Seat, q_of, kept_room}
+use Rattle.log_core.specs.Entries.{place_in}
 use Rattle.log_core.specs.Needs.{owned_numbers}
 use Rattle.log_core.specs.Works.{seat_shape, words_of, walk_past, without_bases}
 use Rattle.log_core.specs.Steps.{blocks_but, content_of, new_meaning}
 use Rattle.log_blocks.specs.Taking.{with_kept, taken, seal_taken, HasRoom, HasFewBases}
 use Rattle.log_blocks.specs.Walking.{IsOfImage}
+
+-- the exchange of the tail's slot from 0 to a word
+abbrev pub slot_exchange : ℕ → Seat → Ask
+slot_exchange word s = Exchange (Image (place_in (seat_shape s) s.walk.tail_block s.walk.tail_slot)) EMPTY word
 
 -- the first place of a block in a list; the list's length where it is not there
 abbrev pub owned_place : ℕ → List OwnedBlock → ℕ

@@ -1,17 +1,13 @@
 -- What putting an entry in at the tail means.
 use Rattle.std.specs.Prelude.{ℕ, ◌+◌, ◌-◌, ◌^◌, ◌≡◌, ◌≢◌, ◌==◌, min, Bool, true, false, []}
 use Rattle.log_entry.specs.declared.layouts.TheConstants.{EMPTY}
-use Rattle.asks.specs.declared.ask.Ask.TheVariants.{Exchange}
-use Rattle.asks.specs.declared.ask.Place.TheVariants.{Image}
 use Rattle.pmem_words.specs.Seats.{Seat}
 use Rattle.pmem_words.specs.Scripts.{After, Script, Lowers}
 use Rattle.pmem_words.specs.declared.machine.Turn.TheVariants.{Go, Done}
-use Rattle.log_core.specs.Entries.{place_in}
-use Rattle.log_core.specs.Works.{seat_shape}
 use Rattle.log_blocks.specs.declared.offer.Offer.{Offer}
 use Rattle.log_blocks.specs.declared.offer.Offered.{Offered}
 use Rattle.log_blocks.specs.declared.offer.Offered.TheVariants.{Committed, Overtaken}
-use Rattle.log_blocks.specs.Committing.{committed, IsOffered, lost_taken}
+use Rattle.log_blocks.specs.Committing.{slot_exchange, committed, IsOffered, lost_taken}
 use Rattle.log_blocks.specs.Walking.{IsSlotWord}
 
 abbrev pub offer_of : ℕ → Offer
@@ -33,7 +29,7 @@ pub record OfferAdmits (entry : ℕ) (s : Seat) (f : ℕ) : Type 0 where
 
 abbrev pub offer_script : Script Offer Offered
 offer_script = record {
-  asks = λ m s. Exchange (Image (place_in (seat_shape s) s.walk.tail_block s.walk.tail_slot)) EMPTY m.entry;
+  asks = λ m s. slot_exchange m.entry s;
   admits = λ m s f. OfferAdmits m.entry s f;
   after = λ m s f. offer_after (f == EMPTY) m s f;
   measure = λ m s. 0;

@@ -1,17 +1,14 @@
 -- What sealing the tail's block means.
 use Rattle.std.specs.Prelude.{ℕ, ◌≡◌, ◌≢◌, ◌==◌, Bool, true, false, []}
 use Rattle.log_entry.specs.declared.layouts.TheConstants.{EMPTY, SEAL}
-use Rattle.asks.specs.declared.ask.Ask.TheVariants.{Exchange}
-use Rattle.asks.specs.declared.ask.Place.TheVariants.{Image}
 use Rattle.pmem_words.specs.Seats.{Seat}
 use Rattle.pmem_words.specs.Scripts.{After, Script, Lowers}
 use Rattle.pmem_words.specs.declared.machine.Turn.TheVariants.{Go, Done}
-use Rattle.log_core.specs.Entries.{place_in}
-use Rattle.log_core.specs.Works.{seat_shape, words_of}
+use Rattle.log_core.specs.Works.{words_of}
 use Rattle.log_blocks.specs.declared.seal.Seal.{Seal}
 use Rattle.log_blocks.specs.declared.seal.Sealed.{Sealed}
 use Rattle.log_blocks.specs.declared.seal.Sealed.TheVariants.{Sealed as IsSealed, Overtaken}
-use Rattle.log_blocks.specs.Committing.{lost_taken}
+use Rattle.log_blocks.specs.Committing.{slot_exchange, lost_taken}
 use Rattle.log_blocks.specs.Walking.{IsSlotWord}
 
 abbrev pub seal_of : Seal
@@ -32,7 +29,7 @@ pub record SealAdmits (s : Seat) (f : ℕ) : Type 0 where
 
 abbrev pub seal_script : Script Seal Sealed
 seal_script = record {
-  asks = λ m s. Exchange (Image (place_in (seat_shape s) s.walk.tail_block s.walk.tail_slot)) EMPTY SEAL;
+  asks = λ m s. slot_exchange SEAL s;
   admits = λ m s f. SealAdmits s f;
   after = λ m s f. seal_after (f == EMPTY) m s f;
   measure = λ m s. 0;

@@ -11,14 +11,26 @@ ghost use Rattle.log_core.specs.Needs.{owned_numbers};
 ghost use Rattle.log_core.specs.Works.{seat_shape, words_of};
 ghost use Rattle.log_core.specs.Steps.{blocks_but, content_of};
 ghost use Rattle.log_blocks.specs.Taking.{kept_words, HasRoom, HasFewBases};
-ghost use Rattle.log_blocks.specs.Committing.{owned_place, rows, runs_kept, taken_out, committed, IsOwnedRuns, IsOffered, lost_taken};
+ghost use Rattle.log_blocks.specs.Committing.{slot_exchange, owned_place, rows, runs_kept, taken_out, committed, IsOwnedRuns, IsOffered, lost_taken};
 ghost use Rattle.log_blocks.specs.Walking.{IsSlotWord};
 
 use crate::taking::{keep, take_direct, take_indirect, take_seal};
 use log_entry::layouts::{
-    DIRECT, DIRECT_BLOCK, DIRECT_COUNT, ENTRY_KIND, INDIRECT, INDIRECT_BLOCK, RUNS_RUNS, SEAL,
+    DIRECT, DIRECT_BLOCK, DIRECT_COUNT, EMPTY, ENTRY_KIND, INDIRECT, INDIRECT_BLOCK, RUNS_RUNS, SEAL,
 };
-use pmem_words::{KeptWord, OwnedBlock, SeatState};
+use pmem_words::{Ask, KeptWord, OwnedBlock, Place, SeatState};
+
+/// The exchange of the tail's slot from 0 to this word.
+pub fn exchange_slot(seat: &SeatState, word: u64) -> Ask
+    ensures { result ≡ slot_exchange word seat.now }
+{
+    let place = u32::from(seat.tail_block()) * seat.geometry().q() + u32::from(seat.tail_slot());
+    Ask::Exchange {
+        place: Place::Image(place),
+        old: EMPTY,
+        new: word,
+    }
+}
 
 /// This block leaves the list.
 pub fn leave_block(seat: &mut SeatState, block: u16)

@@ -1,9 +1,9 @@
 //! Puts an entry in at the tail.
 
-use crate::committing::{commit, take_lost};
+use crate::committing::{commit, exchange_slot, take_lost};
 use log_entry::layouts::EMPTY;
 use log_entry::{Entry, encode};
-use pmem_words::{Ask, Machine, Place, SeatState, Turn};
+use pmem_words::{Ask, Machine, SeatState, Turn};
 
 /// How an exchange of a slot for an entry ended.
 #[derive(Clone, Copy, Debug, PartialEq, Eq)]
@@ -46,12 +46,7 @@ impl Machine for Offer {
     ghost script = { offer_script };
 
     fn ask(&self, seat: &SeatState) -> Ask {
-        let place = u32::from(seat.tail_block()) * seat.geometry().q() + u32::from(seat.tail_slot());
-        Ask::Exchange {
-            place: Place::Image(place),
-            old: EMPTY,
-            new: self.entry,
-        }
+        exchange_slot(seat, self.entry)
     }
 
     fn tell(&mut self, seat: &mut SeatState, answer: u64) -> Turn<Offered> {

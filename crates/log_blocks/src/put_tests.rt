@@ -24,13 +24,22 @@ fn a_block_is_linked_or_another_is_followed(rt: HostRuntime) -> Result<(), Fail>
         Turn::Go => assert!(rt; false),
         Turn::Done(out) => assert_eq!(rt; out, Grown::Linked),
     }
-    assert_eq!(rt; (seat.tail_block(), seat.tail_slot(), seat.tail_base()), (42, 3, 5));
-    assert_eq!(rt; (seat.owned().len(), seat.contents().len(), seat.at_tail()), (1, 8, true));
+    assert_eq!(rt;
+        (seat.tail_block(), seat.tail_slot(), seat.tail_base()),
+        (42, 3, 5)
+    );
+    assert_eq!(rt;
+        (seat.owned().len(), seat.contents().len(), seat.at_tail()),
+        (1, 8, true)
+    );
     match grow.tell(&mut seat, 43) {
         Turn::Go => assert!(rt; false),
         Turn::Done(out) => assert_eq!(rt; out, Grown::Overtaken { block: 43 }),
     }
-    assert_eq!(rt; (seat.tail_block(), seat.tail_slot(), seat.tail_base()), (43, 3, 5));
+    assert_eq!(rt;
+        (seat.tail_block(), seat.tail_slot(), seat.tail_base()),
+        (43, 3, 5)
+    );
     assert_eq!(rt; (seat.owned().len(), seat.lost()), (1, 0));
     Ok(())
 }
@@ -54,7 +63,10 @@ fn a_seal_ends_the_block_of_the_tail(rt: HostRuntime) -> Result<(), Fail> {
         Turn::Go => assert!(rt; false),
         Turn::Done(out) => assert_eq!(rt; out, Sealed::Sealed),
     }
-    assert_eq!(rt; (seat.tail_block(), seat.tail_slot(), seat.at_tail()), (41, 8, true));
+    assert_eq!(rt;
+        (seat.tail_block(), seat.tail_slot(), seat.at_tail()),
+        (41, 8, true)
+    );
     Ok(())
 }
 
@@ -82,7 +94,10 @@ fn an_offer_goes_over_the_seal_that_it_found(rt: HostRuntime) -> Result<(), Fail
         Turn::Go => assert!(rt; false),
         Turn::Done(out) => assert_eq!(rt; out, Offered::Overtaken { word: 3 }),
     }
-    assert_eq!(rt; (seat.position(), seat.tail_slot(), seat.at_tail()), (1, 8, false));
+    assert_eq!(rt;
+        (seat.position(), seat.tail_slot(), seat.at_tail()),
+        (1, 8, false)
+    );
     assert_eq!(rt; (seat.lost(), seat.won()), (1, false));
     Ok(())
 }
@@ -122,7 +137,10 @@ fn an_offer_puts_its_entry_in(rt: HostRuntime) -> Result<(), Fail> {
         Turn::Go => assert!(rt; false),
         Turn::Done(out) => assert_eq!(rt; out, Offered::Committed { position: 1 }),
     }
-    assert_eq!(rt; (seat.position(), seat.tail_slot(), seat.size()), (1, 4, 64));
+    assert_eq!(rt;
+        (seat.position(), seat.tail_slot(), seat.size()),
+        (1, 4, 64)
+    );
     assert_eq!(rt; (seat.at_tail(), seat.won(), seat.lost()), (true, true, 0));
     assert_eq!(rt; seat.block(0), Some(1));
     assert_eq!(rt; (seat.owned().len(), seat.contents().len()), (1, 8));

@@ -1,9 +1,9 @@
 //! Seals the tail's block.
 
-use crate::committing::take_lost;
+use crate::committing::{exchange_slot, take_lost};
 use crate::taking::take_seal;
 use log_entry::layouts::{EMPTY, SEAL};
-use pmem_words::{Ask, Machine, Place, SeatState, Turn};
+use pmem_words::{Ask, Machine, SeatState, Turn};
 
 /// How an exchange of a slot for a seal ended.
 #[derive(Clone, Copy, Debug, PartialEq, Eq)]
@@ -39,12 +39,7 @@ impl Machine for Seal {
     ghost script = { seal_script };
 
     fn ask(&self, seat: &SeatState) -> Ask {
-        let place = u32::from(seat.tail_block()) * seat.geometry().q() + u32::from(seat.tail_slot());
-        Ask::Exchange {
-            place: Place::Image(place),
-            old: EMPTY,
-            new: SEAL,
-        }
+        exchange_slot(seat, SEAL)
     }
 
     fn tell(&mut self, seat: &mut SeatState, answer: u64) -> Turn<Sealed> {

@@ -1,10 +1,12 @@
-use Rattle.std.proofs.Common.{◌≡◌, ◌<◌, ◌≤◌, ◌+◌, ◌*◌, ◌++◌, ℕ, List, [], ◌∷◌, length, take, sym, ◌∙◌, ap, subst, arith, slice_index, append_assoc}
+use Rattle.std.proofs.Common.{◌≡◌, ◌<◌, ◌≤◌, ◌+◌, ◌*◌, ◌++◌, true, ℕ, List, [], ◌∷◌, length, take, refl, sym, ◌∙◌, ap, subst, arith, slice_index, append_assoc}
 use Rattle.std.proofs.lemmas.List.{take_all, length-append}
 use Rattle.pmem_words.specs.declared.keeps.KeptWord.{KeptWord}
 use Rattle.pmem_words.specs.declared.owned.OwnedBlock.{OwnedBlock}
 use Rattle.pmem_words.specs.Seats.{Seat, q_of, kept_room}
 use Rattle.log_entry.specs.Shape.{words_of_block}
 use Rattle.log_entry.specs.declared.shapes.Geometry.{Geometry}
+use Rattle.log_image.specs.Chains.{is_listed}
+use Rattle.log_core.specs.Needs.{owned_numbers}
 use Rattle.log_core.specs.Works.{words_of}
 use Rattle.log_core.specs.Steps.{content_of}
 use Rattle.log_blocks.specs.Committing.{owned_place, rows}
@@ -37,44 +39,29 @@ module _ (s : Seat) (block place q word : ℕ) (has : HasContent (words_of s) bl
   value_is = ap (λ (p : ℕ). slice_index s.blocks.contents (p * q + word)) at ∙ (ap (λ (n : ℕ). slice_index s.blocks.contents (owned_place block s.blocks.owned * n + word)) is
       ∙ sym (content_word (words_of s) block s.blocks.owned s.blocks.contents has word (let same = is in omega (arith, low, same))))
 
+in_contents : (s t : Seat) (more : List KeptWord) (block : ℕ) (owned : List OwnedBlock) (geometry : Geometry) (contents : List ℕ) (place q word : ℕ) → t ≡ keeping s more → length t.blocks.contents ≡ length t.blocks.owned * q_of t.geometry →
+    is_listed (owned_numbers s.blocks.owned) block ≡ true → owned ≡ s.blocks.owned → place ≡ owned_place block owned → geometry ≡ s.geometry → q ≡ words_of_block geometry.block_bytes → word < q → contents ≡ t.blocks.contents → place * q + word < length contents
+in_contents s t more block owned geometry contents place q word is many listed same_owned at same_geometry q_same low same =
+    (let long = long_is s t more is many in
+    let here = inside s block place q word (has_content (words_of s) block s.blocks.owned s.blocks.contents long listed) long (place_is s block owned place same_owned at) (q_is s geometry q same_geometry q_same) low in
+    let all = ap (λ (l : List ℕ). length l) (same ∙ ap (λ (u : Seat). u.blocks.contents) is) in
+    omega (arith, here, all))
+
 pub bounds-contents-place : goal.bounds-contents-place
-bounds-contents-place c =
-    (let s : Seat = c.args.seat.now in
-    let long = long_is s c.loop-word.seat _ c.loop-word.invariant.seat c.contents.ensures.len in
-    let in_contents = inside s c.args.block c.place_of-place.result c.q-q.result c.loop-word.word (has_content (words_of s) c.args.block s.blocks.owned s.blocks.contents long c.requires.owned) long
-    (place_is s c.args.block c.owned.result.now c.place_of-place.result c.owned.ensures c.place_of-place.ensures) (q_is s c.geometry.result.now c.q-q.result c.geometry.ensures c.q-q.ensures) c.loop-word-test.true in
-    let same = ap (λ (l : List ℕ). length l) (c.contents.ensures.words ∙ ap (λ (t : Seat). t.blocks.contents) c.loop-word.invariant.seat) in
-    omega (arith, in_contents, same))
+bounds-contents-place c = in_contents c.args.seat.now c.loop-word.seat _ c.args.block c.owned.result.now c.geometry.result.now c.contents.result.now c.place_of-place.result c.q-q.result c.loop-word.word
+    c.loop-word.invariant.seat c.contents.ensures.len c.requires.owned c.owned.ensures c.place_of-place.ensures c.geometry.ensures c.q-q.ensures c.loop-word-test.true c.contents.ensures.words
 
 pub offset_bounds-contents-place : goal.offset_bounds-contents-place
-offset_bounds-contents-place c =
-    (let s : Seat = c.args.seat.now in
-    let long = long_is s c.loop-word.seat _ c.loop-word.invariant.seat c.contents.ensures.len in
-    let in_contents = inside s c.args.block c.place_of-place.result c.q-q.result c.loop-word.word (has_content (words_of s) c.args.block s.blocks.owned s.blocks.contents long c.requires.owned) long
-    (place_is s c.args.block c.owned.result.now c.place_of-place.result c.owned.ensures c.place_of-place.ensures) (q_is s c.geometry.result.now c.q-q.result c.geometry.ensures c.q-q.ensures) c.loop-word-test.true in
-    let same = ap (λ (l : List ℕ). length l) (c.contents.ensures.words ∙ ap (λ (t : Seat). t.blocks.contents) c.loop-word.invariant.seat) in
-    let small = c.contents.type_inv.1 in
-    omega (arith, in_contents, same, small))
+offset_bounds-contents-place c = (let low = in_contents c.args.seat.now c.loop-word.seat _ c.args.block c.owned.result.now c.geometry.result.now c.contents.result.now c.place_of-place.result c.q-q.result c.loop-word.word
+    c.loop-word.invariant.seat c.contents.ensures.len c.requires.owned c.owned.ensures c.place_of-place.ensures c.geometry.ensures c.q-q.ensures c.loop-word-test.true c.contents.ensures.words in let small = c.contents.type_inv.1 in omega (arith, low, small))
 
 pub overflow_add-value : goal.overflow_add-value
-overflow_add-value c =
-    (let s : Seat = c.args.seat.now in
-    let long = long_is s c.loop-word.seat _ c.loop-word.invariant.seat c.contents.ensures.len in
-    let in_contents = inside s c.args.block c.place_of-place.result c.q-q.result c.loop-word.word (has_content (words_of s) c.args.block s.blocks.owned s.blocks.contents long c.requires.owned) long
-    (place_is s c.args.block c.owned.result.now c.place_of-place.result c.owned.ensures c.place_of-place.ensures) (q_is s c.geometry.result.now c.q-q.result c.geometry.ensures c.q-q.ensures) c.loop-word-test.true in
-    let same = ap (λ (l : List ℕ). length l) (c.contents.ensures.words ∙ ap (λ (t : Seat). t.blocks.contents) c.loop-word.invariant.seat) in
-    let small = c.contents.type_inv.0 in
-    omega (arith, in_contents, same, small))
+overflow_add-value c = (let low = in_contents c.args.seat.now c.loop-word.seat _ c.args.block c.owned.result.now c.geometry.result.now c.contents.result.now c.place_of-place.result c.q-q.result c.loop-word.word
+    c.loop-word.invariant.seat c.contents.ensures.len c.requires.owned c.owned.ensures c.place_of-place.ensures c.geometry.ensures c.q-q.ensures c.loop-word-test.true c.contents.ensures.words in let small = c.contents.type_inv.0 in omega (arith, low, small))
 
 pub overflow_mul-value : goal.overflow_mul-value
-overflow_mul-value c =
-    (let s : Seat = c.args.seat.now in
-    let long = long_is s c.loop-word.seat _ c.loop-word.invariant.seat c.contents.ensures.len in
-    let in_contents = inside s c.args.block c.place_of-place.result c.q-q.result c.loop-word.word (has_content (words_of s) c.args.block s.blocks.owned s.blocks.contents long c.requires.owned) long
-    (place_is s c.args.block c.owned.result.now c.place_of-place.result c.owned.ensures c.place_of-place.ensures) (q_is s c.geometry.result.now c.q-q.result c.geometry.ensures c.q-q.ensures) c.loop-word-test.true in
-    let same = ap (λ (l : List ℕ). length l) (c.contents.ensures.words ∙ ap (λ (t : Seat). t.blocks.contents) c.loop-word.invariant.seat) in
-    let small = c.contents.type_inv.0 in
-    omega (arith, in_contents, same, small))
+overflow_mul-value c = (let low = in_contents c.args.seat.now c.loop-word.seat _ c.args.block c.owned.result.now c.geometry.result.now c.contents.result.now c.place_of-place.result c.q-q.result c.loop-word.word
+    c.loop-word.invariant.seat c.contents.ensures.len c.requires.owned c.owned.ensures c.place_of-place.ensures c.geometry.ensures c.q-q.ensures c.loop-word-test.true c.contents.ensures.words in let small = c.contents.type_inv.0 in omega (arith, low, small))
 
 -- there is room for each word
 room : (s t : Seat) (kept : List KeptWord) (content : List ℕ) (block word q : ℕ) → t ≡ keeping s (rows block 0 (take word content)) → q ≡ words_of s → word < q → length s.walk.kept + words_of s ≤ kept_room s.geometry → length t.walk.kept < kept_room t.geometry
