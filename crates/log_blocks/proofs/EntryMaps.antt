@@ -1,9 +1,8 @@
 -- A run that is mapped is an entry that is taken in; and partly touches m blocks that are dropped are those that an entry touches.
-use Rattle.std.proofs.Common.{◌≡◌, ◌<◌, ◌≤◌, ◌+◌, ◌-◌, ◌*◌, ◌/◌, ◌%◌, ◌^◌, ◌&&◌, slice_index, slice_set, bit_or, not, nat_le, nat_lt, max, ℕ, zero, suc, Bool, true, false, List, [], ◌∷◌, ◌++◌, length, take, drop, remove, filter, replicate, append-nil, Option, Some, None, if◌then◌else◌, refl, sym, ap, ◌∙◌, subst, arith}
+use Rattle.std.proofs.Common.{◌≡◌, ◌≤◌, ◌+◌, ◌-◌, ◌*◌, ◌/◌, ◌%◌, ◌^◌, slice_index, slice_set, bit_or, nat_le, ℕ, zero, suc, Bool, true, false, List, [], ◌∷◌, ◌++◌, length, take, drop, append-nil, Option, None, if◌then◌else◌, refl, sym, ap, ◌∙◌, arith}
 use Rattle.std.specs.List.{range_with_len, slice_get, remove_range}
 use Rattle.std.proofs.Math.ListN.{drop_of_length-le}
-use Rattle.std.proofs.lemmas.List.FromFn.{length-range_with_len}
-use Rattle.std.proofs.lemmas.List.{length-replicate, take_all, length-take, length-drop, take-append-drop}
+use Rattle.std.proofs.lemmas.List.{take_all, length-take, length-drop, take-append-drop}
 use Rattle.log_entry.specs.Fields.{field}
 use Rattle.log_entry.specs.declared.layouts.TheConstants.{DIRECT_VIRT, DIRECT_BLOCK, DIRECT_COUNT, DIRECT_LEFTOVER}
 use Rattle.log_entry.specs.declared.shapes.Geometry.{Geometry}
@@ -14,7 +13,7 @@ use Rattle.pmem_words.specs.Maps.{with_run, with_run_at}
 use Rattle.pmem_words.specs.Noted.{with_noted, noted_more}
 use Rattle.pmem_words.specs.Owned.{without_block}
 use Rattle.pmem_words.specs.Seats.{Seat, Calling, q_of, image_blocks}
-use Rattle.log_core.specs.Works.{with_entry, with_entry_from, words_of, touches, bases_left, base_words_left, without_bases}
+use Rattle.log_core.specs.Works.{with_entry, with_entry_from, words_of, touches, without_bases}
 use Rattle.chain_reader.proofs.FitsLemmas.{Fitting, fitting, row_inside}
 use Rattle.chain_reader.proofs.MapLemmas.{run_gives, longer_gives}
 use Rattle.log_blocks.specs.Taking.{dropped, dropped_from, HasFewBases}

@@ -1,12 +1,12 @@
 -- What a seat that is ready has at its tail, and what it may find there.
 use Rattle.std.proofs.Common.{◌≡◌, ◌≢◌, ◌<◌, ◌≤◌, ◌+◌, ◌-◌, ◌*◌, ◌^◌, ◌==◌, ◌&&◌, ◌||◌, ◌++◌, nat_lt, ℕ, Bool, true, false, if◌then◌else◌, List, [], ◌∷◌, length, refl, sym, ◌∙◌, ap, subst, arith, slice_index}
-use Rattle.std.proofs.lemmas.Bool.{ltb-true, ltb-false, and_parts, eqb-true, eqb-false}
+use Rattle.std.proofs.lemmas.Bool.{ltb-true, ltb-false, and_parts, eqb-true}
 use Rattle.log_entry.specs.Fields.{field}
 use Rattle.log_entry.specs.Words.{entry_unnamed}
 use Rattle.log_entry.specs.Shape.{longest_of}
 use Rattle.log_entry.specs.declared.layouts.TheConstants.{EMPTY, SEAL, ENTRY_KIND, DIRECT, INDIRECT, INDIRECT_BLOCK}
-use Rattle.log_image.specs.Image.{Shape, shape_by, words_in, is_in_data}
-use Rattle.log_image.specs.Entries.{Meaning, direct_meaning, indirect_meaning}
+use Rattle.log_image.specs.Image.{Shape, words_in, is_in_data}
+use Rattle.log_image.specs.Entries.{direct_meaning, indirect_meaning}
 use Rattle.log_image.specs.Format.{fits, is_direct, is_indirect, is_indirect_block}
 use Rattle.log_image.specs.Chains.{is_listed}
 use Rattle.chain_reader.proofs.FitsLemmas.{fits_more}
@@ -15,13 +15,13 @@ use Rattle.persistence.specs.Memory.{cell}
 use Rattle.log_core.specs.Entries.{place_in, meaning_by}
 use Rattle.log_core.specs.Views.{Ghost, view_of}
 use Rattle.log_core.specs.Origin.{Origin, shape, LogBlock, Generation}
-use Rattle.log_core.specs.Files.{entries, end_of}
-use Rattle.log_core.specs.Cores.{Core, nth_log, number_at, log_at, log_blocks, entries_used, is_sealed, is_named, chain_names, data_names}
+use Rattle.log_core.specs.Files.{entries}
+use Rattle.log_core.specs.Cores.{Core, nth_log, number_at, log_at, log_blocks, entries_used, is_named, chain_names, data_names}
 use Rattle.log_core.specs.Order.{nth_generation}
 use Rattle.log_core.specs.Certain.{IsGrowing}
 use Rattle.log_core.specs.Walks.{HasWalked, WalkHolds}
 use Rattle.log_core.specs.May.{is_log_entry_by}
-use Rattle.log_core.specs.Works.{HasFoundSlot, IsKeptWhole, kept_content, seat_shape, words_of, tail_word}
+use Rattle.log_core.specs.Works.{HasFoundSlot, IsKeptWhole, kept_content, words_of, tail_word}
 use Rattle.log_core.specs.Invariant.{Invariant, KeptIn, around}
 use Rattle.log_core.specs.Knows.{Knows}
 use Rattle.log_core.proofs.ChainWords.{in_one_part}

@@ -1,9 +1,9 @@
 -- What a walk finds in the words of the pinned chain, and which blocks that names.
-use Rattle.std.proofs.Common.{◌≡◌, ◌≢◌, ◌<◌, ◌≤◌, ◌⊎◌, ◌+◌, ◌-◌, ◌*◌, ◌^◌, ◌++◌, inl, inr, ⊎_elim, ℕ, Bool, true, false, List, [], ◌∷◌, length, drop, refl, sym, ◌∙◌, ap, subst, arith, slice_index, Option, Some, None}
+use Rattle.std.proofs.Common.{◌≡◌, ◌≢◌, ◌<◌, ◌≤◌, ◌⊎◌, ◌+◌, ◌^◌, ◌++◌, inl, inr, ⊎_elim, ℕ, true, List, [], ◌∷◌, length, drop, refl, sym, ◌∙◌, ap, subst, arith, slice_index, Option, Some, None}
 use Rattle.std.proofs.lemmas.Bool.{eq-eqb}
 use Rattle.log_entry.specs.Fields.{field}
 use Rattle.log_entry.specs.Words.{block_word}
-use Rattle.log_entry.specs.declared.words.BlockKind.TheVariants.{Log, Snapshot}
+use Rattle.log_entry.specs.declared.words.BlockKind.TheVariants.{Log}
 use Rattle.log_entry.specs.declared.layouts.TheConstants.{BLOCK_KIND, HEAD_GENERATION, LOG, SNAPSHOT}
 use Rattle.log_image.specs.Image.{words_in, total}
 use Rattle.log_image.specs.Chains.{is_listed, all_different}
@@ -12,9 +12,9 @@ use Rattle.log_entry.specs.declared.shapes.Geometry.{Geometry}
 use Rattle.pmem_words.specs.Seats.{Seat, image_blocks}
 use Rattle.log_core.specs.Entries.{place_in}
 use Rattle.log_core.specs.Views.{Ghost, view_of}
-use Rattle.log_core.specs.Origin.{Origin, shape, first_generation, Owner, Free, LogBlock, Generation}
+use Rattle.log_core.specs.Origin.{Origin, shape, Owner, Free, Generation}
 use Rattle.log_core.specs.Files.{entries}
-use Rattle.log_core.specs.Cores.{Core, generation_at, is_named, nth_log, log_blocks, data_names}
+use Rattle.log_core.specs.Cores.{Core, is_named, nth_log, log_blocks, data_names}
 use Rattle.log_core.specs.Contents.{IsStillTaken}
 use Rattle.log_core.specs.Order.{nth_generation, front_of}
 use Rattle.log_core.specs.Snapshots.{first_or, AreSnapshotBlocks}
@@ -27,8 +27,8 @@ use Rattle.log_core.proofs.Fronts.{head_front, snapshot_kind, base_small}
 use Rattle.log_core.proofs.PinnedChains.{place, kept, from_first, some_generation, chain_says}
 use Rattle.log_core.proofs.SnapshotReads.{next_at, snapshot_form}
 use Rattle.log_core.proofs.ChainWords.{front_different}
-use Rattle.log_core.proofs.clauses.Apart.{has_left, has_right, log_is_named, data_is_named}
-use Rattle.log_core.proofs.kinds.ReadsSnapshot.{has_read, in_snapshot, are_blocks, some_blocks}
+use Rattle.log_core.proofs.clauses.Apart.{has_left, log_is_named, data_is_named}
+use Rattle.log_core.proofs.kinds.ReadsSnapshot.{has_read, in_snapshot, are_blocks}
 
 -- the kind of a log block
 log_kind : (base : ℕ) → base < 2 ^ 40 → field BLOCK_KIND (block_word (record { kind = Log; base = base })) ≡ LOG

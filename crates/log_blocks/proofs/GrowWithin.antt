@@ -2,8 +2,8 @@
 use Rattle.log_blocks.specs.Walking.{IsOfImage}
 use Rattle.log_image.specs.Image.{total, shape_by}
 use Rattle.std.proofs.lemmas.Bool.{ltb-true, and_parts}
-use Rattle.std.proofs.Common.{slice_index, nat_lt, ◌≡◌, ◌≢◌, ◌<◌, ◌^◌, ◌==◌, ℕ, Bool, true, false, if◌then◌else◌, List, [], ◌∷◌, refl, sym, ◌∙◌, ap, subst, arith, Some}
-use Rattle.std.proofs.lemmas.Bool.{eqb-true, eqb-false, ne_eqb}
+use Rattle.std.proofs.Common.{slice_index, nat_lt, ◌≡◌, ◌≢◌, ◌<◌, ◌==◌, ℕ, Bool, true, false, List, [], ◌∷◌, refl, sym, ◌∙◌, ap, subst, arith}
+use Rattle.std.proofs.lemmas.Bool.{eqb-false}
 use Rattle.asks.specs.declared.ask.Ask.TheVariants.{Exchange}
 use Rattle.asks.specs.declared.ask.Place.TheVariants.{Image}
 use Rattle.pmem_words.specs.Seats.{Seat}
@@ -13,20 +13,19 @@ use Rattle.log_core.specs.Entries.{place_in}
 use Rattle.log_core.specs.Views.{Ghost, view_of}
 use Rattle.log_core.specs.Origin.{Origin, q_of_origin}
 use Rattle.log_core.specs.Cores.{Core}
-use Rattle.log_core.specs.Works.{Forgets, Follows, MayWorkAll, HasFoundLink, kept_at, kept_word, word_or_zero, seat_shape, words_of, state_after_all_work}
-use Rattle.log_core.specs.Steps.{Kind, ExchangesLink, kind_of_ask, effect, ghost_after, link_exchanged, stored_but, stored_if, kept_with}
-use Rattle.log_core.specs.May.{May, MayExchangeLink}
+use Rattle.log_core.specs.Works.{Forgets, Follows, HasFoundLink, kept_at, kept_word, word_or_zero, seat_shape, words_of}
+use Rattle.log_core.specs.Steps.{ExchangesLink, kind_of_ask, link_exchanged, stored_but, stored_if, kept_with}
+use Rattle.log_core.specs.May.{MayExchangeLink}
 use Rattle.log_core.specs.Invariant.{Invariant}
 use Rattle.log_core.specs.Knows.{Knows}
-use Rattle.log_core.specs.Within.{no_record, adds_at, seat_found, ghost_found, IsFound, Lawful, Serves}
+use Rattle.log_core.specs.Within.{no_record, IsFound, Serves}
 use Rattle.log_core.specs.Answers.{Enters}
 use Rattle.log_core.proofs.machines.Entering.{enters_works}
 use Rattle.log_core.proofs.machines.MachineLaws.{Law, promised}
-use Rattle.log_blocks.specs.declared.grow.Grow.{Grow}
 use Rattle.log_blocks.specs.declared.grow.Grown.{Grown}
 use Rattle.log_blocks.specs.Taking.{followed}
 use Rattle.log_blocks.specs.Growing.{GrowAdmits, grow_of, linked, grow_after, grow_script, grow_lowers}
-use Rattle.log_blocks.specs.PutWithin.{MayGrow, HasGrown, HasLinked, HasFollowed, GrowsWithin}
+use Rattle.log_blocks.specs.PutWithin.{MayGrow, HasGrown, GrowsWithin}
 use Rattle.log_blocks.proofs.KeptLists.{kept_last}
 use Rattle.log_blocks.proofs.OneExchange.{IsAtFirst, at_first, outcome, serves_at_first}
 use Rattle.log_blocks.proofs.TailExchange.{kept_is, kind_at, wide}

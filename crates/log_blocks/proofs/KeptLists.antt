@@ -1,5 +1,5 @@
 -- Kept words: the last one, and the words of a block in a row.
-use Rattle.std.proofs.Common.{◌≡◌, ◌≢◌, ◌<◌, ◌≤◌, ◌+◌, ◌==◌, ◌&&◌, ℕ, zero, suc, Bool, true, false, if◌then◌else◌, List, [], ◌∷◌, ◌++◌, length, map, refl, sym, ◌∙◌, ap, arith, slice_index, Option, Some, None}
+use Rattle.std.proofs.Common.{◌≡◌, ◌≢◌, ◌<◌, ◌+◌, ◌==◌, ◌&&◌, ℕ, zero, suc, Bool, true, false, if◌then◌else◌, List, [], ◌∷◌, ◌++◌, length, map, refl, sym, ◌∙◌, ap, arith, slice_index, Option, Some, None}
 use Rattle.std.specs.List.{range_with_len}
 use Rattle.std.specs.Option.{option_or}
 use Rattle.std.proofs.lemmas.Bool.{eq-eqb, ne_eqb}
@@ -8,7 +8,7 @@ use Rattle.std.proofs.lemmas.List.FromFn.{get_or-map-range_with_len, length-map-
 use Rattle.pmem_words.specs.declared.keeps.KeptWord.{KeptWord}
 use Rattle.log_core.specs.Works.{kept_at, word_or_zero}
 use Rattle.log_core.proofs.WalkMaps.{option_or_assoc}
-use Rattle.log_blocks.proofs.WalkStanding.{rows}
+use Rattle.log_blocks.specs.Committing.{rows}
 
 or_none : (found : Option ℕ) → found ≡ option_or found None
 or_none None = refl

@@ -9,7 +9,6 @@ use Rattle.log_image.specs.Image.{words_in}
 use Rattle.asks.specs.declared.ask.Ask.{Ask}
 use Rattle.asks.specs.declared.ask.Ask.TheVariants.{Load}
 use Rattle.asks.specs.declared.ask.Place.TheVariants.{Image}
-use Rattle.pmem_words.specs.declared.keeps.KeptWord.{KeptWord}
 use Rattle.pmem_words.specs.declared.machine.Turn.TheVariants.{Go, Done}
 use Rattle.pmem_words.specs.Seats.{Seat, q_of}
 use Rattle.pmem_words.specs.Scripts.{After, Script}
@@ -17,13 +16,12 @@ use Rattle.persistence.specs.Memory.{found_answer}
 use Rattle.log_core.specs.Entries.{place_in, head_place}
 use Rattle.log_core.specs.Views.{Ghost, view_of}
 use Rattle.log_core.specs.Origin.{Origin, shape, q_of_origin, Owner, Header}
-use Rattle.log_core.specs.Files.{entries, end_of}
+use Rattle.log_core.specs.Files.{entries}
 use Rattle.log_core.specs.Cores.{Core, generation_at, is_named}
 use Rattle.log_core.specs.Contents.{IsStillTaken}
 use Rattle.log_core.specs.Works.{Work, MayWorkAll, state_after_all_work, is_going_on, seat_shape, words_of}
-use Rattle.log_core.specs.Steps.{Kind, LoadsHead, LoadsImageWord, kind_of_ask, effect, ghost_after, is_tail_found, kept_with}
+use Rattle.log_core.specs.Steps.{Kind, LoadsHead, LoadsImageWord, kind_of_ask, effect, ghost_after, is_tail_found}
 use Rattle.log_core.specs.May.{May, MayLoadImageWord}
-use Rattle.log_core.specs.Records.{StandsAtTail}
 use Rattle.log_core.specs.Invariant.{Invariant}
 use Rattle.log_core.specs.Knows.{Knows}
 use Rattle.log_core.specs.Within.{no_record, adds_at, seat_found, ghost_found, IsFound, Lawful}

@@ -1,12 +1,11 @@
 -- An exchange of the tail's slot that lost: the word found there, and what the seat computes with it.
-use Rattle.std.proofs.Common.{◌≡◌, ◌≢◌, ◌<◌, ◌≤◌, ◌+◌, ◌*◌, ◌/◌, ◌^◌, ◌++◌, ◌==◌, ◌&&◌, ◌||◌, ℕ, Bool, true, false, if◌then◌else◌, List, [], ◌∷◌, length, refl, sym, ◌∙◌, ap, subst, arith, slice_index}
-use Rattle.std.specs.List.{list_all}
+use Rattle.std.proofs.Common.{◌≡◌, ◌≢◌, ◌<◌, ◌≤◌, ◌++◌, ◌==◌, ◌&&◌, ◌||◌, ℕ, Bool, true, false, if◌then◌else◌, List, [], ◌∷◌, refl, sym, ◌∙◌, ap, subst, arith, slice_index}
 use Rattle.std.proofs.lemmas.Bool.{eqb-true, eqb-false, eq-eqb, ne_eqb, and_parts}
 use Rattle.log_entry.specs.Fields.{field}
 use Rattle.log_entry.specs.Shape.{longest_of, is_block_bytes, words_of_block}
 use Rattle.log_entry.specs.Words.{entry_unnamed}
-use Rattle.log_entry.specs.declared.layouts.TheConstants.{EMPTY, SEAL, ENTRY_KIND, DIRECT, INDIRECT, INDIRECT_BLOCK}
-use Rattle.log_image.specs.Image.{Shape, words_in, is_in_data}
+use Rattle.log_entry.specs.declared.layouts.TheConstants.{SEAL, ENTRY_KIND, DIRECT, INDIRECT, INDIRECT_BLOCK}
+use Rattle.log_image.specs.Image.{Shape, is_in_data}
 use Rattle.log_image.specs.Entries.{Meaning, direct_meaning, indirect_meaning}
 use Rattle.log_image.specs.Format.{fits, is_direct, is_indirect, is_indirect_block}
 use Rattle.pmem_words.specs.declared.keeps.KeptWord.{KeptWord}
@@ -15,7 +14,7 @@ use Rattle.log_core.specs.Entries.{place_in, meaning_by}
 use Rattle.log_core.specs.Views.{Ghost, view_of}
 use Rattle.log_core.specs.Origin.{Origin, shape}
 use Rattle.log_core.specs.Cores.{Core}
-use Rattle.log_core.specs.Works.{Work, TakesEntry, TakesSeal, MayWorkAll, HasFoundSlot, kept_at, kept_content, word_or_zero, tail_word, tail_meaning, seat_shape, words_of, state_after_all_work, is_going_on, IsFree}
+use Rattle.log_core.specs.Works.{Work, TakesEntry, TakesSeal, HasFoundSlot, kept_content, word_or_zero, tail_word, tail_meaning, seat_shape, words_of}
 use Rattle.log_core.specs.Steps.{kept_with}
 use Rattle.log_core.specs.May.{is_log_entry_by}
 use Rattle.log_core.specs.Invariant.{Invariant}

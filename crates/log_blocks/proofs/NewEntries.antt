@@ -2,7 +2,7 @@
 use Rattle.pmem_words.specs.Noted.{noted_more}
 use Rattle.log_image.specs.Entries.{names}
 use Rattle.log_blocks.specs.Taking.{taken}
-use Rattle.std.proofs.Common.{◌≡◌, ◌≢◌, ◌==◌, ℕ, Bool, true, false, if◌then◌else◌, refl, sym, ◌∙◌, ap}
+use Rattle.std.proofs.Common.{◌≡◌, ◌≢◌, ℕ, Bool, true, false, if◌then◌else◌, sym, ap}
 use Rattle.std.proofs.lemmas.Bool.{eq-eqb, ne_eqb}
 use Rattle.log_entry.specs.Fields.{field}
 use Rattle.log_entry.specs.declared.layouts.TheConstants.{DIRECT, ENTRY_KIND, INDIRECT_BLOCK}

@@ -6,13 +6,13 @@ use Rattle.log_core.specs.Files.{accepted_reply}
 use Rattle.log_core.specs.Views.{op_of}
 use Rattle.pmem_words.specs.declared.keeps.Task.{Task}
 use Rattle.chain_reader.proofs.FitsLemmas.{inside_data}
-use Rattle.std.proofs.Common.{Option, Some, None, ◌≡◌, ◌≢◌, ◌<◌, ◌≤◌, ◌+◌, ◌-◌, ◌^◌, ◌==◌, ◌&&◌, ◌||◌, not, min, ℕ, Bool, true, false, if◌then◌else◌, List, [], ◌∷◌, length, refl, sym, ◌∙◌, ap, subst, arith, slice_index}
-use Rattle.std.proofs.lemmas.Bool.{eqb-true, eqb-false, eq-eqb, ne_eqb, and_parts}
+use Rattle.std.proofs.Common.{Some, ◌≡◌, ◌≢◌, ◌+◌, ◌-◌, ◌^◌, ◌==◌, ◌&&◌, not, min, ℕ, Bool, true, false, if◌then◌else◌, List, [], ◌∷◌, refl, sym, ◌∙◌, ap, subst, arith, slice_index}
+use Rattle.std.proofs.lemmas.Bool.{eqb-true, eqb-false, eq-eqb, and_parts}
 use Rattle.log_entry.specs.Fields.{field}
 use Rattle.log_entry.specs.Shape.{longest_of}
-use Rattle.log_entry.specs.declared.layouts.TheConstants.{EMPTY, SEAL, ENTRY_KIND, DIRECT, INDIRECT_BLOCK}
+use Rattle.log_entry.specs.declared.layouts.TheConstants.{SEAL, ENTRY_KIND, DIRECT, INDIRECT_BLOCK}
 use Rattle.log_image.specs.Image.{Shape, is_in_data}
-use Rattle.log_image.specs.Entries.{Meaning, names, direct_meaning, indirect_meaning}
+use Rattle.log_image.specs.Entries.{Meaning, names}
 use Rattle.log_image.specs.Chains.{is_listed}
 use Rattle.log_image.specs.Format.{fits, is_direct, is_indirect, is_indirect_block}
 use Rattle.asks.specs.declared.ask.Ask.TheVariants.{Exchange}
@@ -24,25 +24,23 @@ use Rattle.log_core.specs.Views.{Ghost, Stored, view_of}
 use Rattle.log_core.specs.Origin.{Origin, q_of_origin}
 use Rattle.log_core.specs.Cores.{Core}
 use Rattle.log_core.specs.Works.{Forgets, seat_shape, words_of}
-use Rattle.log_core.specs.Steps.{Kind, ExchangesLink, ExchangesSlot, kind_of_ask, slot_exchanged, slot_sealed, stored_but, stored_if, content_of, new_meaning}
+use Rattle.log_core.specs.Steps.{ExchangesSlot, kind_of_ask, slot_exchanged, slot_sealed, stored_but, stored_if, content_of, new_meaning}
 use Rattle.log_core.specs.May.{MayCommit, MayExchangeSlot, is_log_entry_by}
 use Rattle.log_core.specs.Invariant.{Invariant}
 use Rattle.log_core.specs.Knows.{Knows}
 use Rattle.log_core.specs.Within.{no_record, IsFound, Serves}
 use Rattle.log_core.specs.Answers.{Enters}
-use Rattle.log_core.proofs.TailEnds.{walked}
 use Rattle.log_core.proofs.clauses.FencedContents.{content_long, fenced_owned}
 use Rattle.log_core.proofs.machines.Entering.{enters_works}
 use Rattle.log_core.proofs.machines.MachineLaws.{Law, promised}
 use Rattle.log_blocks.specs.declared.offer.Offered.{Offered}
-use Rattle.log_blocks.specs.declared.offer.Offered.TheVariants.{Committed, Overtaken}
-use Rattle.log_blocks.specs.Committing.{committed, lost_taken, IsOffered, IsOwnedRuns}
+use Rattle.log_blocks.specs.Committing.{committed, lost_taken, IsOffered}
 use Rattle.log_blocks.specs.Offering.{offer_of, counted, offer_after, OfferAdmits, offer_script, offer_lowers}
 use Rattle.log_blocks.specs.PutWithin.{MayOffer, HasOffered, OffersWithin}
 use Rattle.log_blocks.proofs.OneExchange.{IsAtFirst, at_first, outcome, serves_at_first}
 use Rattle.log_blocks.proofs.TailExchange.{kind_at_slot, wide}
 use Rattle.log_blocks.proofs.NewEntries.{new_direct, new_indirect}
-use Rattle.log_blocks.proofs.LostSlot.{counting, lost_seat, kept_so, entry_fits, room, few_bases, slot_word, lost_enters, may_walk_on}
+use Rattle.log_blocks.proofs.LostSlot.{counting, kept_so, entry_fits, room, few_bases, slot_word, lost_enters, may_walk_on}
 
 -- an entry that a log block may have is no seal
 no_seal_by : (content : ℕ → List ℕ) (image : Shape) (entry : ℕ) → is_log_entry_by content image entry ≡ true → entry ≢ SEAL

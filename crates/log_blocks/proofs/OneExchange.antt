@@ -1,5 +1,5 @@
 -- A machine of one ask, at whose answer it computes and ends, is lawful.
-use Rattle.std.proofs.Common.{◌≡◌, ◌≢◌, ℕ, List, [], refl, sym, ap, subst}
+use Rattle.std.proofs.Common.{◌≡◌, ◌≢◌, ℕ, List, [], refl, sym, subst}
 use Rattle.log_entry.specs.declared.calls.Call.{Call}
 use Rattle.pmem_words.specs.Seats.{Seat}
 use Rattle.pmem_words.specs.Scripts.{Script}

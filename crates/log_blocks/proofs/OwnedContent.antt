@@ -1,9 +1,8 @@
 -- The content of an owned block, by its first place in the list.
-use Rattle.std.proofs.Common.{◌≡◌, ◌<◌, ◌≤◌, ◌+◌, ◌-◌, ◌*◌, ◌==◌, ◌||◌, ℕ, zero, suc, Bool, true, false, if◌then◌else◌, List, [], ◌∷◌, ◌++◌, length, take, drop, refl, sym, ◌∙◌, ap, arith, slice_index, suc-mul}
+use Rattle.std.proofs.Common.{◌≡◌, ◌<◌, ◌≤◌, ◌+◌, ◌*◌, ◌==◌, ◌||◌, ℕ, suc, Bool, true, false, if◌then◌else◌, List, [], ◌∷◌, ◌++◌, length, take, drop, refl, sym, ◌∙◌, ap, arith, slice_index, suc-mul}
 use Rattle.std.proofs.Math.Nat.{mul-le-mul_right}
 use Rattle.std.proofs.Math.Seq.{take-suc}
-use Rattle.std.proofs.lemmas.List.{length-drop, length-take-le, length-take, get_or-take, get_or-drop, drop-drop, take_all}
-use Rattle.pmem_words.specs.declared.keeps.KeptWord.{KeptWord}
+use Rattle.std.proofs.lemmas.List.{length-drop, length-take-le, length-take, get_or-take, get_or-drop, drop-drop}
 use Rattle.pmem_words.specs.declared.owned.OwnedBlock.{OwnedBlock}
 use Rattle.log_image.specs.Chains.{is_listed}
 use Rattle.log_core.specs.Needs.{owned_numbers}

@@ -1,7 +1,7 @@
 -- Sealing the tail's block is lawful within a core.
-use Rattle.std.proofs.Common.{◌≡◌, ◌≢◌, ◌<◌, ◌==◌, ◌&&◌, not, ℕ, Bool, true, false, List, [], ◌∷◌, refl, sym, subst, arith, slice_index}
-use Rattle.std.proofs.lemmas.Bool.{eqb-true, eqb-false}
-use Rattle.log_entry.specs.declared.layouts.TheConstants.{EMPTY, SEAL}
+use Rattle.std.proofs.Common.{◌≡◌, ◌≢◌, ◌==◌, ◌&&◌, ℕ, Bool, true, false, List, [], ◌∷◌, refl, sym, subst, arith, slice_index}
+use Rattle.std.proofs.lemmas.Bool.{eqb-false}
+use Rattle.log_entry.specs.declared.layouts.TheConstants.{SEAL}
 use Rattle.log_image.specs.Entries.{names}
 use Rattle.log_image.specs.Chains.{is_listed}
 use Rattle.asks.specs.declared.ask.Ask.TheVariants.{Exchange}
@@ -27,7 +27,7 @@ use Rattle.log_blocks.specs.Sealing.{seal_of, sealed, seal_after, SealAdmits, se
 use Rattle.log_blocks.specs.PutWithin.{MayPutSeal, HasSealed, SealsWithin}
 use Rattle.log_blocks.proofs.OneExchange.{IsAtFirst, at_first, outcome, serves_at_first}
 use Rattle.log_blocks.proofs.TailExchange.{kind_at_slot}
-use Rattle.log_blocks.proofs.LostSlot.{counting, kept_so, slot_word, lost_enters, may_walk_on}
+use Rattle.log_blocks.proofs.LostSlot.{kept_so, slot_word, lost_enters, may_walk_on}
 
 module _ (o : Origin) (seat : ℕ) (s : Seat) (g : Ghost) (may : MayPutSeal o seat s g) where
   abbrev word : ℕ

@@ -1,29 +1,23 @@
 -- An exchange of the tail's word: its kind, and what it keeps where it lost.
 use Rattle.std.proofs.Common.{◌≡◌, ◌≢◌, ◌<◌, ◌≤◌, ◌+◌, ◌-◌, ◌*◌, ◌/◌, ◌%◌, ◌^◌, ◌==◌, nat_lt, ℕ, Bool, true, false, if◌then◌else◌, List, [], ◌∷◌, length, refl, sym, ◌∙◌, ap, subst, arith, slice_index}
-use Rattle.std.proofs.lemmas.Bool.{eq-eqb, ne_eqb, ltb-true, ltb-false}
+use Rattle.std.proofs.lemmas.Bool.{ne_eqb}
 use Rattle.std.proofs.lemmas.Nat.{div-mul-add, mod-mul-add}
 use Rattle.std.proofs.Math.Nat.{mul-le-mul}
 use Rattle.log_image.specs.Image.{words_in}
 use Rattle.asks.specs.declared.ask.Ask.TheVariants.{Exchange}
 use Rattle.asks.specs.declared.ask.Place.TheVariants.{Image}
-use Rattle.pmem_words.specs.declared.keeps.KeptWord.{KeptWord}
-use Rattle.pmem_words.specs.Seats.{Seat, q_of}
-use Rattle.persistence.specs.Memory.{cell}
+use Rattle.pmem_words.specs.Seats.{Seat}
 use Rattle.log_core.specs.Entries.{place_in, head_place}
 use Rattle.log_core.specs.Views.{Ghost, view_of}
 use Rattle.log_core.specs.Origin.{Origin, shape, q_of_origin, Owner, Header}
-use Rattle.log_core.specs.Files.{entries}
-use Rattle.log_core.specs.Cores.{Core, nth_log, number_at}
+use Rattle.log_core.specs.Cores.{Core}
 use Rattle.log_core.specs.Contents.{IsStillTaken}
 use Rattle.log_core.specs.Works.{seat_shape, words_of}
 use Rattle.log_core.specs.Steps.{Kind, ExchangesLink, ExchangesSlot, exchange_kind, kind_of_ask, kept_with}
 use Rattle.log_core.specs.Invariant.{Invariant}
 use Rattle.log_core.specs.Knows.{Knows}
 use Rattle.log_core.proofs.PinnedChains.{place, kept}
-use Rattle.log_core.proofs.TailEnds.{same_words, same_shape, walked, tail, tail_named}
-use Rattle.log_core.proofs.LogTails.{TailLog}
-use Rattle.log_core.proofs.clauses.Apart.{log_is_named}
-use Rattle.log_blocks.proofs.FoundWords.{named_small}
+use Rattle.log_core.proofs.TailEnds.{same_words, walked, tail_named}
 
 -- the word kept by an exchange that lost
 pub kept_is : (q block slot f : ℕ) → slot < q → kept_with q [] (block * q + slot) f ≡ record { block = block; slot = slot; word = f } ∷ []

@@ -4,19 +4,18 @@ use Rattle.std.proofs.lemmas.Bool.{and_parts, eqb-true, eqb-false, leb-true, not
 use Rattle.log_entry.specs.Fields.{field}
 use Rattle.log_entry.specs.declared.layouts.TheConstants.{BLOCK_BASE, BLOCK_KIND, LOG, SNAPSHOT, SNAPSHOT_SIZE}
 use Rattle.log_image.specs.Image.{Shape, shape_by}
-use Rattle.asks.specs.declared.ask.Ask.{Ask}
 use Rattle.asks.specs.declared.ask.Ask.TheVariants.{Load}
 use Rattle.asks.specs.declared.ask.Place.TheVariants.{Image}
 use Rattle.pmem_words.specs.declared.keeps.KeptWord.{KeptWord}
 use Rattle.pmem_words.specs.declared.machine.Turn.TheVariants.{Go, Done}
-use Rattle.pmem_words.specs.Seats.{Seat, kept_room}
+use Rattle.pmem_words.specs.Seats.{Seat}
 use Rattle.pmem_words.specs.Scripts.{After}
-use Rattle.persistence.specs.Memory.{cell, found_answer}
+use Rattle.persistence.specs.Memory.{found_answer}
 use Rattle.log_core.specs.Entries.{place_in}
 use Rattle.log_core.specs.Views.{Ghost, view_of}
-use Rattle.log_core.specs.Origin.{Origin, shape}
+use Rattle.log_core.specs.Origin.{Origin}
 use Rattle.log_core.specs.Cores.{Core}
-use Rattle.log_core.specs.Works.{Work, KeepsTable, StartsFromLog, StartsFromSnapshot, Forgets, MayStart, IsAtFront, kept_at, kept_word, word_or_zero, front, front_base, front_kind, seat_shape, words_of, tail_index, state_after_all_work, walk_kept}
+use Rattle.log_core.specs.Works.{Work, KeepsTable, StartsFromLog, StartsFromSnapshot, Forgets, IsAtFront, kept_at, word_or_zero, front, front_base, front_kind, seat_shape, tail_index, walk_kept}
 use Rattle.log_core.specs.Invariant.{Invariant}
 use Rattle.log_core.specs.Knows.{Knows}
 use Rattle.log_core.specs.Within.{no_record, Lawful}
@@ -24,13 +23,13 @@ use Rattle.log_blocks.specs.declared.walk.Tail.{Tail}
 use Rattle.log_blocks.specs.declared.walk.Walk.{Walk}
 use Rattle.log_blocks.specs.declared.walk.Walk.TheVariants.{Begin, Size, Run}
 use Rattle.log_blocks.specs.Taking.{table_kept, log_begun, snapshot_begun, with_kept}
-use Rattle.log_blocks.specs.Walking.{walk_script, walk_after, begin_after, front_after, keeps_table, walk_measure, begin_measure, whole_log, IsKind, IsOfImage, WalkAdmits, BeginAdmits}
+use Rattle.log_blocks.specs.Walking.{walk_script, begin_after, front_after, keeps_table, walk_measure, begin_measure, whole_log, IsKind, IsOfImage, WalkAdmits, BeginAdmits}
 use Rattle.log_blocks.specs.WalkWithin.{HasWalkedOn}
 use Rattle.log_blocks.proofs.WalkStanding.{IsUnderWay, IsAtBegin, IsAtSize, WalkStands}
 use Rattle.log_blocks.proofs.WalkWay.{MayGo, valid, free, pinned, goes_on, begins_on, eight, log_small}
 use Rattle.log_blocks.proofs.KeptLists.{kept_last, kept_other}
 use Rattle.log_blocks.proofs.FoundWords.{front_known, named_of_image}
-use Rattle.log_blocks.proofs.Loading.{NamesAlways, at_place, seen, Found, IsComputed, no_tail, lawful_load}
+use Rattle.log_blocks.proofs.Loading.{NamesAlways, at_place, seen, IsComputed, no_tail, lawful_load}
 
 never : {P : Type 0} {b : Bool} → b ≡ false → b ≡ true → P
 never is also = (let both : false ≡ true = sym is ∙ also in cc)

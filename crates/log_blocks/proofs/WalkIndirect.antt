@@ -1,19 +1,18 @@
 -- A walk in the block of an indirect entry: it keeps each word of it, and takes the entry in with the last one.
-use Rattle.std.proofs.Common.{◌≡◌, ◌≢◌, ◌<◌, ◌≤◌, ◌⊎◌, ◌+◌, ◌-◌, ◌*◌, ◌/◌, ◌^◌, ◌==◌, ◌&&◌, ◌||◌, nat_lt, inl, inr, ⊎_elim, ℕ, Bool, true, false, if◌then◌else◌, List, [], ◌∷◌, ◌++◌, length, map, drop, refl, sym, ◌∙◌, ap, subst, arith, slice_index, Option, Some, None}
+use Rattle.std.proofs.Common.{◌≡◌, ◌≢◌, ◌<◌, ◌≤◌, ◌⊎◌, ◌+◌, ◌/◌, ◌^◌, ◌==◌, ◌&&◌, nat_lt, inl, inr, ⊎_elim, ℕ, Bool, true, false, if◌then◌else◌, List, [], ◌∷◌, ◌++◌, length, map, drop, refl, sym, ◌∙◌, ap, subst, arith, slice_index, Some, None}
 use Rattle.std.proofs.lemmas.Bool.{ne_eqb, ltb-true, ltb-false}
 use Rattle.std.proofs.lemmas.List.{length-append}
 use Rattle.std.proofs.lemmas.Nat.{div-mul-add}
 use Rattle.log_entry.specs.Fields.{field}
 use Rattle.log_entry.specs.declared.layouts.TheConstants.{SEAL, ENTRY_KIND, DIRECT, INDIRECT, INDIRECT_BLOCK}
-use Rattle.log_image.specs.Image.{Shape, shape_by, words_in}
+use Rattle.log_image.specs.Image.{Shape, shape_by}
 use Rattle.log_image.specs.Entries.{Meaning, direct_meaning, indirect_meaning}
 use Rattle.log_image.specs.Format.{fits, is_indirect_block}
 use Rattle.asks.specs.declared.ask.Ask.TheVariants.{Load}
 use Rattle.asks.specs.declared.ask.Place.TheVariants.{Image}
 use Rattle.pmem_words.specs.declared.keeps.KeptWord.{KeptWord}
-use Rattle.pmem_words.specs.declared.machine.Turn.TheVariants.{Go, Done}
+use Rattle.pmem_words.specs.declared.machine.Turn.TheVariants.{Done}
 use Rattle.pmem_words.specs.Seats.{Seat}
-use Rattle.pmem_words.specs.Scripts.{After}
 use Rattle.persistence.specs.Memory.{found_answer}
 use Rattle.log_core.specs.Entries.{place_in, meaning_by}
 use Rattle.log_core.specs.Views.{Ghost, view_of}
@@ -26,15 +25,16 @@ use Rattle.log_core.specs.Knows.{Knows}
 use Rattle.log_core.specs.Within.{no_record, Lawful}
 use Rattle.log_blocks.specs.declared.walk.Tail.{Tail}
 use Rattle.log_blocks.specs.declared.walk.Walk.{Walk}
-use Rattle.log_blocks.specs.declared.walk.Walk.TheVariants.{Begin, Indirect}
+use Rattle.log_blocks.specs.declared.walk.Walk.TheVariants.{Indirect}
 use Rattle.log_blocks.specs.Taking.{with_kept, taken, kept_words}
-use Rattle.log_blocks.specs.Walking.{walk_script, indirect_after, walk_measure, begin_measure, log_left, IsWholeBlock, WalkAdmits}
+use Rattle.log_blocks.specs.Walking.{walk_script, indirect_after, walk_measure, IsWholeBlock, WalkAdmits}
 use Rattle.log_blocks.specs.WalkWithin.{HasWalkedOn}
-use Rattle.log_blocks.proofs.WalkStanding.{IsUnderWay, IsInBlock, WalkStands, rows}
+use Rattle.log_blocks.proofs.WalkStanding.{IsUnderWay, IsInBlock, WalkStands}
+use Rattle.log_blocks.specs.Committing.{rows}
 use Rattle.log_blocks.proofs.WalkWay.{MayGo, valid, free, few, goes_on, most}
 use Rattle.log_blocks.proofs.WalkTail.{takes_entry, taken_falls}
 use Rattle.log_blocks.proofs.KeptLists.{rows_push, rows_words, length_rows, row_at, first_at, content_is}
-use Rattle.log_blocks.proofs.FoundTail.{tail_upto, position_small, few_words, runs_of, runs_fit_so, entry_form, holder_is_named, holder_apart, holder_content}
+use Rattle.log_blocks.proofs.FoundTail.{position_small, few_words, runs_of, runs_fit_so, entry_form, holder_is_named, holder_apart, holder_content}
 use Rattle.log_blocks.proofs.FoundWords.{named_of_image}
 use Rattle.log_blocks.proofs.Loading.{NamesAlways, at_place, seen, knows_seen, IsComputed, no_tail, lawful_load}
 

@@ -1,8 +1,8 @@
 -- A walk that goes on from an indirect entry that was found at the tail comes further.
-use Rattle.std.proofs.Common.{◌≡◌, ◌≢◌, ◌<◌, ◌≤◌, ◌+◌, ◌==◌, nat_lt, inl, ℕ, Bool, true, false, [], ◌∷◌, length, refl, sym, ap, ◌∙◌, subst, arith}
+use Rattle.std.proofs.Common.{◌≡◌, ◌<◌, ◌≤◌, ◌+◌, ◌==◌, nat_lt, inl, ℕ, Bool, true, false, [], refl, sym, ap, ◌∙◌, subst, arith}
 use Rattle.log_entry.specs.Fields.{field}
 use Rattle.log_entry.specs.declared.layouts.TheConstants.{EMPTY, SEAL, ENTRY_KIND, INDIRECT, INDIRECT_BLOCK}
-use Rattle.pmem_words.specs.declared.machine.Turn.TheVariants.{Go, Done}
+use Rattle.pmem_words.specs.declared.machine.Turn.TheVariants.{Done}
 use Rattle.pmem_words.specs.Seats.{Seat}
 use Rattle.pmem_words.specs.Scripts.{After}
 use Rattle.log_core.specs.Views.{Ghost}
@@ -17,7 +17,7 @@ use Rattle.log_blocks.specs.declared.walk.Walk.TheVariants.{Begin, Size, Run, Li
 use Rattle.log_blocks.specs.Taking.{with_kept}
 use Rattle.log_blocks.specs.Walking.{walk_script, walk_lowers, walk_after, begin_after, tail_after, slot_after, indirect_after}
 use Rattle.log_blocks.specs.WalkWithin.{MayWalkOn, HasWalkedOn, HasPassed, WalksOnWithin}
-use Rattle.log_blocks.proofs.WalkStanding.{WalkStands, IsUnderWay}
+use Rattle.log_blocks.proofs.WalkStanding.{WalkStands}
 use Rattle.log_blocks.proofs.WalkWay.{MayGo, eight}
 use Rattle.log_blocks.proofs.WalkServes.{walk_serves, at_first}
 

@@ -1,25 +1,17 @@
 -- The law of a walk within a core.
-use Rattle.std.proofs.Common.{◌≡◌, ◌≢◌, ◌<◌, ◌≤◌, ◌==◌, inl, ℕ, Bool, true, false, if◌then◌else◌, [], ◌∷◌, length, refl, sym, ap, ◌∙◌, subst, arith}
-use Rattle.std.proofs.lemmas.Bool.{ne_eqb, eqb-false}
-use Rattle.log_entry.specs.Fields.{field}
-use Rattle.log_entry.specs.declared.layouts.TheConstants.{EMPTY, SEAL, ENTRY_KIND, INDIRECT, INDIRECT_BLOCK}
-use Rattle.pmem_words.specs.declared.machine.Turn.TheVariants.{Go, Done}
+use Rattle.std.proofs.Common.{◌≡◌, ◌<◌, ◌≤◌, ◌==◌, ℕ, Bool, true, false, if◌then◌else◌, refl, arith}
+use Rattle.std.proofs.lemmas.Bool.{eqb-false}
 use Rattle.pmem_words.specs.Seats.{Seat}
-use Rattle.log_core.specs.Views.{Ghost, view_of}
+use Rattle.log_core.specs.Views.{Ghost}
 use Rattle.log_core.specs.Origin.{Origin}
-use Rattle.log_core.specs.Cores.{Core}
 use Rattle.log_core.specs.Works.{words_of, tail_index}
-use Rattle.log_core.specs.Invariant.{Invariant}
-use Rattle.log_core.specs.Knows.{Knows}
-use Rattle.log_core.specs.Within.{no_record, IsFound, Lawful, Serves, ghost_found}
-use Rattle.log_core.proofs.machines.Framing.{Frames, serves_with, serves_as}
+use Rattle.log_core.specs.Within.{no_record, Lawful, Serves}
 use Rattle.log_core.proofs.machines.MachineLaws.{Law, promised}
 use Rattle.log_blocks.specs.declared.walk.Tail.{Tail}
 use Rattle.log_blocks.specs.declared.walk.Walk.{Walk}
 use Rattle.log_blocks.specs.declared.walk.Walk.TheVariants.{Begin, Size, Run, Link, Next, Indirect}
-use Rattle.log_blocks.specs.Taking.{taken}
-use Rattle.log_blocks.specs.Walking.{walk_script, walk_lowers, walk_after, begin_after, tail_after, slot_after, indirect_after}
-use Rattle.log_blocks.specs.WalkWithin.{MayWalk, MayWalkOn, HasWalkedOn, HasPassed, WalksWithin, WalksOnWithin}
+use Rattle.log_blocks.specs.Walking.{walk_script, walk_lowers}
+use Rattle.log_blocks.specs.WalkWithin.{MayWalk, HasWalkedOn, WalksWithin}
 use Rattle.log_blocks.proofs.Loading.{lawful_known}
 use Rattle.log_blocks.proofs.FoundTail.{tail_upto}
 use Rattle.log_blocks.proofs.WalkStanding.{WalkStands, IsUnderWay}

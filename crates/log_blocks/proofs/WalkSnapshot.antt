@@ -1,6 +1,6 @@
 -- A walk in a snapshot: it takes in the entries of a block, and goes on to the block that follows.
-use Rattle.std.proofs.Common.{◌≡◌, ◌≢◌, ◌<◌, ◌≤◌, ◌⊎◌, ◌+◌, ◌-◌, ◌*◌, ◌^◌, ◌==◌, ◌&&◌, ◌||◌, inl, inr, ⊎_elim, ℕ, Bool, true, false, if◌then◌else◌, List, [], ◌∷◌, ◌++◌, length, refl, sym, ◌∙◌, ap, subst, arith, slice_index, Option, Some, None}
-use Rattle.std.proofs.lemmas.Bool.{eqb-true, eqb-false, eq-eqb}
+use Rattle.std.proofs.Common.{◌≡◌, ◌≢◌, ◌<◌, ◌⊎◌, ◌+◌, ◌^◌, ◌==◌, ◌&&◌, inl, inr, ⊎_elim, ℕ, Bool, true, false, List, [], ◌∷◌, ◌++◌, length, refl, sym, ◌∙◌, ap, subst, arith, slice_index, Option, Some, None}
+use Rattle.std.proofs.lemmas.Bool.{eqb-true, eqb-false}
 use Rattle.std.proofs.lemmas.List.{length-append}
 use Rattle.log_entry.specs.Fields.{field}
 use Rattle.log_entry.specs.declared.layouts.TheConstants.{BLOCK_KIND, EMPTY, LOG, SNAPSHOT}
@@ -26,15 +26,15 @@ use Rattle.log_core.specs.Within.{no_record, Lawful}
 use Rattle.log_core.proofs.kinds.ReadsSnapshot.{run_form}
 use Rattle.log_blocks.specs.declared.walk.Tail.{Tail}
 use Rattle.log_blocks.specs.declared.walk.Walk.{Walk}
-use Rattle.log_blocks.specs.declared.walk.Walk.TheVariants.{Begin, Run, Link, Next}
+use Rattle.log_blocks.specs.declared.walk.Walk.TheVariants.{Run, Link, Next}
 use Rattle.log_blocks.specs.Taking.{with_kept, run_taken, next_begun, reading_ended}
-use Rattle.log_blocks.specs.Walking.{walk_script, run_after, run_or_link, next_after, walk_measure, snapshot_left, whole_log, IsKind, WalkAdmits}
+use Rattle.log_blocks.specs.Walking.{walk_script, run_after, run_or_link, next_after, walk_measure, IsKind}
 use Rattle.log_blocks.specs.WalkWithin.{HasWalkedOn}
 use Rattle.log_blocks.proofs.WalkStanding.{IsUnderWay, IsInSnapshot, IsAtRun, IsAtLink, IsAtNext, HasNoMore, WalkStands}
-use Rattle.log_blocks.proofs.WalkWay.{MayGo, valid, free, goes_on, notes_on, eight, most, log_small}
+use Rattle.log_blocks.proofs.WalkWay.{MayGo, valid, goes_on, notes_on, eight, most, log_small}
 use Rattle.log_blocks.proofs.KeptLists.{kept_last, kept_other}
 use Rattle.log_blocks.proofs.FoundWords.{reading_known, next_known, place_small, named_small, named_of_image, chain, chain_is_kept}
-use Rattle.log_blocks.proofs.Loading.{NamesAlways, at_place, seen, knows_seen, Found, IsComputed, no_tail, lawful_load}
+use Rattle.log_blocks.proofs.Loading.{NamesAlways, at_place, seen, knows_seen, IsComputed, no_tail, lawful_load}
 
 never : {P : Type 0} {b : Bool} → b ≡ false → b ≡ true → P
 never is also = (let both : false ≡ true = sym is ∙ also in cc)

@@ -1,8 +1,7 @@
 -- Where a walk stands on the way.
-use Rattle.std.proofs.Common.{◌≡◌, ◌≢◌, ◌<◌, ◌≤◌, ◌⊎◌, ◌+◌, ℕ, zero, suc, true, false, List, [], ◌∷◌, length, Some}
+use Rattle.std.proofs.Common.{◌≡◌, ◌≢◌, ◌<◌, ◌≤◌, ◌⊎◌, ℕ, true, false, List, [], ◌∷◌, length, Some}
 use Rattle.log_entry.specs.Fields.{field}
 use Rattle.log_entry.specs.declared.layouts.TheConstants.{BLOCK_BASE, BLOCK_KIND, ENTRY_KIND, INDIRECT, INDIRECT_BLOCK, SNAPSHOT}
-use Rattle.pmem_words.specs.declared.keeps.KeptWord.{KeptWord}
 use Rattle.pmem_words.specs.Seats.{Seat}
 use Rattle.log_core.specs.Views.{Ghost}
 use Rattle.log_core.specs.Works.{words_of, front, kept_at}

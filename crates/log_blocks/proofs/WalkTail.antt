@@ -1,14 +1,11 @@
 -- A walk at the tail of a seat that is ready: it takes in an entry, goes over a seal, follows a link, or has come to the end.
-use Rattle.std.proofs.Common.{◌≡◌, ◌≢◌, ◌<◌, ◌≤◌, ◌⊎◌, ◌+◌, ◌-◌, ◌*◌, ◌/◌, ◌^◌, ◌==◌, ◌&&◌, ◌||◌, not, nat_lt, inl, inr, ⊎_elim, ℕ, zero, suc, Bool, true, false, if◌then◌else◌, List, [], ◌∷◌, ◌++◌, length, filter, map, drop, refl, sym, ◌∙◌, ap, subst, arith, slice_index, Option, Some, None}
-use Rattle.std.proofs.lemmas.Bool.{eqb-true, eqb-false, eq-eqb, ne_eqb, ltb-true, ltb-false}
-use Rattle.std.proofs.lemmas.List.{length-append}
-use Rattle.std.proofs.lemmas.Nat.{div-mul-add}
-use Rattle.std.specs.List.{list_all}
+use Rattle.std.proofs.Common.{◌≡◌, ◌≢◌, ◌<◌, ◌≤◌, ◌+◌, ◌*◌, ◌^◌, ◌==◌, ◌||◌, not, inl, ℕ, suc, Bool, true, false, if◌then◌else◌, List, [], ◌∷◌, ◌++◌, length, refl, sym, ◌∙◌, ap, subst, arith, slice_index}
+use Rattle.std.proofs.lemmas.Bool.{eqb-true, eqb-false, eq-eqb, ne_eqb}
 use Rattle.log_entry.specs.Fields.{field}
 use Rattle.log_entry.specs.declared.layouts.TheConstants.{EMPTY, SEAL, ENTRY_KIND, DIRECT, INDIRECT, INDIRECT_BLOCK}
-use Rattle.log_image.specs.Image.{Shape, shape_by, words_in}
+use Rattle.log_image.specs.Image.{Shape, shape_by}
 use Rattle.log_image.specs.Entries.{Meaning, direct_meaning, indirect_meaning}
-use Rattle.log_image.specs.Format.{fits, is_indirect_block}
+use Rattle.log_image.specs.Format.{fits}
 use Rattle.asks.specs.declared.ask.Ask.TheVariants.{Load}
 use Rattle.asks.specs.declared.ask.Place.TheVariants.{Image}
 use Rattle.pmem_words.specs.declared.keeps.KeptWord.{KeptWord}
@@ -20,7 +17,6 @@ use Rattle.log_core.specs.Entries.{place_in, meaning_by}
 use Rattle.log_core.specs.Views.{Ghost, view_of}
 use Rattle.log_core.specs.Origin.{Origin, shape}
 use Rattle.log_core.specs.Cores.{Core}
-use Rattle.log_core.specs.Steps.{is_tail_found}
 use Rattle.log_core.specs.May.{is_log_entry_by}
 use Rattle.log_core.specs.Works.{Work, Forgets, Follows, TakesSeal, TakesEntry, HasFoundSlot, HasFoundLink, IsKeptWhole, kept_at, kept_word, kept_content, word_or_zero, seat_shape, words_of, tail_index, tail_word, tail_meaning, touches, bases_left, state_after_work, blocks_noted}
 use Rattle.log_core.specs.Invariant.{Invariant}
@@ -28,14 +24,14 @@ use Rattle.log_core.specs.Knows.{Knows}
 use Rattle.log_core.specs.Within.{no_record, IsFound, Lawful}
 use Rattle.log_blocks.specs.declared.walk.Tail.{Tail}
 use Rattle.log_blocks.specs.declared.walk.Walk.{Walk}
-use Rattle.log_blocks.specs.declared.walk.Walk.TheVariants.{Begin, Indirect}
-use Rattle.log_blocks.specs.Taking.{with_kept, taken, seal_taken, followed, tail_found, kept_words, HasRoom, HasFewBases}
-use Rattle.log_blocks.specs.Walking.{walk_script, walk_after, begin_after, tail_after, slot_after, indirect_after, tail_of, walk_measure, begin_measure, log_left, rank_by, IsSlotWord, IsWholeBlock, WalkAdmits, BeginAdmits}
+use Rattle.log_blocks.specs.declared.walk.Walk.TheVariants.{Begin}
+use Rattle.log_blocks.specs.Taking.{with_kept, taken, seal_taken, followed, tail_found}
+use Rattle.log_blocks.specs.Walking.{walk_script, begin_after, tail_after, slot_after, tail_of, walk_measure, begin_measure, log_left, IsSlotWord, WalkAdmits, BeginAdmits}
 use Rattle.log_blocks.specs.WalkWithin.{HasWalkedOn}
-use Rattle.log_blocks.proofs.WalkStanding.{IsUnderWay, IsAtBegin, IsInBlock, WalkStands, rows}
+use Rattle.log_blocks.proofs.WalkStanding.{IsUnderWay, IsAtBegin, WalkStands}
 use Rattle.log_blocks.proofs.WalkWay.{MayGo, valid, free, few, goes_on, goes_to, notes_on, eight, most, rank_small}
-use Rattle.log_blocks.proofs.KeptLists.{kept_last, rows_push, rows_words, length_rows, row_at, first_at, content_is}
-use Rattle.log_blocks.proofs.FoundTail.{tail_named, tail_from, tail_upto, position_small, few_words, seal_late, link_of_image, is_direct_kind, direct_fits, runs_of, runs_fit_so, entry_form, holder_is_named, holder_apart, holder_content}
+use Rattle.log_blocks.proofs.KeptLists.{kept_last}
+use Rattle.log_blocks.proofs.FoundTail.{tail_named, tail_upto, position_small, few_words, seal_late, link_of_image, is_direct_kind, direct_fits, entry_form}
 use Rattle.log_blocks.proofs.Loading.{NamesAlways, at_place, seen, knows_seen, IsComputed, no_tail, lawful_load}
 
 -- an entry leaves no more partly touched blocks than there were

@@ -11,7 +11,7 @@ use Rattle.asks.specs.declared.ask.Ask.TheVariants.{Exchange}
 use Rattle.asks.specs.declared.ask.Place.TheVariants.{Image}
 use Rattle.pmem_words.specs.declared.keeps.KeptWord.{KeptWord}
 use Rattle.pmem_words.specs.declared.owned.OwnedBlock.{OwnedBlock}
-use Rattle.pmem_words.specs.Seats.{Seat, q_of, kept_room}
+use Rattle.pmem_words.specs.Seats.{Seat}
 use Rattle.log_core.specs.Entries.{place_in}
 use Rattle.log_core.specs.Needs.{owned_numbers}
 use Rattle.log_core.specs.Works.{seat_shape, words_of, walk_past, without_bases}

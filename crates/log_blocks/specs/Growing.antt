@@ -1,7 +1,7 @@
 -- What linking a block at the tail means.
 use Rattle.pmem_words.specs.Noted.{noted_more}
 use Rattle.log_blocks.specs.Walking.{IsOfImage}
-use Rattle.std.specs.Prelude.{◌∷◌, ◌≢◌, [], ℕ, ◌+◌, ◌*◌, ◌^◌, ◌<◌, ◌≡◌, ◌==◌, Bool, true, false, []}
+use Rattle.std.specs.Prelude.{◌∷◌, ◌≢◌, [], ℕ, ◌≡◌, ◌==◌, Bool, true, false, []}
 use Rattle.log_entry.specs.declared.layouts.TheConstants.{EMPTY}
 use Rattle.asks.specs.declared.ask.Ask.TheVariants.{Exchange}
 use Rattle.asks.specs.declared.ask.Place.TheVariants.{Image}

@@ -1,12 +1,11 @@
 -- What a walk makes of its seat with a word that was loaded: each is what the core's computations make of it, and no word is kept then. In a
 -- collection what the chain names is noted.
-use Rattle.std.specs.Prelude.{ℕ, ◌+◌, ◌-◌, ◌*◌, ◌<◌, ◌≤◌, ◌^◌, ◌≡◌, ◌&&◌, nat_le, nat_lt, max, Bool, true, false, Option, Some, None, List, remove, [], ◌∷◌, ◌++◌, length, map, drop}
+use Rattle.std.specs.Prelude.{ℕ, ◌+◌, ◌*◌, ◌<◌, ◌≤◌, ◌^◌, ◌≡◌, ◌&&◌, nat_le, nat_lt, Bool, true, false, Option, Some, None, List, remove, [], ◌∷◌, ◌++◌, length, map, drop}
 use Rattle.std.specs.List.{slice_get}
 use Rattle.log_image.specs.Entries.{Meaning, direct_meaning, names}
 use Rattle.pmem_words.specs.declared.keeps.KeptWord.{KeptWord}
 use Rattle.pmem_words.specs.Owned.{without_block}
 use Rattle.pmem_words.specs.Seats.{Seat, Walk, Calling, q_of}
-use Rattle.log_core.specs.Entries.{no_meaning}
 use Rattle.log_core.specs.Works.{seat_shape, words_of, front, walk_kept, walk_from_log, walk_from_snapshot, walk_read, walk_past, with_entry, without_bases, begun_at_front, blocks_noted}
 
 -- a word of a block is kept

@@ -1,5 +1,5 @@
 -- A walk within a core: when a seat may walk, and what it has at the tail, whatever other seats do meanwhile.
-use Rattle.std.specs.Prelude.{ℕ, ◌≤◌, ◌<◌, ◌≡◌, ◌≢◌, true, false, [], ◌∷◌, length, if◌then◌else◌, ◌==◌}
+use Rattle.std.specs.Prelude.{ℕ, ◌≤◌, ◌<◌, ◌≡◌, ◌≢◌, true, false, [], ◌∷◌, length, ◌==◌}
 use Rattle.log_entry.specs.Fields.{field}
 use Rattle.log_entry.specs.declared.layouts.TheConstants.{HEAD_GENERATION, ENTRY_KIND, INDIRECT, INDIRECT_BLOCK}
 use Rattle.pmem_words.specs.Seats.{Seat}

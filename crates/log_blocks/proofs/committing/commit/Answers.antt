@@ -1,13 +1,13 @@
-use Rattle.std.proofs.Common.{◌≡◌, ◌≢◌, ℕ, true, sym, ◌∙◌, ap}
+use Rattle.std.proofs.Common.{◌≡◌, ℕ, true, sym, ◌∙◌, ap}
 use Rattle.log_entry.specs.Fields.{field}
 use Rattle.log_entry.specs.declared.layouts.TheConstants.{INDIRECT_BLOCK}
-use Rattle.log_image.specs.Entries.{Meaning, names, direct_meaning, indirect_meaning}
+use Rattle.log_image.specs.Entries.{names, direct_meaning, indirect_meaning}
 use Rattle.pmem_words.specs.Seats.{Seat}
 use Rattle.log_core.specs.Steps.{content_of, blocks_but}
 use Rattle.log_core.specs.Works.{words_of}
 use Rattle.log_image.specs.Chains.{is_listed}
 use Rattle.log_blocks.specs.Taking.{taken}
-use Rattle.log_blocks.specs.Committing.{taken_out, committed}
+use Rattle.log_blocks.specs.Committing.{taken_out}
 use Rattle.log_blocks.proofs.NewEntries.{not_noted, put_in, new_direct, new_indirect, committed_by}
 use Rattle.log_blocks.proofs.committing.commit.Goals as goal
 use Rattle.log_blocks.proofs.committing.commit.Goals.{then-of-eq-DIRECT, else-of-eq-DIRECT}

@@ -1,4 +1,4 @@
-use Rattle.std.proofs.Common.{◌≡◌, ◌<◌, ◌≤◌, ◌+◌, ◌*◌, ◌++◌, true, ℕ, List, [], ◌∷◌, length, take, refl, sym, ◌∙◌, ap, subst, arith, slice_index, append_assoc}
+use Rattle.std.proofs.Common.{◌≡◌, ◌<◌, ◌≤◌, ◌+◌, ◌*◌, ◌++◌, true, ℕ, List, [], ◌∷◌, length, take, sym, ◌∙◌, ap, subst, arith, slice_index, append_assoc}
 use Rattle.std.proofs.lemmas.List.{take_all, length-append}
 use Rattle.pmem_words.specs.declared.keeps.KeptWord.{KeptWord}
 use Rattle.pmem_words.specs.declared.owned.OwnedBlock.{OwnedBlock}
