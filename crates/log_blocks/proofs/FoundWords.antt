@@ -147,7 +147,7 @@ module _ (o : Origin) (c : Core) (n : ℕ) (s : Seat) (g : Ghost) (pin began : �
   next_known block link = ⊎_elim
       (λ last. subst (λ (b : ℕ). Known b) (sym last.1 ∙ sym link_says) (cut_block o c inv _ in_chain))
       (λ later. subst (λ (b : ℕ). Known b) (later.1 ∙ sym link_says)
-          (snapshot_block o c inv _ in_chain (slice_index pinned.snapshots (s.walk.reading_place + 1)) (Rattle.log_core.proofs.SnapshotReads.listed_at pinned.snapshots (s.walk.reading_place + 1) _ later.0 refl)))
+      (snapshot_block o c inv _ in_chain (slice_index pinned.snapshots (s.walk.reading_place + 1)) (Rattle.log_core.proofs.SnapshotReads.listed_at pinned.snapshots (s.walk.reading_place + 1) _ later.0 refl)))
       (next_at (shape o) c.recorded pinned.base pinned.size (nth_log c.logs pinned.cut).block pinned.snapshots s.walk.reading_place (are_blocks o c n s g pin began inv f reading unspent) read.inside)
     where
       in_chain : KeptIn o c (chain o c n s g pin began inv f reading.valid)

@@ -101,7 +101,6 @@ module _ (o : Origin) (seat : ℕ) (s : Seat) (g : Ghost) (entry : ℕ) (may : M
             fits = subst (λ (m : Meaning). fits (seat_shape s) 256 m ≡ true) meaning (entry_fits (λ b. content_of s b) (seat_shape s) entry here.form);
           });
     }
-
       where
         -- a call that notes is a collection, and puts in no entry
         quiet : (b : Bool) → s.calling.noting ≡ b → b ≡ false

@@ -51,10 +51,13 @@ module _ (o : Origin) (seat : ℕ) (s0 : Seat) (g0 : Ghost) (go : MayGo s0 g0) (
 
     -- what is said of a word of that block is of the image's word
     found_kind : (c : Core) (pin began : ℕ) → Invariant o c → (view_of c.views seat).parts ≢ [] → Knows o c seat s g pin began → IsKind (found_answer c.memory (Load (Image (place_in (seat_shape s) (front s) 1)))) × IsOfImage s (front s)
-    found_kind c pin began inv unspent knows = (record {
-      is = subst (λ (image : Shape). (field BLOCK_KIND (slice_index c.memory.now.words (place_in image (front s) 1)) ≡ LOG) ⊎ (field BLOCK_KIND (slice_index c.memory.now.words (place_in image (front s) 1)) ≡ SNAPSHOT))
-          (sym (ap shape_by (knows.fits unspent).geometry)) (front_known o c seat s g pin began inv knows (valid s0 g0 go s g on_way) (pinned s0 g0 go s g on_way not_ready)).kind;
-    }, of_image c pin began inv unspent knows)
+    found_kind c pin began inv unspent knows = (
+      record {
+        is = subst (λ (image : Shape). (field BLOCK_KIND (slice_index c.memory.now.words (place_in image (front s) 1)) ≡ LOG) ⊎ (field BLOCK_KIND (slice_index c.memory.now.words (place_in image (front s) 1)) ≡ SNAPSHOT))
+            (sym (ap shape_by (knows.fits unspent).geometry)) (front_known o c seat s g pin began inv knows (valid s0 g0 go s g on_way) (pinned s0 g0 go s g on_way not_ready)).kind;
+      },
+      of_image c pin began inv unspent knows,
+    )
 
     -- no tail is found by a seat that is not ready
     same_tail : (slot f : ℕ) → (seen o seat s g (front s) slot f).walk.at_tail ≡ s.walk.at_tail
@@ -188,16 +191,22 @@ module _ (o : Origin) (seat : ℕ) (s0 : Seat) (g0 : Ghost) (go : MayGo s0 g0) (
 
     computed_size : (f : ℕ) → IsComputed g (e_size f) (StartsFromSnapshot ∷ []) (snapshot_begun s base (field SNAPSHOT_SIZE f))
     computed_size f = record {
-      may = ((record {
-        at_front = record {
-          valid = valid s0 g0 go s g on_way;
-          pinned = pinned s0 g0 go s g on_way at.not_ready;
-          front = λ none. (let both : Some at.word ≡ None = sym (second_still f) ∙ none in cc);
-        };
-        free = free s0 g0 go s g on_way;
-        no_bases = at.no_bases;
-        kind_is = ap (λ (found : Option ℕ). field BLOCK_KIND (word_or_zero found)) (second_still f) ∙ at.kind_is;
-      }, λ none. (let both : Some f ≡ None = sym (third_kept f) ∙ none in cc)), tt);
+      may = (
+        (
+          record {
+            at_front = record {
+              valid = valid s0 g0 go s g on_way;
+              pinned = pinned s0 g0 go s g on_way at.not_ready;
+              front = λ none. (let both : Some at.word ≡ None = sym (second_still f) ∙ none in cc);
+            };
+            free = free s0 g0 go s g on_way;
+            no_bases = at.no_bases;
+            kind_is = ap (λ (found : Option ℕ). field BLOCK_KIND (word_or_zero found)) (second_still f) ∙ at.kind_is;
+          },
+          λ none. (let both : Some f ≡ None = sym (third_kept f) ∙ none in cc),
+        ),
+        tt,
+      );
       going_on = refl;
       gives = ap (λ (b : ℕ). snapshot_begun s b (field SNAPSHOT_SIZE f)) (sym (ap (λ (found : Option ℕ). field BLOCK_BASE (word_or_zero found)) (second_still f) ∙ at.base_is))
           ∙ ap (λ (size : ℕ). snapshot_begun s (front_base (e_size f)) size) (sym (ap (λ (found : Option ℕ). field SNAPSHOT_SIZE (word_or_zero found)) (third_kept f)));

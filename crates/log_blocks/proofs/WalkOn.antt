@@ -96,21 +96,24 @@ pub on_go : (word : ℕ) (o : Origin) (seat : ℕ) (s : Seat) (g : Ghost) → Ma
 on_go word o seat s g may = record { valid = may.valid; takes_in = may.takes_in; pinned = λ other. (let both : true ≡ false = sym may.ready ∙ other in cc) }
 
 pub walk_on_begins : (word : ℕ) (o : Origin) (seat : ℕ) (s : Seat) (g : Ghost) → MayWalkOn word o seat s g → WalkStands s g (Indirect (field INDIRECT_BLOCK word) 0) s g × (s.walk.position ≤ s.walk.position)
-walk_on_begins word o seat s g may = (record {
-  on_way = at_first s g;
-  stage = record {
-    ready = may.ready;
-    unclosed = may.inside;
-    inside = (let wide = eight s in omega (arith, wide));
-    word = word;
-    kind = may.kind;
-    block_is = refl;
-    words = [];
-    kept = may.kept;
-    count_is = refl;
-    apart = inl refl;
-  };
-}, omega arith)
+walk_on_begins word o seat s g may = (
+  record {
+    on_way = at_first s g;
+    stage = record {
+      ready = may.ready;
+      unclosed = may.inside;
+      inside = (let wide = eight s in omega (arith, wide));
+      word = word;
+      kind = may.kind;
+      block_is = refl;
+      words = [];
+      kept = may.kept;
+      count_is = refl;
+      apart = inl refl;
+    };
+  },
+  omega arith,
+)
 
 abbrev pub walk_on_law : (word : ℕ) → Law walk_script (Indirect (field INDIRECT_BLOCK word) 0)
 walk_on_law word = record {

@@ -134,8 +134,14 @@ module _ (o : Origin) (seat : ℕ) (s0 : Seat) (g0 : Ghost) (go : MayGo s0 g0) (
     }
     slot_computed false true f is kind some open_block direct = record { may = tt; going_on = refl; gives = kept_so f some open_block }
     slot_computed false false f is kind some open_block direct = record {
-      may = ((has_found f some open_block, (λ seal. eqb-false f SEAL is (sym (slot_word f open_block) ∙ seal)),
-      (λ indirect. absurd (eqb-false (field ENTRY_KIND f) INDIRECT kind (ap (field ENTRY_KIND) (sym (slot_word f open_block)) ∙ indirect)))), tt);
+      may = (
+        (
+          has_found f some open_block,
+          (λ seal. eqb-false f SEAL is (sym (slot_word f open_block) ∙ seal)),
+          (λ indirect. absurd (eqb-false (field ENTRY_KIND f) INDIRECT kind (ap (field ENTRY_KIND) (sym (slot_word f open_block)) ∙ indirect))),
+        ),
+        tt,
+      );
       going_on = refl;
       gives = ap (λ (m : Meaning). taken s m) (sym meaning_is);
     }
@@ -152,13 +158,16 @@ module _ (o : Origin) (seat : ℕ) (s0 : Seat) (g0 : Ghost) (go : MayGo s0 g0) (
       gives = ap (λ (b : Bool). record s { walk = record s.walk { at_tail = b; kept = [] } }) (sym (found_empty f (eqb-true f EMPTY none)));
     }
     computed false true f some is direct = record {
-      may = (record {
-        free = free s0 g0 go s g on_way;
-        valid = valid s0 g0 go s g on_way;
-        ready = ready;
-        at_end = eqb-true s.walk.tail_slot (words_of s) is;
-        linked = λ none. eqb-false f EMPTY some (sym (link_word f is) ∙ none);
-      }, tt);
+      may = (
+        record {
+          free = free s0 g0 go s g on_way;
+          valid = valid s0 g0 go s g on_way;
+          ready = ready;
+          at_end = eqb-true s.walk.tail_slot (words_of s) is;
+          linked = λ none. eqb-false f EMPTY some (sym (link_word f is) ∙ none);
+        },
+        tt,
+      );
       going_on = refl;
       gives = ap (λ (b : ℕ). followed s b) (sym (link_word f is))
           ∙ ap (λ (b : Bool). record s { walk = record s.walk { tail_block = kept_word (e f) s.walk.tail_block 0; tail_slot = 3; tail_base = s.walk.position; kept = []; at_tail = b }; blocks = blocks_noted s (kept_word (e f) s.walk.tail_block 0 ∷ []) }) (sym (not_found f (eqb-false f EMPTY some)));

@@ -16,7 +16,8 @@ ghost use Rattle.log_blocks.specs.Walking.{IsSlotWord};
 
 use crate::taking::{keep, take_direct, take_indirect, take_seal};
 use log_entry::layouts::{
-    DIRECT, DIRECT_BLOCK, DIRECT_COUNT, EMPTY, ENTRY_KIND, INDIRECT, INDIRECT_BLOCK, RUNS_RUNS, SEAL,
+    DIRECT, DIRECT_BLOCK, DIRECT_COUNT, EMPTY, ENTRY_KIND, INDIRECT, INDIRECT_BLOCK, RUNS_RUNS,
+    SEAL,
 };
 use pmem_words::{Ask, KeptWord, OwnedBlock, Place, SeatState};
 

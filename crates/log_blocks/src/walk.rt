@@ -1,11 +1,12 @@
 //! Goes to the tail of the log.
 
 use crate::taking::{
-    begin_log, begin_snapshot, end_reading, find_tail, follow, front_of, keep, keep_table, next_snapshot,
-    take_direct, take_indirect, take_run, take_seal,
+    begin_log, begin_snapshot, end_reading, find_tail, follow, front_of, keep, keep_table,
+    next_snapshot, take_direct, take_indirect, take_run, take_seal,
 };
 use log_entry::layouts::{
-    BLOCK_BASE, BLOCK_KIND, EMPTY, ENTRY_KIND, INDIRECT, INDIRECT_BLOCK, SEAL, SNAPSHOT, SNAPSHOT_SIZE,
+    BLOCK_BASE, BLOCK_KIND, EMPTY, ENTRY_KIND, INDIRECT, INDIRECT_BLOCK, SEAL, SNAPSHOT,
+    SNAPSHOT_SIZE,
 };
 use pmem_words::{Ask, Machine, Place, SeatState, Turn};
 
