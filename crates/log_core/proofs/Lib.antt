@@ -34,6 +34,7 @@ pub mod HistoryFiles
 pub mod Replies
 pub mod kinds
 pub mod machines
+pub mod writes
 pub mod starts
 pub mod row_checks
 pub mod following

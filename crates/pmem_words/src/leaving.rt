@@ -2,7 +2,6 @@
 
 ghost use Rattle.std.specs.Prelude.{◌≡◌, ◌*◌, ◌<◌, ◌≤◌, ◌^◌, true, length, vec_len, vec_capacity};
 ghost use Rattle.pmem_words.specs.Owned.{is_among, owned_but, contents_but, fenced_all};
-
 ghost use Rattle.pmem_words.specs.Runs.{is_in_run, is_in_runs};
 
 use crate::keeps::KeptWord;
@@ -112,12 +111,7 @@ pub fn keep_contents_outside(
 }
 
 /// Removes the `count` blocks from `first` on, and the blocks of these runs.
-pub fn keep_blocks_outside(
-    blocks: &mut Vec<OwnedBlock>,
-    first: u16,
-    count: u16,
-    runs: &[KeptWord],
-)
+pub fn keep_blocks_outside(blocks: &mut Vec<OwnedBlock>, first: u16, count: u16, runs: &[KeptWord])
     ensures items { blocks.new.items ≡ owned_but (is_in_runs first count runs.now) blocks.old.items }
     ensures room { vec_capacity blocks.old ≤ vec_capacity blocks.new }
 {

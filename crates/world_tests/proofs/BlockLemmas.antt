@@ -13,7 +13,7 @@ use Rattle.log_core.proofs.clauses.OneView.{same_or_other}
 use Rattle.crash_model.specs.Worlds.{WorldNow, seat_of, set_seat, new_world}
 use Rattle.crash_model.specs.Led.{IsResting, IsTurnOf, HasNoMarks}
 use Rattle.crash_model.proofs.Resting.{begun_rests, word_rests}
-use Rattle.block_bitmap.proofs.BlockWords.{q_range}
+use Rattle.log_core.proofs.BlockWords.{q_range}
 use Rattle.world_tests.specs.AloneSeats.{RunsAlone, AreAlone, AreAloneBut}
 
 -- seats of a world in which nothing was done

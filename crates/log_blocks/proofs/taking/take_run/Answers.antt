@@ -1,0 +1,26 @@
+use Rattle.std.proofs.Common.{◌≡◌, ◌+◌, ℕ, List, [], Option, ap, arith}
+use Rattle.log_entry.specs.Fields.{field}
+use Rattle.log_entry.specs.declared.layouts.TheConstants.{DIRECT_VIRT, DIRECT_BLOCK, DIRECT_COUNT}
+use Rattle.log_image.specs.Entries.{direct_meaning, names}
+use Rattle.pmem_words.specs.Maps.{with_run}
+use Rattle.pmem_words.specs.Seats.{Seat}
+use Rattle.log_core.specs.Works.{seat_shape, with_entry, blocks_noted}
+use Rattle.chain_reader.proofs.FitsLemmas.{RunNumbers, direct_numbers}
+use Rattle.log_blocks.proofs.EntryMaps.{direct_is, direct_inside}
+use Rattle.log_blocks.proofs.taking.take_run.Goals as goal
+
+pub apply-requires-clause-in_file : goal.apply-requires-clause-in_file
+apply-requires-clause-in_file c =
+    let is : RunNumbers (field DIRECT_VIRT c.args.word) (field DIRECT_BLOCK c.args.word) (field DIRECT_COUNT c.args.word + 1) = direct_numbers (seat_shape c.args.seat.now) 256 c.args.word (omega arith) c.requires.fits in
+    omega (arith, is.in_file)
+
+pub note_run-requires : goal.note_run-requires
+note_run-requires c = (let inside = direct_inside c.args.seat.now.geometry c.args.word c.requires.fits in rw c.apply.ensures (omega (arith, inside)))
+
+pub returns : goal.returns
+returns c =
+    (let s : Seat = c.args.seat.now in
+    let is : with_run c.of-2.result c.of-block.result (c.of.result + 1) s.walk.map ≡ with_entry (direct_meaning c.args.word) s.walk.map =
+    direct_is c.args.word c.of-2.result c.of-block.result c.of.result s.walk.map c.of-2.ensures c.of-block.ensures c.of.ensures in
+    rw (c.clear_kept.ensures, c.set_reading_slot.ensures, c.reading_slot.ensures, c.note_run.ensures, c.apply.ensures, c.of-block.ensures, c.of.ensures)
+    (ap (λ (map : List (Option ℕ)). record s { walk = record s.walk { map = map; reading_slot = s.walk.reading_slot + 1; kept = [] }; blocks = blocks_noted s (names (direct_meaning c.args.word)) }) (rw (c.of-block.ensures, c.of.ensures) at is)))
