@@ -1,0 +1,6 @@
+pub mod ByteWords
+pub mod Composing
+pub mod GiveOneWithin
+pub mod GivingOne
+pub mod WriteWithin
+pub mod Writing
