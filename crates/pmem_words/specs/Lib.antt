@@ -1,3 +1,4 @@
+pub mod ByteWords
 pub mod Maps
 pub mod Owned
 pub mod Noted

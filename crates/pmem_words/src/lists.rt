@@ -1,7 +1,10 @@
 //! Changes of lists that have room for what they get. They take no memory.
 
-ghost use Rattle.std.specs.Prelude.{◌≡◌, ◌+◌, ◌<◌, ◌≤◌, ◌^◌, ◌++◌, length, replicate, vec_len, vec_capacity};
+ghost use Rattle.std.specs.Prelude.{◌≡◌, ◌+◌, ◌*◌, ◌<◌, ◌≤◌, ◌^◌, ◌++◌, length, replicate, vec_len, vec_capacity};
 ghost use Rattle.std.specs.List.{remove_range};
+ghost use Rattle.pmem_words.specs.ByteWords.{words_set};
+
+use byteorder::{ByteOrder, LittleEndian};
 
 /// Adds these values at the end. The list needs room for them.
 pub fn append<T: Copy>(list: &mut Vec<T>, values: &[T])
@@ -27,6 +30,17 @@ pub fn append_zeros(words: &mut Vec<u64>, count: usize)
     match words.resize(len, 0) {
         Ok(()) => {}
         Err(_) => unreachable!(),
+    }
+}
+
+/// Makes the words from place `start` on, `count` of them, what these bytes are: eight for each, the lowest first.
+pub fn set_words(words: &mut [u64], start: usize, count: usize, bytes: &[u8])
+    requires words { start + count ≤ length words.old }
+    requires bytes { 8 * count ≤ length bytes.now }
+    ensures { words.new ≡ words_set bytes.now words.old start count }
+{
+    for word in 0..count {
+        words[start + word] = LittleEndian::read_u64(&bytes[8 * word..]);
     }
 }
 

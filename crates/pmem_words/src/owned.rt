@@ -1,12 +1,13 @@
 //! The blocks that a seat owns, with their contents.
 
 ghost use Rattle.std.specs.Prelude.{◌≡◌, ◌+◌, ◌*◌, ◌<◌, ◌≤◌, ◌++◌, ◌∷◌, [], false, IfOk, length, remove, replicate, take, slice_set};
+ghost use Rattle.pmem_words.specs.ByteWords.{words_set};
 
 use crate::keeps::KeptWord;
 use crate::leaving::{
     fence_blocks, keep_blocks, keep_blocks_outside, keep_contents, keep_contents_outside,
 };
-use crate::lists::{append_zeros, remove_words};
+use crate::lists::{append_zeros, remove_words, set_words};
 use log_entry::Area;
 use std::alloc::{AllocError, Global};
 use std::marker::Model;
@@ -108,8 +109,36 @@ impl OwnedBlocks {
     {
         let at = place as usize * self.block_words as usize + word as usize;
         self.contents[at] = value;
-        self.blocks[place as usize].filled = false;
-        self.blocks[place as usize].fenced = false;
+        self.unmark(place);
+    }
+
+    /// Makes the content of the block at this place what these bytes are, eight for each word, the lowest first. The block then counts
+    /// as neither filled nor fenced.
+    pub fn set_block(&mut self, place: u16, bytes: &[u8])
+        requires owned { place < length self.old.blocks }
+        requires whole { 8 * self.old.block_words ≤ length bytes.now }
+        ensures { self.new ≡ record self.old {
+          blocks = with_fenced (with_filled self.old.blocks place false) place false;
+          contents = words_set bytes.now self.old.contents (place * self.old.block_words) self.old.block_words;
+        } }
+    {
+        let block_words = self.block_words as usize;
+        set_words(
+            &mut self.contents,
+            place as usize * block_words,
+            block_words,
+            bytes,
+        );
+        self.unmark(place);
+    }
+
+    /// The content of the block at this place has changed.
+    fn unmark(&mut self, place: u16)
+        requires { place < length self.old.blocks }
+        ensures { self.new ≡ record self.old { blocks = with_fenced (with_filled self.old.blocks place false) place false } }
+    {
+        self.set_filled(place, false);
+        self.set_fenced(place, false);
     }
 
     /// Sets whether the block at this place was filled since its content last changed.
@@ -156,6 +185,7 @@ impl OwnedBlocks {
         self.contents
             .truncate(place as usize * self.block_words as usize);
     }
+
     /// Counts each filled block as fenced.
     pub fn fence_filled(&mut self)
         ensures { self.new ≡ record self.old { blocks = fenced_all self.old.blocks } }

@@ -11,6 +11,8 @@ fn owned_blocks_and_their_words(rt: HostRuntime) -> Result<(), Fail> {
     owned.set_word(1, 1, 5);
     owned.set_word(2, 0, 6);
     assert_eq!(rt; owned.contents(), [0, 0, 0, 5, 6, 0].as_slice());
+    owned.set_block(0, &[1, 0, 0, 0, 0, 0, 0, 0, 0, 2, 0, 0, 0, 0, 0, 0]);
+    assert_eq!(rt; owned.contents(), [1, 512, 0, 5, 6, 0].as_slice());
     owned.set_filled(1, true);
     owned.set_fenced(1, true);
     owned.disown(0);

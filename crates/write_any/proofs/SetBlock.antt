@@ -4,7 +4,7 @@ use Rattle.std.proofs.Common.{◌≡◌, ◌<◌, ◌+◌, ◌-◌, drop, ℕ, s
 use Rattle.std.proofs.lemmas.List.{get_or-set_same, length-set, set-get_or, take_all, length-drop}
 use Rattle.pmem_words.specs.Owned.{owned_at, with_filled, with_fenced}
 use Rattle.pmem_words.specs.declared.owned.OwnedBlock.{OwnedBlock}
-use Rattle.write_any.specs.ByteWords.{words_set, word_in}
+use Rattle.pmem_words.specs.ByteWords.{words_set, word_in}
 
 -- one word more
 pub words_more : (bytes words : List ℕ) (start count : ℕ) → slice_set (words_set bytes words start count) (start + count) (word_in bytes count) ≡ words_set bytes words start (count + 1)

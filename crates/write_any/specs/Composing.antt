@@ -9,7 +9,7 @@ use Rattle.log_entry.specs.declared.words.BlockKind.TheVariants.{Log}
 use Rattle.log_entry.specs.declared.words.RunWord.{RunWord}
 use Rattle.pmem_words.specs.declared.owned.OwnedBlock.{OwnedBlock}
 use Rattle.pmem_words.specs.Owned.{owned_at, with_filled, with_fenced}
-use Rattle.write_any.specs.ByteWords.{words_set}
+use Rattle.pmem_words.specs.ByteWords.{words_set}
 use Rattle.pmem_words.specs.Seats.{Seat}
 use Rattle.log_core.specs.Works.{SetsWord, state_after_work, words_of, owned_block}
 

@@ -1,4 +1,3 @@
-pub mod ByteWords
 pub mod Composing
 pub mod GiveOneWithin
 pub mod GivingOne

@@ -1,13 +1,8 @@
 //! What the blocks of a write hold, and the entry that names them.
 
-ghost use Rattle.std.specs.Prelude.{◌≡◌, ◌+◌, ◌*◌, ◌<◌, ◌≤◌, ◌^◌, false, length};
-ghost use Rattle.std.specs.List.{slice_range};
-ghost use Rattle.pmem_words.specs.Owned.{with_filled, with_fenced};
-ghost use Rattle.write_any.specs.ByteWords.{words_set};
-ghost use Rattle.pmem_words.specs.Seats.{q_of};
+ghost use Rattle.std.specs.Prelude.{◌≡◌, ◌<◌, ◌^◌};
 ghost use Rattle.write_any.specs.Composing.{block_count, virt_at, HasBlocks, HasRuns, HasLast, are_one_run, composed, runs_composed, last_place, last_block, log_composed, entry_at};
 
-use byteorder::{ByteOrder, LittleEndian};
 use log_entry::{BlockKind, BlockWord, Entry, IndirectWord, RunWord};
 use pmem_words::{OwnedBlock, SeatState};
 
@@ -45,28 +40,6 @@ pub fn are_one_run(owned: &[OwnedBlock]) -> bool
     true
 }
 
-/// Makes the content of the owned block at this place what the call's bytes from byte `from` on are, eight for each word. The block
-/// then counts as neither filled nor fenced.
-fn set_block(seat: &mut SeatState, place: u16, from: usize)
-    requires owned { place < length seat.old.blocks.owned }
-    requires whole { from + 8 * q_of seat.old.geometry ≤ length seat.old.calling.bytes }
-    ensures { seat.new ≡ record seat.old {
-      blocks = record seat.old.blocks {
-        owned = with_fenced (with_filled seat.old.blocks.owned place false) place false;
-        contents = words_set (slice_range seat.old.calling.bytes from (from + 8 * q_of seat.old.geometry)) seat.old.blocks.contents (place * q_of seat.old.geometry) (q_of seat.old.geometry);
-      };
-    } }
-{
-    seat.set_filled(place, false);
-    seat.set_fenced(place, false);
-    let q = seat.geometry().q() as usize;
-    for word in 0..q {
-        let bytes = seat.bytes();
-        let value = LittleEndian::read_u64(&bytes[from..from + 8 * q][8 * word..]);
-        seat.set_word(place, word as u16, value);
-    }
-}
-
 /// The first blocks of the list hold the bytes of the call; where there is one block more, it holds the runs of the others.
 pub fn compose(seat: &mut SeatState, offset: u64)
     requires { HasBlocks offset seat.old }
@@ -75,7 +48,7 @@ pub fn compose(seat: &mut SeatState, offset: u64)
     let count = block_count(seat);
     let block_bytes = seat.geometry().block_bytes() as usize;
     for place in 0..count {
-        set_block(seat, place, place as usize * block_bytes);
+        seat.set_block(place, place as usize * block_bytes);
     }
     if (count as usize) < seat.owned().len() {
         compose_runs(seat, virt_at(seat, offset), count);

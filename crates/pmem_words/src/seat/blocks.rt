@@ -6,6 +6,7 @@ ghost use Rattle.pmem_words.specs.Owned.{without_block, with_filled, with_fenced
 ghost use Rattle.pmem_words.specs.Runs.{is_in_runs};
 ghost use Rattle.pmem_words.specs.Noted.{noted_first, noted_more};
 ghost use Rattle.pmem_words.specs.Seats.{q_of, owned_room, image_blocks, bitmap_words};
+ghost use Rattle.pmem_words.specs.ByteWords.{words_set};
 ghost use Rattle.asks.specs.Asks.{without_bits};
 
 use super::SeatState;
@@ -55,6 +56,22 @@ impl SeatState {
         } }
     {
         self.owned.set_word(place, word, value);
+    }
+
+    /// Makes the content of the owned block at place `place` of their list what the call's bytes from byte `from` on are, eight for each
+    /// word, the lowest first. The block then counts as neither filled nor fenced.
+    pub fn set_block(&mut self, place: u16, from: usize)
+        requires owned { place < length self.old.blocks.owned }
+        requires whole { from + 8 * q_of self.old.geometry ≤ length self.old.calling.bytes }
+        ensures { self.new ≡ record self.old {
+          blocks = record self.old.blocks {
+            owned = with_fenced (with_filled self.old.blocks.owned place false) place false;
+            contents = words_set (slice_range self.old.calling.bytes from (from + 8 * q_of self.old.geometry)) self.old.blocks.contents (place * q_of self.old.geometry) (q_of self.old.geometry);
+          };
+        } }
+    {
+        let past = from + 8 * self.geometry.q() as usize;
+        self.owned.set_block(place, &self.bytes[from..past]);
     }
 
     /// Sets whether the block at this place was filled since its content last changed.
