@@ -21,3 +21,4 @@ pub mod LogBehind
 pub mod TakeEnds
 pub mod TakeLogStage
 pub mod FillLogStage
+pub mod WriteServes
