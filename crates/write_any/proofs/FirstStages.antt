@@ -34,6 +34,7 @@ use Rattle.write_any.specs.Writing.{at_stage, write_script, CanGoOn, walked_by, 
 use Rattle.write_any.specs.WriteWithin.{MayWrite, HasWritten, unwritten}
 use Rattle.write_any.proofs.Embedding.{at_pin, at_walk}
 use Rattle.write_any.proofs.OfferLaw.{offering_law}
+use Rattle.write_any.proofs.LimitLaw.{taking_log_law}
 use Rattle.write_any.proofs.PartLaws.{taking_law}
 use Rattle.write_any.proofs.Falls.{pin_falls, walk_falls}
 use Rattle.write_any.proofs.EndStages.{may_pin}
@@ -129,7 +130,7 @@ module _ (offset : ℕ) (o : Origin) (seat : ℕ) (s0 : Seat) (g0 : Ghost) (may 
         StageStands offset o seat s0 g0 (tail_by end (At offset) t) t h
     tail_fits true t h e writing here owns =
         (let before : AtEnd offset o seat s0 g0 t h = record { writing = writing; here = here; owns = owns; at_end = eqb-true t.walk.tail_slot (words_of t) e } in
-        has_begun (taking_law Log 1) o seat (AtEnd offset o seat s0 g0) t h before (lacks_log t h before))
+        has_begun taking_log_law o seat (AtEnd offset o seat s0 g0) t h before (lacks_log t h before))
     tail_fits false t h e writing here owns =
         (let before : AtSlot offset o seat s0 g0 t h = record { writing = writing; here = here; owns = owns; inside = eqb-false t.walk.tail_slot (words_of t) e } in
         (entry_for offset t, has_begun (offering_law (entry_for offset t)) o seat (AtSlot offset o seat s0 g0) t h before (offers t h before)))

@@ -191,6 +191,7 @@ module _ (offset : ℕ) (o : Origin) (seat : ℕ) (s0 : Seat) (g0 : Ghost) where
           contents_are = ap (λ (u : Seat). u.blocks.contents) left.left ∙ behind.contents_are;
           long = behind.long;
           once = ap (λ (u : Seat). all_different (owned_numbers u.blocks.owned)) left.left ∙ behind.once;
+          in_log = behind.in_log;
         };
       }
 

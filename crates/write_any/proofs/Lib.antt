@@ -16,3 +16,9 @@ pub mod LastBlock
 pub mod GrowStages
 pub mod Lacks
 pub mod SetBlock
+pub mod LimitLaw
+pub mod LogBehind
+pub mod TakeEnds
+pub mod TakeLogStage
+pub mod FillLogStage
+pub mod WriteServes

@@ -7,7 +7,7 @@ use Rattle.log_entry.specs.declared.words.BlockKind.TheVariants.{Log as LogKind}
 use Rattle.log_entry.specs.declared.words.RunWord.{RunWord}
 use Rattle.log_entry.specs.declared.shapes.Area.TheVariants.{Data, Log}
 use Rattle.log_entry.specs.declared.calls.WriteRefusal.{WriteRefusal}
-use Rattle.log_image.specs.Image.{shape_by}
+use Rattle.log_image.specs.Image.{shape_by, is_in_log}
 use Rattle.log_image.specs.Chains.{all_different, is_listed}
 use Rattle.pmem_words.specs.Owned.{owned_at}
 use Rattle.pmem_words.specs.declared.owned.OwnedBlock.{OwnedBlock}
@@ -32,6 +32,7 @@ use Rattle.write_any.specs.Composing.{block_count, virt_at, last_place, are_one_
 use Rattle.write_any.specs.WriteWithin.{HasCause, unwritten}
 use Rattle.write_any.proofs.GiveOne.{give_one_law}
 use Rattle.write_any.proofs.OfferLaw.{offering_law}
+use Rattle.write_any.proofs.LimitLaw.{taking_log_law}
 use Rattle.write_any.proofs.PartLaws.{taking_law, filling_law, giving_law}
 
 -- the view is at its chain's tail, at a position that is not the last one
@@ -127,6 +128,7 @@ module _ (offset : ℕ) (o : Origin) (seat : ℕ) (s0 : Seat) (g0 : Ghost) where
     pub contents_are : s.blocks.contents ≡ contents ++ words
     pub long : length words ≡ words_of s0
     pub once : all_different (owned_numbers s.blocks.owned) ≡ true
+    pub in_log : is_in_log (shape_by s0.geometry) block ≡ true
 
   pub record BeforeWalk (s : Seat) (g : Ghost) : Type 0 where
     pub writing : IsWriting s g
@@ -202,7 +204,7 @@ module _ (offset : ℕ) (o : Origin) (seat : ℕ) (s0 : Seat) (g0 : Ghost) where
   StageStands (Taking p) s g = HasBegun (taking_law Data count) o seat BeforeTake p s g
   StageStands (TakingRuns p) s g = HasBegun (taking_law Data 1) o seat BeforeTakeRuns p s g
   StageStands (Filling p) s g = (all : ℕ) × HasBegun (filling_law 0 all) o seat (λ t h. BeforeFill t h × (length t.blocks.owned ≡ all)) p s g
-  StageStands (TakingLog p) s g = HasBegun (taking_law Log 1) o seat AtEnd p s g
+  StageStands (TakingLog p) s g = HasBegun taking_log_law o seat AtEnd p s g
   StageStands (FillingLog p) s g = (block place : ℕ) × HasBegun (filling_law place 1) o seat (λ t h. BeforeFillLog block t h × (last_place t ≡ place)) p s g
   StageStands (Growing p) s g = (block : ℕ) × HasBegun (grow_law block) o seat (BeforeGrow block) p s g
   StageStands (GivingLog p) s g = (block : ℕ) × HasBegun (give_one_law block) o seat (BeforeGiveLog block) p s g

@@ -116,6 +116,11 @@ abbrev pub offered_so : Target → Offered → Seat → Next Write Written
 offered_so target (Committed position) s = Into (at_stage target (ended None)) s
 offered_so target (Overtaken word) s = Into (at_stage target (Walking (walk_from word))) s
 
+-- where it owns no block it has ended
+abbrev pub still_giving : Bool → Option WriteRefusal → Option Stage
+still_giving true refusal = None
+still_giving false refusal = Some (Giving refusal (give_of Owned))
+
 abbrev pub unpinned_by : Bool → Target → Option WriteRefusal → Seat → Next Write Written
 unpinned_by true target refusal s = End (written target refusal s) s
 unpinned_by false target refusal s = Into (at_stage target (Giving refusal (give_of Owned))) s

@@ -28,12 +28,16 @@ pub struct Write {
 }
 
 impl Write {
-    ghost use Rattle.std.specs.Prelude.{◌≡◌, ◌==◌, length};
+    ghost use Rattle.std.specs.Prelude.{◌≡◌, ◌==◌, ℕ, length};
     ghost use Rattle.log_entry.specs.Legal.{last_position};
+    ghost use Rattle.pmem_words.specs.Seats.{Seat};
+    ghost use Rattle.pmem_words.specs.Parts.{Into};
+    ghost use Rattle.block_bitmap.specs.declared.take.Taken.TheVariants.{Taken as HasTaken};
+    ghost use Rattle.log_blocks.specs.declared.grow.Grown.TheVariants.{Linked, Overtaken as OvertakenBy};
     ghost use Rattle.log_blocks.specs.Offering.{offer_of};
     ghost use Rattle.write_any.specs.declared.stage.Stage.TheVariants.{Offering};
-    ghost use Rattle.write_any.specs.Composing.{HasBlocks, are_one_run, composed, entry_for};
-    ghost use Rattle.write_any.specs.Writing.{offset_of, write_of, tail_stage, walked_by, taken_stage, taken_seat, filling, ended, written, CanGoOn};
+    ghost use Rattle.write_any.specs.Composing.{HasBlocks, HasLast, composed, entry_for};
+    ghost use Rattle.write_any.specs.Writing.{offset_of, at_stage, write_of, tail_stage, walked_by, taken_so, taken_runs_so, taken_log_so, grown_so, offered_so, still_giving, filling, ended, written, CanGoOn, HasLogBlock};
 
     /// A write that has not begun.
     pub fn new(target: Target) -> Write
@@ -79,16 +83,26 @@ impl Write {
         }
     }
 
-    /// There is a data block for each virtual block.
-    fn taken(target: Target, seat: &mut SeatState) -> Stage
-        requires { HasBlocks (offset_of target) seat.old }
-        ensures stage { result ≡ taken_stage (are_one_run seat.old.blocks.owned) seat.old }
-        ensures seat { seat.new ≡ taken_seat (are_one_run seat.old.blocks.owned) target seat.old }
+    /// Data blocks were taken, one for each virtual block, or too few were free.
+    fn taken(target: Target, out: Taken, seat: &mut SeatState) -> Stage
+        requires { out ≡ HasTaken → HasBlocks (offset_of target) seat.old }
+        ensures { taken_so target out seat.old ≡ Into (at_stage target result) seat.new }
     {
-        if are_one_run(seat.owned()) {
-            Self::filling(target, seat)
-        } else {
-            Stage::TakingRuns(Take::new(Area::Data, 1))
+        match out {
+            Taken::Taken if are_one_run(seat.owned()) => Self::filling(target, seat),
+            Taken::Taken => Stage::TakingRuns(Take::new(Area::Data, 1)),
+            Taken::NoSpace { area } => Self::ended(Some(WriteRefusal::NoSpace { area })),
+        }
+    }
+
+    /// One more was taken for their runs, or none was free.
+    fn taken_runs(target: Target, out: Taken, seat: &mut SeatState) -> Stage
+        requires { out ≡ HasTaken → HasBlocks (offset_of target) seat.old }
+        ensures { taken_runs_so target out seat.old ≡ Into (at_stage target result) seat.new }
+    {
+        match out {
+            Taken::Taken => Self::filling(target, seat),
+            Taken::NoSpace { area } => Self::ended(Some(WriteRefusal::NoSpace { area })),
         }
     }
 
@@ -101,6 +115,54 @@ impl Write {
         let count = seat.owned().len() as u16;
         compose(seat, target.offset());
         Stage::Filling(Fill::new(0, count))
+    }
+
+    /// A log block was taken, or none was free.
+    fn taken_log(target: Target, out: Taken, seat: &mut SeatState) -> Stage
+        requires { out ≡ HasTaken → HasLogBlock seat.old }
+        ensures { taken_log_so target out seat.old ≡ Into (at_stage target result) seat.new }
+    {
+        match out {
+            Taken::Taken => {
+                let place = last_place(seat);
+                compose_log(seat);
+                Stage::FillingLog(Fill::new(place, 1))
+            }
+            Taken::NoSpace { area } => Self::ended(Some(WriteRefusal::NoSpace { area })),
+        }
+    }
+
+    /// The log block was linked, or another one was first.
+    fn grown(target: Target, out: Grown, seat: &SeatState) -> Stage
+        requires linked { out ≡ Linked → HasBlocks (offset_of target) seat.now }
+        requires overtaken { (block : ℕ) → out ≡ OvertakenBy block → HasLast seat.now }
+        ensures { grown_so target out seat.now ≡ Into (at_stage target result) seat.now }
+    {
+        match out {
+            Grown::Linked => Self::offering(target, seat),
+            Grown::Overtaken { .. } => Stage::GivingLog(GiveOne::new(last_block(seat))),
+        }
+    }
+
+    /// The entry was put in, or another one was first.
+    fn offered(out: Offered) -> Stage
+        ensures { (target : Target) (s : Seat) → offered_so target out s ≡ Into (at_stage target result) s }
+    {
+        match out {
+            Offered::Committed { .. } => Self::ended(None),
+            Offered::Overtaken { word } => Stage::Walking(Walk::behind(word)),
+        }
+    }
+
+    /// The pin was given up: it goes on where it owns blocks that it did not put into the log, and has ended where it owns none.
+    fn unpinned(refusal: Option<WriteRefusal>, seat: &SeatState) -> Option<Stage>
+        ensures { result ≡ still_giving (length seat.now.blocks.owned == 0) refusal }
+    {
+        if seat.owned().len() == 0 {
+            None
+        } else {
+            Some(Stage::Giving(refusal, Give::new(GiveFrom::Owned)))
+        }
     }
 
     /// The write is done, or refused.
@@ -149,113 +211,58 @@ impl Machine for Write {
     fn tell(&mut self, seat: &mut SeatState, answer: u64) -> Turn<Written> {
         match &mut self.stage {
             Stage::Pinning(part) => match part.tell(seat, answer) {
-                Turn::Go => Turn::Go,
-                Turn::Done(_) => {
-                    self.stage = Stage::Walking(Walk::new());
-                    Turn::Go
-                }
+                Turn::Go => {}
+                Turn::Done(_) => self.stage = Stage::Walking(Walk::new()),
             },
             Stage::Walking(part) => match part.tell(seat, answer) {
-                Turn::Go => Turn::Go,
-                Turn::Done(_) => {
-                    self.stage = Self::walked(self.target, seat);
-                    Turn::Go
-                }
+                Turn::Go => {}
+                Turn::Done(_) => self.stage = Self::walked(self.target, seat),
             },
             Stage::Taking(part) => match part.tell(seat, answer) {
-                Turn::Go => Turn::Go,
-                Turn::Done(Taken::Taken) => {
-                    self.stage = Self::taken(self.target, seat);
-                    Turn::Go
-                }
-                Turn::Done(Taken::NoSpace { area }) => {
-                    self.stage = Self::ended(Some(WriteRefusal::NoSpace { area }));
-                    Turn::Go
-                }
+                Turn::Go => {}
+                Turn::Done(out) => self.stage = Self::taken(self.target, out, seat),
             },
             Stage::TakingRuns(part) => match part.tell(seat, answer) {
-                Turn::Go => Turn::Go,
-                Turn::Done(Taken::Taken) => {
-                    self.stage = Self::filling(self.target, seat);
-                    Turn::Go
-                }
-                Turn::Done(Taken::NoSpace { area }) => {
-                    self.stage = Self::ended(Some(WriteRefusal::NoSpace { area }));
-                    Turn::Go
-                }
+                Turn::Go => {}
+                Turn::Done(out) => self.stage = Self::taken_runs(self.target, out, seat),
             },
             Stage::Filling(part) => match part.tell(seat, answer) {
-                Turn::Go => Turn::Go,
-                Turn::Done(()) => {
-                    self.stage = Self::at_tail(self.target, seat);
-                    Turn::Go
-                }
+                Turn::Go => {}
+                Turn::Done(()) => self.stage = Self::at_tail(self.target, seat),
             },
             Stage::TakingLog(part) => match part.tell(seat, answer) {
-                Turn::Go => Turn::Go,
-                Turn::Done(Taken::Taken) => {
-                    let place = last_place(seat);
-                    compose_log(seat);
-                    self.stage = Stage::FillingLog(Fill::new(place, 1));
-                    Turn::Go
-                }
-                Turn::Done(Taken::NoSpace { area }) => {
-                    self.stage = Self::ended(Some(WriteRefusal::NoSpace { area }));
-                    Turn::Go
-                }
+                Turn::Go => {}
+                Turn::Done(out) => self.stage = Self::taken_log(self.target, out, seat),
             },
             Stage::FillingLog(part) => match part.tell(seat, answer) {
-                Turn::Go => Turn::Go,
-                Turn::Done(()) => {
-                    self.stage = Stage::Growing(Grow::new(last_block(seat)));
-                    Turn::Go
-                }
+                Turn::Go => {}
+                Turn::Done(()) => self.stage = Stage::Growing(Grow::new(last_block(seat))),
             },
             Stage::Growing(part) => match part.tell(seat, answer) {
-                Turn::Go => Turn::Go,
-                Turn::Done(Grown::Linked) => {
-                    self.stage = Self::offering(self.target, seat);
-                    Turn::Go
-                }
-                Turn::Done(Grown::Overtaken { .. }) => {
-                    self.stage = Stage::GivingLog(GiveOne::new(last_block(seat)));
-                    Turn::Go
-                }
+                Turn::Go => {}
+                Turn::Done(out) => self.stage = Self::grown(self.target, out, seat),
             },
             Stage::GivingLog(part) => match part.tell(seat, answer) {
-                Turn::Go => Turn::Go,
-                Turn::Done(()) => {
-                    self.stage = Stage::Walking(Walk::new());
-                    Turn::Go
-                }
+                Turn::Go => {}
+                Turn::Done(()) => self.stage = Stage::Walking(Walk::new()),
             },
             Stage::Offering(part) => match part.tell(seat, answer) {
-                Turn::Go => Turn::Go,
-                Turn::Done(Offered::Committed { .. }) => {
-                    self.stage = Self::ended(None);
-                    Turn::Go
-                }
-                Turn::Done(Offered::Overtaken { word }) => {
-                    self.stage = Stage::Walking(Walk::behind(word));
-                    Turn::Go
-                }
+                Turn::Go => {}
+                Turn::Done(out) => self.stage = Self::offered(out),
             },
             Stage::Unpinning(refusal, part) => match part.tell(seat, answer) {
-                Turn::Go => Turn::Go,
-                Turn::Done(()) => {
-                    if seat.owned().len() == 0 {
-                        Turn::Done(Self::written(self.target, *refusal, seat))
-                    } else {
-                        self.stage = Stage::Giving(*refusal, Give::new(GiveFrom::Owned));
-                        Turn::Go
-                    }
-                }
+                Turn::Go => {}
+                Turn::Done(()) => match Self::unpinned(*refusal, seat) {
+                    Some(stage) => self.stage = stage,
+                    None => return Turn::Done(Self::written(self.target, *refusal, seat)),
+                },
             },
             Stage::Giving(refusal, part) => match part.tell(seat, answer) {
-                Turn::Go => Turn::Go,
-                Turn::Done(_) => Turn::Done(Self::written(self.target, *refusal, seat)),
+                Turn::Go => {}
+                Turn::Done(_) => return Turn::Done(Self::written(self.target, *refusal, seat)),
             },
         }
+        Turn::Go
     }
 
     ghost lowers = { write_lowers };
