@@ -4,7 +4,7 @@ use Rattle.pmem_words.specs.Seats.{Seat}
 use Rattle.pmem_words.specs.Scripts.{After, Script, Lowers}
 use Rattle.pmem_words.specs.Conducts.{Conduct}
 use Rattle.pmem_words.specs.Courses.{Course, over}
-use Rattle.pmem_words.specs.Drives.{Goes, IsSafe, Ends}
+use Rattle.pmem_words.specs.Drives.{Goes, IsSafe, Ends, RanOn}
 use Rattle.pmem_words.specs.Parts.{Next, Into, End, moved, onward_at, Embeds, LowersOn}
 use Rattle.asks.specs.declared.ask.Ask.{Ask}
 use Rattle.pmem_words.specs.declared.machine.Turn.{Turn}
@@ -157,6 +157,21 @@ module _ {A C OutA Out W : Type 0} {part : Script A OutA} {whole : Script C Out}
   -- and lowered its measure
   pub lowers_stage : {m : A} {s : Seat} {w : W} {end : OutA} {t : Seat} {v : W} → Lowers whole → IsSafe whole (over whole store) (inject m) s w → Ends part (over part store) m s w end t v → LowersOn whole.measure (whole.measure (inject m) s) (next end t)
   lowers_stage {m} {s} {w} {end} {t} {v} lowers safe e = falls_moved m s w end t v e (next end t) (after_done e.machine e.seat e.last end t e.ends e.leaves) lowers safe
+
+  -- the whole has run on to where it goes when its part has ended
+  pub ran_stage : {m : A} {s : Seat} {w : W} {end : OutA} {t : Seat} {v : W} {c : C} {u : Seat} → Lowers whole → IsSafe whole (over whole store) (inject m) s w → Ends part (over part store) m s w end t v → next end t ≡ Into c u →
+      RanOn whole (over whole store) (inject m) s w c u v
+  ran_stage {m} {s} {w} {end} {t} {v} {c} {u} lowers safe e is =
+      (let went : WentTo whole (over whole store) (inject m) s w (Into c u) v = subst (λ (n : Next C Out). WentTo whole (over whole store) (inject m) s w n v) is (went_stage e) in
+      record {
+        answers = went.0;
+        goes = went.1;
+        nearer = subst (λ (n : Next C Out). LowersOn whole.measure (whole.measure (inject m) s) n) is (lowers_stage lowers safe e);
+      })
+
+  -- or has ended with it
+  pub ended_stage : {m : A} {s : Seat} {w : W} {end : OutA} {t : Seat} {v : W} {out : Out} {u : Seat} → Ends part (over part store) m s w end t v → next end t ≡ End out u → Ends whole (over whole store) (inject m) s w out u v
+  ended_stage {m} {s} {w} {end} {t} {v} {out} {u} e is = ends_stage e (subst (λ (n : Next C Out). EndsOn whole (over whole store) n v out u v) (sym is) (refl, refl, refl))
 
 -- what holds along a way
 module _ {M W Out : Type 0} (script : Script M Out) (course : Course M W) where
