@@ -128,6 +128,11 @@ module _ {A C OutA Out W : Type 0} {part : Script A OutA} {whole : Script C Out}
         admitted = λ a u st. leaves n t a (now.admitted a u (steps_too n t v a u st));
       })
 
+  -- and the whole admits the part's last answer
+  pub last_admitted : {m : A} {s : Seat} {w : W} {end : OutA} {t : Seat} {v : W} (e : Ends part (over part store) m s w end t v) → IsSafe whole (over whole store) (inject m) s w → whole.admits (inject e.machine) e.seat e.last
+  last_admitted {m} {s} {w} {end} {t} {v} e safe =
+      (safe e.answers (inject e.machine) e.seat e.memory (goes_stage e.answers m s w e.machine e.seat e.memory e.goes)).admitted e.last v (steps_too e.machine e.seat e.memory e.last v e.steps)
+
   went_moved : (m : A) (s : Seat) (w : W) (end : OutA) (t : Seat) (v : W) (e : Ends part (over part store) m s w end t v) (n : Next C Out) →
       moved (inject (part.after e.machine e.seat e.last).machine) n ≡ whole.after (inject e.machine) e.seat e.last → WentTo whole (over whole store) (inject m) s w n v
   went_moved m s w end t v e (Into c r) is = (
@@ -147,7 +152,7 @@ module _ {A C OutA Out W : Type 0} {part : Script A OutA} {whole : Script C Out}
   falls_moved m s w end t v e (Into c r) is lowers safe =
       (let along = goes_stage e.answers m s w e.machine e.seat e.memory e.goes in
       let most = lowers_along whole store lowers e.answers (inject m) s w (inject e.machine) e.seat e.memory safe along in
-      let admits = (safe e.answers (inject e.machine) e.seat e.memory along).admitted e.last v (steps_too e.machine e.seat e.memory e.last v e.steps) in
+      let admits = last_admitted e safe in
       let last : whole.measure (whole.after (inject e.machine) e.seat e.last).machine (whole.after (inject e.machine) e.seat e.last).seat < whole.measure (inject e.machine) e.seat =
       lowers (inject e.machine) e.seat e.last admits (sym (ap (λ (y : After C Out). y.turn) is)) in
       let here : whole.measure c r < whole.measure (inject e.machine) e.seat = subst (λ (y : After C Out). whole.measure y.machine y.seat < whole.measure (inject e.machine) e.seat) (sym is) last in

@@ -22,3 +22,5 @@ pub mod TakeEnds
 pub mod TakeLogStage
 pub mod FillLogStage
 pub mod WriteServes
+pub mod AdmitsOnce
+pub mod RunParts

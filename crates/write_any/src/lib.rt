@@ -3,7 +3,9 @@
 
 mod contents;
 mod give_one;
+mod joints;
 pub mod laws;
+mod run;
 mod stage;
 #[cfg(test)]
 mod tests;

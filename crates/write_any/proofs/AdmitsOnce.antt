@@ -1,0 +1,89 @@
+-- What a write admits is said once.
+use Rattle.std.proofs.Common.{◌≡◌, ℕ, Bool, true, false, List}
+use Rattle.std.proofs.Math.Bool.{Bool-set}
+use Rattle.std.proofs.Math.Bridge.{le_prop}
+use lib.List.{List-set}
+use Rattle.std.proofs.Math.Nat.{ℕ_set}
+use Rattle.pmem_words.specs.declared.keeps.KeptWord.{KeptWord}
+use Rattle.pmem_words.specs.Seats.{Seat}
+use Rattle.pins.specs.declared.pin.Pin.{Pin}
+use Rattle.pins.specs.declared.pin.Pin.TheVariants.{Begin, Publish, Confirm}
+use Rattle.pins.specs.Pinning.{pin_admits}
+use Rattle.block_bitmap.specs.declared.fill.Fill.{Fill}
+use Rattle.block_bitmap.specs.declared.fill.Fill.TheVariants.{Store, Mark, Fence}
+use Rattle.block_bitmap.specs.Filling.{fill_admits}
+use Rattle.log_blocks.specs.declared.walk.Walk.{Walk}
+use Rattle.log_blocks.specs.declared.walk.Walk.TheVariants.{Begin as BeginWalk, Size, Run, Link, Next, Indirect}
+use Rattle.log_blocks.specs.Walking.{BeginAdmits, StageAdmits, WalkAdmits}
+use Rattle.log_blocks.specs.Offering.{OfferAdmits}
+use Rattle.log_blocks.specs.Growing.{GrowAdmits}
+use Rattle.write_any.specs.declared.stage.Stage.{Stage}
+use Rattle.write_any.specs.declared.stage.Stage.TheVariants.{Pinning, Walking, Taking, TakingRuns, Filling, TakingLog, FillingLog, Growing, GivingLog, Offering, Unpinning, Giving}
+use Rattle.write_any.specs.declared.stage.Target.{Target}
+use Rattle.write_any.specs.declared.write.Write.{Write}
+use Rattle.write_any.specs.Writing.{part_admits, JointAdmits, write_script}
+
+kept_set : IsSet (List KeptWord)
+kept_set = List-set (hlevel ℕ_set)
+
+pin_one : (p : Pin) (s : Seat) (a : ℕ) → IsProp (pin_admits p s a)
+pin_one Begin s a = λ x y. refl
+pin_one Publish s a = λ x y. refl
+pin_one Confirm s a = le_prop
+
+fill_one : (p : Fill) (s : Seat) (a : ℕ) → IsProp (fill_admits p s a)
+fill_one (Store place left word) s a = hlevel le_prop
+fill_one (Mark place left word) s a = hlevel le_prop
+fill_one Fence s a = λ x y. refl
+
+begin_one : (ready : Bool) (s : Seat) (f : ℕ) → IsProp (BeginAdmits ready s f)
+begin_one true s f = hlevel (ℕ_set, Bool-set, le_prop)
+begin_one false s f = hlevel (ℕ_set, Bool-set, le_prop)
+
+stage_one : (p : Walk) (s : Seat) (f : ℕ) → IsProp (StageAdmits p s f)
+stage_one BeginWalk s f = begin_one s.walk.ready s f
+stage_one (Size base) s f = le_prop
+stage_one Run s f = hlevel (ℕ_set, Bool-set, le_prop)
+stage_one Link s f = le_prop
+stage_one (Next block) s f = hlevel (ℕ_set, Bool-set, le_prop)
+stage_one (Indirect block word) s f = hlevel (ℕ_set, Bool-set, le_prop)
+
+walk_one : (p : Walk) (s : Seat) (f : ℕ) → IsProp (WalkAdmits p s f)
+walk_one p s f = λ x y. λ i. record { room = le_prop x.room y.room i; stage = stage_one p s f x.stage y.stage i; falls = λ go. le_prop (x.falls go) (y.falls go) i }
+
+offer_one : (entry : ℕ) (s : Seat) (f : ℕ) → IsProp (OfferAdmits entry s f)
+offer_one entry s f = hlevel (ℕ_set, Bool-set, le_prop, kept_set)
+
+grow_one : (block : ℕ) (s : Seat) (f : ℕ) → IsProp (GrowAdmits block s f)
+grow_one block s f = hlevel (ℕ_set, Bool-set, le_prop)
+
+part_one : (stage : Stage) (s : Seat) (a : ℕ) → IsProp (part_admits stage s a)
+part_one (Pinning p) s a = pin_one p s a
+part_one (Walking p) s a = walk_one p s a
+part_one (Taking p) s a = hlevel le_prop
+part_one (TakingRuns p) s a = hlevel le_prop
+part_one (Filling p) s a = fill_one p s a
+part_one (TakingLog p) s a = hlevel le_prop
+part_one (FillingLog p) s a = fill_one p s a
+part_one (Growing p) s a = grow_one p.block s a
+part_one (GivingLog p) s a = le_prop
+part_one (Offering p) s a = offer_one p.entry s a
+part_one (Unpinning refusal p) s a = λ x y. refl
+part_one (Giving refusal p) s a = hlevel le_prop
+
+joint_one : (t : Target) (stage : Stage) (s : Seat) (a : ℕ) → IsProp (JointAdmits t stage s a)
+joint_one t (Pinning p) s a = λ x y. refl
+joint_one t (Walking p) s a = hlevel (ℕ_set, le_prop)
+joint_one t (Taking p) s a = hlevel (ℕ_set, le_prop)
+joint_one t (TakingRuns p) s a = hlevel (ℕ_set, le_prop)
+joint_one t (Filling p) s a = hlevel (ℕ_set, le_prop)
+joint_one t (TakingLog p) s a = hlevel (ℕ_set, le_prop)
+joint_one t (FillingLog p) s a = hlevel (ℕ_set, le_prop)
+joint_one t (Growing p) s a = hlevel (ℕ_set, le_prop)
+joint_one t (GivingLog p) s a = λ x y. refl
+joint_one t (Offering p) s a = λ x y. refl
+joint_one t (Unpinning refusal p) s a = λ x y. refl
+joint_one t (Giving refusal p) s a = λ x y. refl
+
+pub write_one : (m : Write) (s : Seat) (a : ℕ) → IsProp (write_script.admits m s a)
+write_one m s a = λ x y. λ i. record { part = part_one m.stage s a x.part y.part i; joint = joint_one m.target m.stage s a x.joint y.joint i; falls = λ go. le_prop (x.falls go) (y.falls go) i }
