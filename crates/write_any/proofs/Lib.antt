@@ -16,3 +16,8 @@ pub mod LastBlock
 pub mod GrowStages
 pub mod Lacks
 pub mod SetBlock
+pub mod RisingNumbers
+pub mod TakenInOrder
+pub mod WordsSet
+pub mod RunsHeld
+pub mod ComposedSteps
