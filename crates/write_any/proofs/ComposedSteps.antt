@@ -80,12 +80,15 @@ module _ (g : Ghost) where
           small = run_fits (suc place) low;
         }))
 
+    pub first_fits : (virt : ℕ) → 0 < count → virt < 2 ^ 16 → indirect_word (record { virt = virt; count = count; runs = runs_at (count - 1) s; leftover = 0 }) < 2 ^ 64
+    first_fits virt some low = (let most = (runs_range s (count - 1)).1 in let wide = (q_range s.geometry).1 in omega (arith, low, most, some, few, wide))
+
     pub enters_composed_runs : (virt : ℕ) → 0 < count → virt < 2 ^ 16 → Enters g s (runs_composed virt count s) []
     enters_composed_runs virt some low = enters_more g s (runs_set count (count - 1) s) (runs_composed virt count s) [] (enters_runs (count - 1) (omega (arith, some)))
         (enters_word (runs_set count (count - 1) s) count 0 first (record {
           owned = runs_inside (count - 1);
           inside = (let same = runs_words_of (count - 1) in omega (arith, same, few));
-          small = (let most = (runs_range s (count - 1)).1 in let wide = (q_range s.geometry).1 in omega (arith, low, most, some, few, wide));
+          small = first_fits virt some low;
         }))
       where
         first : ℕ

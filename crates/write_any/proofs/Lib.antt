@@ -21,3 +21,4 @@ pub mod TakenInOrder
 pub mod WordsSet
 pub mod RunsHeld
 pub mod ComposedSteps
+pub mod ComposedBlocks
