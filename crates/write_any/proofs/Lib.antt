@@ -22,3 +22,4 @@ pub mod WordsSet
 pub mod RunsHeld
 pub mod ComposedSteps
 pub mod ComposedBlocks
+pub mod TakenBlocks
