@@ -21,13 +21,15 @@ use Rattle.log_core.specs.Needs.{owned_numbers, is_in_area}
 use Rattle.log_core.proofs.BlockWords.{q_range}
 use Rattle.log_core.proofs.clauses.Others.{owned_listed}
 use Rattle.block_bitmap.proofs.TakeWords.{area_from}
+use Rattle.log_core.specs.Answers.{Enters}
+use Rattle.log_core.proofs.machines.Parts.{enters_more}
 use Rattle.log_core.proofs.WordBytesAt.{eight_words}
 use Rattle.log_core.proofs.writes.PlacedBytes.{word_has}
 use Rattle.log_core.proofs.writes.RunLists.{runs_of, are_runs, blocks_back}
 use Rattle.write_any.specs.Composing.{block_count, virt_at, follow, are_one_run, blocks_set, run_at, runs_at, word_set, runs_set, runs_composed, composed_by, composed}
 use Rattle.write_any.specs.WriteWithin.{MayWrite, unwritten}
 use Rattle.write_any.proofs.Composed.{set_bare, set_long, runs_bare}
-use Rattle.write_any.proofs.ComposedSteps.{run_fits, first_fits}
+use Rattle.write_any.proofs.ComposedSteps.{run_fits, first_fits, enters_blocks, enters_composed_runs}
 use Rattle.write_any.proofs.Lacks.{numbers_unmarked}
 use Rattle.write_any.proofs.Marks.{filled_marks, fenced_marks}
 use Rattle.write_any.proofs.RunsHeld.{firsts, firsts_long, firsts_at, runs_words, runs_words_long, runs_words_small, runs_words_before, are_held, indirect_words}
@@ -164,11 +166,18 @@ module _ (offset : ℕ) (o : Origin) (seat : ℕ) (s0 : Seat) (g0 : Ghost) where
     count_is : block_count s ≡ count
     count_is = ap block_count owns.rest
 
+    -- the blocks may be set
+    enters_set : (g : Ghost) → Enters g s (blocks_set count s) []
+    enters_set g = enters_blocks g s (subst AreBytes (sym (ap (λ (u : Seat). u.calling.bytes) owns.rest)) bytes) count (let same = owns.many_are in omega (arith, least, same))
+
     -- a block for each virtual block, and they are one run
     module _ (all : many ≡ count) where
       pub composed_one : composed offset s ≡ blocks_set count s
       composed_one = ap (λ (b : Bool). composed_by b (virt_at offset s) (block_count s) (blocks_set (block_count s) s)) (le-ltb (block_count s) (length s.blocks.owned) (let is = count_is in let same = owns.many_are in omega (arith, is, same, all)))
           ∙ ap (λ (n : ℕ). blocks_set n s) count_is
+
+      pub enters_one_run : (g : Ghost) → Enters g s (composed offset s) []
+      enters_one_run g = subst (λ (t : Seat). Enters g s t []) (sym composed_one) (enters_set g)
 
       pub one_run_composed : are_one_run s.blocks.owned ≡ true → AreComposed offset o seat s0 g0 (unmarked_all (composed offset s).blocks.owned) (composed offset s).blocks.contents
       one_run_composed one = subst (λ (t : Seat). AreComposed offset o seat s0 g0 (unmarked_all t.blocks.owned) t.blocks.contents) (sym composed_one)
@@ -260,6 +269,10 @@ module _ (offset : ℕ) (o : Origin) (seat : ℕ) (s0 : Seat) (g0 : Ghost) where
       composed_more : composed offset s ≡ runs_composed virt count filled
       composed_more = ap (λ (b : Bool). composed_by b (virt_at offset s) (block_count s) (blocks_set (block_count s) s)) (lt-ltb (block_count s) (length s.blocks.owned) (let is = count_is in let same = owns.many_are in omega (arith, is, same, more)))
           ∙ (ap (λ (n : ℕ). runs_composed (virt_at offset s) n (blocks_set n s)) count_is ∙ ap (λ (u : Seat). runs_composed (virt_at offset u) count filled) owns.rest)
+
+      pub enters_runs_of : (g : Ghost) → Enters g s (composed offset s) []
+      enters_runs_of g = subst (λ (t : Seat). Enters g s t []) (sym composed_more)
+          (enters_more g s filled (runs_composed virt count filled) [] (enters_set g) (enters_composed_runs g filled count behind few number_small virt may.whole.some low_virt))
 
       pub runs_are_composed : AreComposed offset o seat s0 g0 (unmarked_all (composed offset s).blocks.owned) (composed offset s).blocks.contents
       runs_are_composed = subst (λ (t : Seat). AreComposed offset o seat s0 g0 (unmarked_all t.blocks.owned) t.blocks.contents) (sym composed_more)

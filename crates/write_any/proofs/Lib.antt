@@ -23,3 +23,4 @@ pub mod RunsHeld
 pub mod ComposedSteps
 pub mod ComposedBlocks
 pub mod TakenBlocks
+pub mod TakeStages
