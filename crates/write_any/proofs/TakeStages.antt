@@ -18,19 +18,19 @@ use Rattle.block_bitmap.specs.declared.take.Taken.{Taken}
 use Rattle.block_bitmap.specs.declared.take.Taken.TheVariants.{Taken as HasTaken, NoSpace}
 use Rattle.block_bitmap.specs.TakeWithin.{HasEnded, HasTakenBlocks}
 use Rattle.write_any.specs.declared.stage.Target.TheVariants.{At}
-use Rattle.write_any.specs.declared.stage.Stage.TheVariants.{Taking}
+use Rattle.write_any.specs.declared.stage.Stage.TheVariants.{Taking, TakingRuns}
 use Rattle.write_any.specs.Composing.{block_count, are_one_run, composed}
 use Rattle.write_any.specs.Writing.{at_stage, write_script, taken_stage, taken_seat, taken_so, taken_runs_so}
 use Rattle.write_any.specs.WriteWithin.{MayWrite, HasWritten, unwritten}
 use Rattle.write_any.proofs.Composed.{composed_bare, composed_long}
-use Rattle.write_any.proofs.ComposedBlocks.{OwnsZeros, enters_one_run, one_run_composed}
-use Rattle.write_any.proofs.Embedding.{at_take}
+use Rattle.write_any.proofs.ComposedBlocks.{OwnsZeros, enters_one_run, one_run_composed, enters_runs_of, runs_are_composed}
+use Rattle.write_any.proofs.Embedding.{at_take, at_take_runs}
 use Rattle.write_any.proofs.EndStages.{may_pin}
 use Rattle.write_any.proofs.FillStage.{still_writing, still_here}
 use Rattle.write_any.proofs.FirstStages.{few_count}
 use Rattle.write_any.proofs.PartLaws.{HasSamePut, taking_law, filling_law}
-use Rattle.write_any.proofs.RoundFalls.{taking_falls}
-use Rattle.write_any.proofs.TakenBlocks.{owns_no_zeros, owns_more, taken_blocks, lacks_runs}
+use Rattle.write_any.proofs.RoundFalls.{taking_falls, taking_runs_falls}
+use Rattle.write_any.proofs.TakenBlocks.{owns_no_zeros, owns_taken, owns_more, taken_blocks, lacks_runs}
 use Rattle.write_any.proofs.TakenInOrder.{ordered_law}
 use Rattle.write_any.proofs.WordsSet.{AreBytes}
 use Rattle.write_any.proofs.WriteStanding.{unmarked_all, IsHere, IsWriting, AreComposed, BeforeTake, BeforeTakeRuns, BeforeFill, IsEnding, WriteStands}
@@ -168,3 +168,44 @@ module _ (offset : ℕ) (o : Origin) (seat : ℕ) (s0 : Seat) (g0 : Ghost) where
         })
         (λ p t h at. (refl, at))
         (λ start ghost out t h before may' left. taking_fits start ghost out t h before left)
+
+    -- and one more, for the words of their runs
+    module _ (start : Seat) (ghost : Ghost) (out : Taken) (t : Seat) (h : Ghost) (before : BeforeTakeRuns offset o seat s0 g0 start ghost) (left : (taking_law Data 1).left o seat start ghost out t h) where
+      abbrev one_more : HasEnded Data 1 start out t h
+      one_more = left.0.ended
+
+      owns_runs : OwnsZeros offset o seat s0 g0 (block_count s0 + length one_more.blocks) t
+      owns_runs = owns_more offset o seat s0 g0 (block_count s0) start t one_more.blocks (owns_taken offset o seat s0 g0 start before.writing.rest before.taken before.zeros) one_more.grown one_more.once
+
+      owns_more_all : out ≡ HasTaken → OwnsZeros offset o seat s0 g0 (block_count s0 + 1) t
+      owns_more_all is = subst (λ (n : ℕ). OwnsZeros offset o seat s0 g0 (block_count s0 + n) t) (one_more.taken is) owns_runs
+
+      runs_writing : IsWriting offset o seat s0 g0 t h
+      runs_writing = taken_writing 1 start ghost out t h left.0 left.1 before.writing
+
+      runs_here : IsHere t
+      runs_here = taken_here 1 start ghost out t h left.0 left.1 before.here
+
+    taking_runs_fits : (start : Seat) (ghost : Ghost) (out : Taken) (t : Seat) (h : Ghost) → BeforeTakeRuns offset o seat s0 g0 start ghost → (taking_law Data 1).left o seat start ghost out t h →
+        FitsNext no_record (WriteStands offset o seat s0 g0) (HasWritten offset o seat s0 g0) t h (taken_runs_so (At offset) out t)
+    taking_runs_fits start ghost HasTaken t h before left =
+        (let all = owns_more_all start ghost HasTaken t h before left refl in
+        fill_fits t h (runs_writing start ghost HasTaken t h before left) (runs_here start ghost HasTaken t h before left) (let many = all.many_are in omega (arith, many))
+        (enters_runs_of offset o seat s0 g0 may bytes (block_count s0 + 1) t all (omega arith) refl h) (runs_are_composed offset o seat s0 g0 may bytes (block_count s0 + 1) t all (omega arith) refl))
+    taking_runs_fits start ghost (NoSpace area) t h before left =
+        (let none = left.0.ended.no_space area refl in
+        refused_fits area t h (runs_writing start ghost (NoSpace area) t h before left) (runs_here start ghost (NoSpace area) t h before left)
+        (let many = (owns_runs start ghost (NoSpace area) t h before left).many_are in let fewer = none.1 in let few = few_count offset o seat s0 g0 may in omega (arith, many, fewer, few)) none.0 none.3)
+
+    pub taking_runs_stage : (p : Take) (s : Seat) (g : Ghost) → HasBegun (taking_law Data 1) o seat (BeforeTakeRuns offset o seat s0 g0) p s g →
+        Lawful o seat write_script no_record (WriteStands offset o seat s0 g0) (HasWritten offset o seat s0 g0) (at_stage (At offset) (TakingRuns p)) s g
+    taking_runs_stage = lawful_stage o seat no_record (WriteStands offset o seat s0 g0) (HasWritten offset o seat s0 g0) (taking_law Data 1) (BeforeTakeRuns offset o seat s0 g0) (at_take_runs (At offset))
+        (λ p t a admits. admits.part)
+        (λ p t h a at told admits. record {
+          part = admits;
+          joint = λ done. taken_blocks offset o seat s0 g0 may (block_count s0 + 1) _ (owns_more_all at.start at.ghost HasTaken _ _ at.before (told.ends HasTaken done) refl) (omega arith) (omega arith);
+          falls = taking_runs_falls (At offset) p t a admits
+              (λ done. (let many = (owns_more_all at.start at.ghost HasTaken _ _ at.before (told.ends HasTaken done) refl).many_are in let few = few_count offset o seat s0 g0 may in omega (arith, many, few)));
+        })
+        (λ p t h at. (refl, at))
+        (λ start ghost out t h before may' left. taking_runs_fits start ghost out t h before left)
