@@ -37,18 +37,18 @@ use Rattle.write_any.proofs.WordsSet.{AreBytes, AreWords, range_bytes, zero_word
 use Rattle.write_any.proofs.WriteStanding.{unmarked, unmarked_all, HoldsBytes, AreOneRun, AreRunsOf, AreComposed}
 
 -- the same blocks, but for their marks
-pub word_marks : (place word value : ℕ) (s : Seat) → unmarked_all (word_set place word value s).blocks.owned ≡ unmarked_all s.blocks.owned
+word_marks : (place word value : ℕ) (s : Seat) → unmarked_all (word_set place word value s).blocks.owned ≡ unmarked_all s.blocks.owned
 word_marks place word value s = fenced_marks _ place false ∙ filled_marks s.blocks.owned place false
 
-pub blocks_marks : (count : ℕ) (s : Seat) → unmarked_all (blocks_set count s).blocks.owned ≡ unmarked_all s.blocks.owned
+blocks_marks : (count : ℕ) (s : Seat) → unmarked_all (blocks_set count s).blocks.owned ≡ unmarked_all s.blocks.owned
 blocks_marks zero s = refl
 blocks_marks (suc count) s = fenced_marks _ count false ∙ (filled_marks (blocks_set count s).blocks.owned count false ∙ blocks_marks count s)
 
-pub runs_marks : (count place : ℕ) (s : Seat) → unmarked_all (runs_set count place s).blocks.owned ≡ unmarked_all s.blocks.owned
+runs_marks : (count place : ℕ) (s : Seat) → unmarked_all (runs_set count place s).blocks.owned ≡ unmarked_all s.blocks.owned
 runs_marks count zero s = word_marks count 1 (run_word (run_at 0 s)) s
 runs_marks count (suc place) s = word_marks count (runs_at (suc place) s) (run_word (run_at (suc place) s)) (runs_set count place s) ∙ runs_marks count place s
 
-pub unmarked_at : (owned : List OwnedBlock) (place : ℕ) → owned_at (unmarked_all owned) place ≡ unmarked (owned_at owned place)
+unmarked_at : (owned : List OwnedBlock) (place : ℕ) → owned_at (unmarked_all owned) place ≡ unmarked (owned_at owned place)
 unmarked_at owned place = get_or-map unmarked owned place (record { block = 0; area = Data; filled = false; fenced = false })
 
 -- the bytes of a block
@@ -56,13 +56,13 @@ abbrev pub source : Seat → ℕ → List ℕ
 source s place = slice_range s.calling.bytes (place * s.geometry.block_bytes) (place * s.geometry.block_bytes + 8 * words_of s)
 
 -- the contents once the first blocks are set, and once the words of the runs are
-pub blocks_contents : (count : ℕ) (s : Seat) → (blocks_set count s).blocks.contents ≡ blocks_words (source s) (words_of s) s.blocks.contents count
+blocks_contents : (count : ℕ) (s : Seat) → (blocks_set count s).blocks.contents ≡ blocks_words (source s) (words_of s) s.blocks.contents count
 blocks_contents zero s = refl
 blocks_contents (suc count) s =
     ap (λ (u : Seat). Rattle.write_any.specs.ByteWords.words_set (source u count) (blocks_set count s).blocks.contents (count * words_of u) (words_of u)) (set_bare count s)
     ∙ ap (λ (l : List ℕ). Rattle.write_any.specs.ByteWords.words_set (source s count) l (count * words_of s) (words_of s)) (blocks_contents count s)
 
-pub runs_contents : (count place : ℕ) (s : Seat) → (runs_set count place s).blocks.contents ≡ runs_words s s.blocks.contents (count * words_of s) place
+runs_contents : (count place : ℕ) (s : Seat) → (runs_set count place s).blocks.contents ≡ runs_words s s.blocks.contents (count * words_of s) place
 runs_contents count zero s = refl
 runs_contents count (suc place) s =
     ap (λ (u : Seat). slice_set (runs_set count place s).blocks.contents (count * words_of u + runs_at (suc place) s) (run_word (run_at (suc place) s))) (runs_bare count place s)
@@ -85,7 +85,7 @@ run_each block (o ∷ owned) one place low = by (o.block == block + 1) refl one 
         at (suc k) inside = (let is = rest more k (omega (arith, inside)) in let first = next in omega (arith, is, first))
     by false is more rest = cc
 
-pub one_run_each : (owned : List OwnedBlock) → are_one_run owned ≡ true → (place : ℕ) → place < length owned → (owned_at owned place).block ≡ (owned_at owned 0).block + place
+one_run_each : (owned : List OwnedBlock) → are_one_run owned ≡ true → (place : ℕ) → place < length owned → (owned_at owned place).block ≡ (owned_at owned 0).block + place
 one_run_each [] one place low = absurd (omega (arith, low))
 one_run_each (o ∷ owned) one zero low = omega arith
 one_run_each (o ∷ owned) one (suc place) low = run_each o.block owned one place (omega (arith, low))
@@ -148,7 +148,7 @@ module _ (offset : ℕ) (o : Origin) (seat : ℕ) (s0 : Seat) (g0 : Ghost) where
             let split : (place + 1) * size ≡ place * size + size = omega arith in let same = eight in omega (arith, all, next, split, same))
 
     -- with contents that have those words first, whatever form the blocks have
-    pub composed_so : (contents : List ℕ) → ((k : ℕ) → k < count * q → slice_index contents k ≡ slice_index words k) → AreWords contents → length contents ≡ many * q →
+    composed_so : (contents : List ℕ) → ((k : ℕ) → k < count * q → slice_index contents k ≡ slice_index words k) → AreWords contents → length contents ≡ many * q →
         AreOneRun offset o seat s0 g0 (unmarked_all s.blocks.owned) ⊎ AreRunsOf offset o seat s0 g0 (unmarked_all s.blocks.owned) contents → AreComposed offset o seat s0 g0 (unmarked_all s.blocks.owned) contents
     composed_so contents first small long form = record {
       form = form;
@@ -172,7 +172,7 @@ module _ (offset : ℕ) (o : Origin) (seat : ℕ) (s0 : Seat) (g0 : Ghost) where
 
     -- a block for each virtual block, and they are one run
     module _ (all : many ≡ count) where
-      pub composed_one : composed offset s ≡ blocks_set count s
+      composed_one : composed offset s ≡ blocks_set count s
       composed_one = ap (λ (b : Bool). composed_by b (virt_at offset s) (block_count s) (blocks_set (block_count s) s)) (le-ltb (block_count s) (length s.blocks.owned) (let is = count_is in let same = owns.many_are in omega (arith, is, same, all)))
           ∙ ap (λ (n : ℕ). blocks_set n s) count_is
 
@@ -249,8 +249,8 @@ module _ (offset : ℕ) (o : Origin) (seat : ℕ) (s0 : Seat) (g0 : Ghost) where
 
       whole_small : AreWords whole
       whole_small = set_words (runs_words filled words (count * q) last) (count * q + 0) first
-          (runs_words_small filled words (count * q) last (λ k low. run_fits g0 filled count behind few number_small k (let is = all in omega (arith, low, is))) words_small)
-          (first_fits g0 filled count behind few number_small virt may.whole.some low_virt)
+          (runs_words_small filled words (count * q) last (λ k low. run_fits filled count few number_small k (let is = all in omega (arith, low, is))) words_small)
+          (first_fits filled count few virt may.whole.some low_virt)
 
       whole_long : length whole ≡ many * q
       whole_long = length-set (runs_words filled words (count * q) last) (count * q + 0) first ∙ (runs_words_long filled words (count * q) last ∙ words_many)

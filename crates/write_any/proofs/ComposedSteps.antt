@@ -20,7 +20,17 @@ use Rattle.write_any.proofs.RunsHeld.{runs_range, run_range}
 use Rattle.write_any.proofs.SetBlock.{unmarked_again}
 use Rattle.write_any.proofs.WordsSet.{AreBytes, range_bytes, word_small}
 
+-- the words of the runs of so many blocks have 64 bits
+module _ (s : Seat) (count : ℕ) (few : count < words_of s) where
+  pub run_fits : ((k : ℕ) → k < count → owned_block s k < 2 ^ 16) → (place : ℕ) → place < count → run_word (run_at place s) < 2 ^ 64
+  run_fits numbers place low = (let range = run_range s (2 ^ 16) place (λ k before. numbers k (omega (arith, before, low))) in
+      run_small (run_at place s) range.0 (let short = range.1 in let wide = (q_range s.geometry).1 in omega (arith, short, low, few, wide)))
+
+  pub first_fits : (virt : ℕ) → 0 < count → virt < 2 ^ 16 → indirect_word (record { virt = virt; count = count; runs = runs_at (count - 1) s; leftover = 0 }) < 2 ^ 64
+  first_fits virt some low = (let most = (runs_range s (count - 1)).1 in let wide = (q_range s.geometry).1 in omega (arith, low, most, some, few, wide))
+
 module _ (g : Ghost) where
+  -- a word of an owned block
   pub enters_word : (s : Seat) (place word value : ℕ) → MaySetWord s place word value → Enters g s (word_set place word value s) []
   enters_word s place word value may = enters_works g s (SetsWord place word value ∷ []) (may, tt) refl
 
@@ -61,10 +71,6 @@ module _ (g : Ghost) where
 
   -- and those of the runs
   module _ (s : Seat) (count : ℕ) (inside : count < length s.blocks.owned) (few : count < words_of s) (numbers : (k : ℕ) → k < count → owned_block s k < 2 ^ 16) where
-    pub run_fits : (place : ℕ) → place < count → run_word (run_at place s) < 2 ^ 64
-    run_fits place low = (let range = run_range s (2 ^ 16) place (λ k before. numbers k (omega (arith, before, low))) in
-        run_small (run_at place s) range.0 (let short = range.1 in let wide = (q_range s.geometry).1 in omega (arith, short, low, few, wide)))
-
     runs_inside : (place : ℕ) → count < length (runs_set count place s).blocks.owned
     runs_inside place = (let long = runs_long count place s in omega (arith, long, inside))
 
@@ -72,23 +78,20 @@ module _ (g : Ghost) where
     runs_words_of place = ap words_of (runs_bare count place s)
 
     enters_runs : (place : ℕ) → place < count → Enters g s (runs_set count place s) []
-    enters_runs zero low = enters_word s count 1 (run_word (run_at 0 s)) (record { owned = inside; inside = omega (arith, low, few); small = run_fits 0 low })
+    enters_runs zero low = enters_word s count 1 (run_word (run_at 0 s)) (record { owned = inside; inside = omega (arith, low, few); small = run_fits s count few numbers 0 low })
     enters_runs (suc place) low = enters_more g s (runs_set count place s) (runs_set count (suc place) s) [] (enters_runs place (omega (arith, low)))
         (enters_word (runs_set count place s) count (runs_at (suc place) s) (run_word (run_at (suc place) s)) (record {
           owned = runs_inside place;
           inside = (let most = (runs_range s (suc place)).1 in let same = runs_words_of place in omega (arith, most, same, low, few));
-          small = run_fits (suc place) low;
+          small = run_fits s count few numbers (suc place) low;
         }))
-
-    pub first_fits : (virt : ℕ) → 0 < count → virt < 2 ^ 16 → indirect_word (record { virt = virt; count = count; runs = runs_at (count - 1) s; leftover = 0 }) < 2 ^ 64
-    first_fits virt some low = (let most = (runs_range s (count - 1)).1 in let wide = (q_range s.geometry).1 in omega (arith, low, most, some, few, wide))
 
     pub enters_composed_runs : (virt : ℕ) → 0 < count → virt < 2 ^ 16 → Enters g s (runs_composed virt count s) []
     enters_composed_runs virt some low = enters_more g s (runs_set count (count - 1) s) (runs_composed virt count s) [] (enters_runs (count - 1) (omega (arith, some)))
         (enters_word (runs_set count (count - 1) s) count 0 first (record {
           owned = runs_inside (count - 1);
           inside = (let same = runs_words_of (count - 1) in omega (arith, same, few));
-          small = first_fits virt some low;
+          small = first_fits s count few virt some low;
         }))
       where
         first : ℕ

@@ -75,7 +75,7 @@ other_listed x xs y apart listed = by (x == y) refl listed
     by true is some = absurd (apart (eqb-true x y is))
     by false is some = some
 
-pub has_many : (xs : List ℕ) (first count : ℕ) → Rises xs → ((y : ℕ) → first ≤ y → y < first + count → is_listed xs y ≡ true) → count ≤ length xs
+has_many : (xs : List ℕ) (first count : ℕ) → Rises xs → ((y : ℕ) → first ≤ y → y < first + count → is_listed xs y ≡ true) → count ≤ length xs
 has_many xs first zero rises each = omega arith
 has_many [] first (suc count) rises each = (let none = each first (omega arith) (omega arith) in cc)
 has_many (x ∷ xs) first (suc count) rises each = by (cases_eq x first) (λ from many. has_many xs from many rises.1)

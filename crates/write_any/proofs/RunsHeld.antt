@@ -24,7 +24,7 @@ other_word (w ∷ words) word zero other = refl
 other_word (w ∷ words) word (suc i) other = other_word words word i (λ same. other (ap suc same))
 
 -- one block more after a last run
-pub pushed_last : (front : List RunWord) (run : RunWord) (block : ℕ) → pushed (front ++ run ∷ []) block ≡ front ++ extended (run.block + run.count == block) run block
+pushed_last : (front : List RunWord) (run : RunWord) (block : ℕ) → pushed (front ++ run ∷ []) block ≡ front ++ extended (run.block + run.count == block) run block
 pushed_last [] run block = refl
 pushed_last (first ∷ []) run block = refl
 pushed_last (first ∷ next ∷ front) run block = ap (λ (runs : List RunWord). first ∷ runs) (pushed_last (next ∷ front) run block)

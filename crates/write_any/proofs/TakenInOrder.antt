@@ -114,7 +114,7 @@ module _ (m : Take) (s : Seat) (f : ℕ) where
     load_low block listed = (let less = under block listed in omega (arith, less))
 
     load_below : (block : ℕ) → is_listed (owned_numbers s.blocks.owned) block ≡ true → (other : ℕ) → is_listed (open_at m loaded f) other ≡ true → block < other
-    load_below block listed other wanted = (let less = under block listed in let from = (open_bounds (seat_shape s) m.area (word_of m s) f other wanted).0 in omega (arith, less, from))
+    load_below block listed other there = (let less = under block listed in let from = (open_bounds (seat_shape s) m.area (word_of m s) f other there).0 in omega (arith, less, from))
 
     load_goes : (settled m loaded f).turn ≡ Go → IsInOrder (settled m loaded f).machine (settled m loaded f).seat
     load_goes go = settled_goes m loaded f rises load_low load_below (open_at m loaded f) go
@@ -163,15 +163,15 @@ module _ (m : Take) (s : Seat) (f : ℕ) where
         by (inr new) = (open_bounds (seat_shape s) m.area (word_of m s) known block (gained_open block new)).1
 
     set_below : (block : ℕ) → is_listed (owned_numbers set.blocks.owned) block ≡ true → (other : ℕ) → is_listed (open_at left set now) other ≡ true → block < other
-    set_below block listed other wanted = by (either block listed)
+    set_below block listed other there = by (either block listed)
       where
         still : is_listed (open_at m s known) other ≡ true
-        still = open_narrow (seat_shape s) m.area (word_of m s) known (bit_or f (bits_of (wanted_at m s known))) other wanted
+        still = open_narrow (seat_shape s) m.area (word_of m s) known (bit_or f (bits_of (wanted_at m s known))) other there
 
         by : (is_listed (owned_numbers s.blocks.owned) block ≡ true) ⊎ (is_listed gained block ≡ true) → block < other
         by (inl owned) = (under block owned).1 other still
         by (inr new) = above_front m.count (open_at m s known) (open_rises (seat_shape s) m.area (word_of m s) known) block other (gained_wanted block new) still
-            (not_chosen (seat_shape s) m.area (word_of m s) known m.count f other wanted)
+            (not_chosen (seat_shape s) m.area (word_of m s) known m.count f other there)
 
     set_goes : (b : Bool) → (ended_or b left set now).turn ≡ Go → IsInOrder (ended_or b left set now).machine (ended_or b left set now).seat
     set_goes true go = cc

@@ -43,7 +43,7 @@ set_words words place value small fits k = by (cases_eq k place) (cases_lt place
 
 -- the words of one block
 module _ (bytes words : List ℕ) (start : ℕ) where
-  pub words_long : (count : ℕ) → length (words_set bytes words start count) ≡ length words
+  words_long : (count : ℕ) → length (words_set bytes words start count) ≡ length words
   words_long zero = refl
   words_long (suc count) = length-set (words_set bytes words start count) (start + count) (word_in bytes count) ∙ words_long count
 
