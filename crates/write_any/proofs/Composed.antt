@@ -9,11 +9,11 @@ use Rattle.write_any.specs.Composing.{block_count, virt_at, blocks_set, word_set
 abbrev pub bare : Seat → Seat
 bare s = record s { blocks = record s.blocks { owned = []; contents = [] } }
 
-set_bare : (count : ℕ) (s : Seat) → bare (blocks_set count s) ≡ bare s
+pub set_bare : (count : ℕ) (s : Seat) → bare (blocks_set count s) ≡ bare s
 set_bare zero s = refl
 set_bare (suc count) s = set_bare count s
 
-runs_bare : (count place : ℕ) (s : Seat) → bare (runs_set count place s) ≡ bare s
+pub runs_bare : (count place : ℕ) (s : Seat) → bare (runs_set count place s) ≡ bare s
 runs_bare count zero s = refl
 runs_bare count (suc place) s = runs_bare count place s
 
@@ -25,7 +25,7 @@ pub composed_bare : (offset : ℕ) (s : Seat) → bare (composed offset s) ≡ b
 composed_bare offset s = by_bare (nat_lt (block_count s) (length s.blocks.owned)) (virt_at offset s) (block_count s) (blocks_set (block_count s) s) ∙ set_bare (block_count s) s
 
 -- and leaves as many
-set_long : (count : ℕ) (s : Seat) → length (blocks_set count s).blocks.owned ≡ length s.blocks.owned
+pub set_long : (count : ℕ) (s : Seat) → length (blocks_set count s).blocks.owned ≡ length s.blocks.owned
 set_long zero s = refl
 set_long (suc count) s = length-set _ count _ ∙ (length-set (blocks_set count s).blocks.owned count _ ∙ set_long count s)
 

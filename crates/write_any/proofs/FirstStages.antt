@@ -36,6 +36,7 @@ use Rattle.write_any.proofs.Embedding.{at_pin, at_walk}
 use Rattle.write_any.proofs.OfferLaw.{offering_law}
 use Rattle.write_any.proofs.LimitLaw.{taking_log_law}
 use Rattle.write_any.proofs.PartLaws.{taking_law}
+use Rattle.write_any.proofs.TakenInOrder.{ordered_law}
 use Rattle.write_any.proofs.Falls.{pin_falls, walk_falls}
 use Rattle.write_any.proofs.EndStages.{may_pin}
 use Rattle.write_any.proofs.WriteStanding.{unmarked, unmarked_all, IsHere, IsWriting, AreWritten, AreOneRun, AreRunsOf, OwnsNone, OwnsWritten, BeforeWalk, BeforeTake, AtEnd, AtSlot, IsEnding, WriteStands, StageStands}
@@ -202,7 +203,7 @@ module _ (offset : ℕ) (o : Origin) (seat : ℕ) (s0 : Seat) (g0 : Ghost) (may 
           (let here = is_here (eqb-false t.walk.position last_position e) in
           let before : BeforeTake offset o seat s0 g0 t h = record { writing = walked_writing; here = here; owns = walked_none (eqb-true (length t.blocks.owned) 0 f) } in
           subst (λ (n : ℕ). StageStands offset o seat s0 g0 (Taking (take_of Data n)) t h) (sym (ap block_count walked_writing.rest))
-          (has_begun (taking_law Data (block_count s0)) o seat (BeforeTake offset o seat s0 g0) t h before (lacks_data t h before)))
+          (has_begun (ordered_law Data (block_count s0)) o seat (BeforeTake offset o seat s0 g0) t h before (lacks_data t h before)))
       walked_fits false false e f =
           tail_fits (t.walk.tail_slot == words_of t) t h refl walked_writing (is_here (eqb-false t.walk.position last_position e))
           (walked_owns (let some = eqb-false (length t.blocks.owned) 0 f in omega (arith, some)))

@@ -50,7 +50,7 @@ none_in_log image (b ∷ numbers) each =
     (apart_areas image b (each b (or_left (b == b) (is_listed numbers b) (eq-eqb b b refl))))
     ∙ none_in_log image numbers (λ block listed. each block (or_right (b == block) (is_listed numbers block) listed))
 
-numbers_unmarked : (owned : List OwnedBlock) → owned_numbers (unmarked_all owned) ≡ owned_numbers owned
+pub numbers_unmarked : (owned : List OwnedBlock) → owned_numbers (unmarked_all owned) ≡ owned_numbers owned
 numbers_unmarked [] = refl
 numbers_unmarked (o ∷ owned) = ap (λ (l : List ℕ). o.block ∷ l) (numbers_unmarked owned)
 

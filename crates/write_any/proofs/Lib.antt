@@ -24,3 +24,11 @@ pub mod FillLogStage
 pub mod WriteServes
 pub mod AdmitsOnce
 pub mod RunParts
+pub mod RisingNumbers
+pub mod TakenInOrder
+pub mod WordsSet
+pub mod RunsHeld
+pub mod ComposedSteps
+pub mod ComposedBlocks
+pub mod TakenBlocks
+pub mod TakeStages

@@ -34,6 +34,7 @@ use Rattle.write_any.proofs.GiveOne.{give_one_law}
 use Rattle.write_any.proofs.OfferLaw.{offering_law}
 use Rattle.write_any.proofs.LimitLaw.{taking_log_law}
 use Rattle.write_any.proofs.PartLaws.{taking_law, filling_law, giving_law}
+use Rattle.write_any.proofs.TakenInOrder.{ordered_law}
 
 -- the view is at its chain's tail, at a position that is not the last one
 pub record IsHere (s : Seat) : Type 0 where
@@ -75,6 +76,7 @@ module _ (offset : ℕ) (o : Origin) (seat : ℕ) (s0 : Seat) (g0 : Ghost) where
   pub record AreTaken (owned : List OwnedBlock) : Type 0 where
     pub many : length owned ≡ count
     pub in_data : (place : ℕ) → place < length owned → (owned_at owned place).area ≡ Data
+    pub numbers : (block : ℕ) → is_listed (owned_numbers owned) block ≡ true → is_in_area (shape_by s0.geometry) Data block ≡ true
     pub once : all_different (owned_numbers owned) ≡ true
 
   -- a block of these holds the call's bytes for its virtual block
@@ -201,7 +203,7 @@ module _ (offset : ℕ) (o : Origin) (seat : ℕ) (s0 : Seat) (g0 : Ghost) where
   abbrev pub StageStands : Stage → Seat → Ghost → Type 0
   StageStands (Pinning p) s g = HasBegun pin_law o seat (IsUnmoved s0 g0) p s g
   StageStands (Walking p) s g = HasBegun walk_law o seat BeforeWalk p s g ⊎ ((word : ℕ) × HasBegun (walk_on_law word) o seat BeforeWalk p s g)
-  StageStands (Taking p) s g = HasBegun (taking_law Data count) o seat BeforeTake p s g
+  StageStands (Taking p) s g = HasBegun (ordered_law Data count) o seat BeforeTake p s g
   StageStands (TakingRuns p) s g = HasBegun (taking_law Data 1) o seat BeforeTakeRuns p s g
   StageStands (Filling p) s g = (all : ℕ) × HasBegun (filling_law 0 all) o seat (λ t h. BeforeFill t h × (length t.blocks.owned ≡ all)) p s g
   StageStands (TakingLog p) s g = HasBegun taking_log_law o seat AtEnd p s g
