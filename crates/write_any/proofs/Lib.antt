@@ -14,5 +14,6 @@ pub mod OfferLaw
 pub mod OfferStage
 pub mod LastBlock
 pub mod GrowStages
+pub mod Offers
 pub mod Lacks
 pub mod SetBlock
