@@ -15,5 +15,7 @@ pub mod OfferStage
 pub mod LastBlock
 pub mod GrowStages
 pub mod Offers
+pub mod FewLost
+pub mod LostStages
 pub mod Lacks
 pub mod SetBlock

@@ -2,5 +2,6 @@ pub mod ByteWords
 pub mod Composing
 pub mod GiveOneWithin
 pub mod GivingOne
+pub mod LosingFew
 pub mod WriteWithin
 pub mod Writing
