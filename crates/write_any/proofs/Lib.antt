@@ -17,5 +17,6 @@ pub mod GrowStages
 pub mod Offers
 pub mod FewLost
 pub mod LostStages
+pub mod LosesFew
 pub mod Lacks
 pub mod SetBlock

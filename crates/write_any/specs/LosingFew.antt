@@ -11,7 +11,7 @@ use Rattle.write_any.specs.declared.stage.Target.TheVariants.{At}
 use Rattle.write_any.specs.declared.stage.Stage.TheVariants.{Taking}
 use Rattle.write_any.specs.Composing.{block_count}
 use Rattle.write_any.specs.Writing.{at_stage, write_script}
-use Rattle.write_any.specs.WriteWithin.{MayWrite}
+use Rattle.write_any.specs.WriteWithin.{MayWrite, HasWritten}
 
 -- the position that a seat comes to by the entries of others: with an entry of its own it is one further
 abbrev pub others_position : Bool → ℕ → ℕ
@@ -34,6 +34,7 @@ pub record IsAtFirstTail (offset count : ℕ) (o : Origin) (seat : ℕ) (s : Sea
   pub none_kept : s.walk.kept ≡ []
   pub below : s.walk.position ≢ last_position
 
--- from there on it loses few
+-- from there on it ends as a write does, and loses few
 abbrev pub LosesFew : Type 0
-LosesFew = (offset count : ℕ) → Promises write_script (IsAtFirstTail offset count) (λ o seat s0 g0 out s g. HasLostFew s0.walk.position s0.calling.lost s) (at_stage (At offset) (Taking (take_of Data count)))
+LosesFew = (offset count : ℕ) →
+    Promises write_script (IsAtFirstTail offset count) (λ o seat s0 g0 out s g. HasWritten offset o seat s0 g0 out s g × HasLostFew s0.walk.position s0.calling.lost s) (at_stage (At offset) (Taking (take_of Data count)))
