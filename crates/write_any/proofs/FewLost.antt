@@ -12,7 +12,7 @@ use Rattle.log_blocks.specs.declared.walk.Tail.{Tail}
 use Rattle.log_blocks.specs.declared.walk.Walk.{Walk}
 use Rattle.log_blocks.specs.declared.walk.Walk.TheVariants.{Begin, Size, Run, Link, Next, Indirect}
 use Rattle.log_blocks.specs.Taking.{with_kept}
-use Rattle.log_blocks.specs.Committing.{lost_by, away}
+use Rattle.log_blocks.specs.Committing.{committed, lost_by, away}
 use Rattle.log_blocks.specs.Offering.{counted}
 use Rattle.log_blocks.specs.Walking.{walk_if, walk_after, begin_after, tail_after, slot_after, indirect_after}
 use Rattle.write_any.specs.LosingFew.{others_position, HasLostFew}
@@ -179,4 +179,10 @@ module _ (first before : ℕ) where
     from = subst (λ (won : Bool). first ≤ others_position won s.walk.position) (sym x.not_won) x.from;
     few = subst (λ (won : Bool). s.calling.lost ≤ before + (2 * (others_position won s.walk.position - first) + 1)) (sym x.not_won)
         (let few = x.few in let one = past_few (s.walk.tail_slot == words_of s) (s.walk.tail_slot == 3) in omega (arith, few, one));
+  }
+
+  pub committed_few : (entry : ℕ) (s : Seat) → LostAtTail s → HasLostFew first before (committed entry s)
+  committed_few entry s x = record {
+    from = (let from = x.from in omega (arith, from));
+    few = (let from = x.from in let few = x.few in let one = past_few (s.walk.tail_slot == words_of s) (s.walk.tail_slot == 3) in omega (arith, from, few, one));
   }

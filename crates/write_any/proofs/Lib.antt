@@ -18,5 +18,7 @@ pub mod Offers
 pub mod FewLost
 pub mod LostStages
 pub mod LosesFew
+pub mod LosesFewFrom
+pub mod SameHold
 pub mod Lacks
 pub mod SetBlock

@@ -10,6 +10,7 @@ use Rattle.log_core.proofs.machines.MachineLaws.{Law, has_begun, promised}
 use Rattle.block_bitmap.specs.TakeScript.{take_of}
 use Rattle.write_any.specs.declared.stage.Target.TheVariants.{At}
 use Rattle.write_any.specs.declared.stage.Stage.TheVariants.{Taking}
+use Rattle.write_any.specs.declared.write.Write.{Write}
 use Rattle.write_any.specs.Composing.{block_count}
 use Rattle.write_any.specs.Writing.{at_stage, write_script, write_lowers}
 use Rattle.write_any.specs.WriteWithin.{MayWrite, HasWritten}
@@ -42,18 +43,24 @@ module _ (offset count : ℕ) (o : Origin) (seat : ℕ) (s : Seat) (g : Ghost) (
         (has_begun (taking_law Data (block_count s)) o seat (BeforeTake offset o seat s g) s g first_before (lacks_data offset o seat s g at.may s g first_before)),
   )
 
-  first_lost : WriteLost s.walk.position s.calling.lost (at_stage (At offset) (Taking (take_of Data count))) s
-  first_lost = record { ready = at.ready; not_won = at.may.free.not_won; from = omega arith; few = omega arith }
+  first_lost : WriteLost s.hold.generation s.walk.position s.calling.lost (Unit {0}) (at_stage (At offset) (Taking (take_of Data count))) s
+  first_lost = (refl, λ tied. record { ready = at.ready; not_won = at.may.free.not_won; from = omega arith; few = omega arith })
 
+-- a write that is lawful
 module _ (whole : (offset : ℕ) (o : Origin) (seat : ℕ) (s0 : Seat) (g0 : Ghost) → MayWrite offset o seat s0 g0 → Serves o seat write_script no_record (WriteStands offset o seat s0 g0) (HasWritten offset o seat s0 g0)) where
+  abbrev First : Seat → Write → Seat → Type 0
+  First s0 m s = WriteLost s0.hold.generation s0.walk.position s0.calling.lost (Unit {0}) m s
+
   abbrev few_law : (offset count : ℕ) → Law write_script (at_stage (At offset) (Taking (take_of Data count)))
   few_law offset count = record {
     may = IsAtFirstTail offset count;
-    stands = λ o seat s0 g0 m s g. WriteStands offset o seat s0 g0 m s g × WriteLost s0.walk.position s0.calling.lost m s;
+    stands = λ o seat s0 g0 m s g. WriteStands offset o seat s0 g0 m s g × First s0 m s;
     left = λ o seat s0 g0 out s g. HasWritten offset o seat s0 g0 out s g × HasLostFew s0.walk.position s0.calling.lost s;
     begins = λ o seat s g at. (first_stands offset count o seat s g at, first_lost offset count o seat s g at);
-    serves = λ o seat s0 g0 at. serves_with o seat write_script no_record (WriteStands offset o seat s0 g0) (HasWritten offset o seat s0 g0) (λ m s g. WriteLost s0.walk.position s0.calling.lost m s) (λ out s g. HasLostFew s0.walk.position s0.calling.lost s)
-        (λ m s g f stands lost found. lost_frames offset o seat s0 g0 s0.walk.position s0.calling.lost m s g f stands lost found) (whole offset o seat s0 g0 at.may);
+    serves = λ o seat s0 g0 at. serves_with o seat write_script no_record (WriteStands offset o seat s0 g0) (HasWritten offset o seat s0 g0) (λ m s g. First s0 m s) (λ out s g. HasLostFew s0.walk.position s0.calling.lost s)
+        (λ m s g f stands lost found. (let frames = lost_frames offset o seat s0 g0 s0.hold.generation s0.walk.position s0.calling.lost (Unit {0}) m s g f stands lost found in
+        record { goes = frames.goes; ends = λ out done. (frames.ends out done).1 tt }))
+        (whole offset o seat s0 g0 at.may);
     lowers = write_lowers;
   }
 

@@ -5,8 +5,8 @@ use Rattle.log_entry.specs.Fields.{field}
 use Rattle.log_entry.specs.Legal.{last_position}
 use Rattle.log_entry.specs.declared.layouts.TheConstants.{EMPTY, ENTRY_KIND, INDIRECT, SEAL}
 use Rattle.log_entry.specs.declared.calls.WriteRefusal.{WriteRefusal}
-use Rattle.pmem_words.specs.Scripts.{After}
-use Rattle.pmem_words.specs.Seats.{Seat}
+use Rattle.pmem_words.specs.Scripts.{After, Script}
+use Rattle.pmem_words.specs.Seats.{Seat, Hold}
 use Rattle.pmem_words.specs.Parts.{Next, Into, End, moved, onward_at, onward}
 use Rattle.pmem_words.specs.declared.machine.Turn.{Turn}
 use Rattle.pmem_words.specs.declared.machine.Turn.TheVariants.{Go, Done}
@@ -16,7 +16,7 @@ use Rattle.log_core.specs.Views.{Ghost}
 use Rattle.log_core.specs.Origin.{Origin}
 use Rattle.log_core.specs.Within.{no_record, IsFound}
 use Rattle.log_core.proofs.machines.Framing.{Frames}
-use Rattle.log_core.proofs.machines.MachineLaws.{HasBegun}
+use Rattle.log_core.proofs.machines.MachineLaws.{Law, HasBegun, Told}
 use Rattle.block_bitmap.specs.declared.take.Take.{Take}
 use Rattle.block_bitmap.specs.declared.take.Taken.{Taken}
 use Rattle.block_bitmap.specs.declared.take.Taken.TheVariants.{Taken as HasTaken, NoSpace}
@@ -29,9 +29,10 @@ use Rattle.log_blocks.specs.declared.walk.Walk.{Walk}
 use Rattle.log_blocks.specs.declared.grow.Grow.{Grow}
 use Rattle.log_blocks.specs.declared.offer.Offer.{Offer}
 use Rattle.log_blocks.specs.declared.offer.Offered.TheVariants.{Overtaken}
-use Rattle.log_blocks.specs.Walking.{walk_script}
+use Rattle.log_blocks.specs.Committing.{away}
+use Rattle.log_blocks.specs.Walking.{walk_after, walk_script}
 use Rattle.log_blocks.specs.Growing.{grow_after}
-use Rattle.log_blocks.specs.Offering.{offer_after, offer_script}
+use Rattle.log_blocks.specs.Offering.{counted, offer_after, offer_script}
 use Rattle.write_any.specs.declared.stage.Target.{Target}
 use Rattle.write_any.specs.declared.stage.Stage.{Stage}
 use Rattle.write_any.specs.declared.stage.Stage.TheVariants.{Pinning, Walking, Taking, TakingRuns, Filling, TakingLog, FillingLog, Growing, GivingLog, Offering, Unpinning, Giving}
@@ -45,7 +46,8 @@ use Rattle.write_any.proofs.Composed.{composed_bare}
 use Rattle.write_any.proofs.RoundFalls.{take_unfound, fill_bare}
 use Rattle.write_any.proofs.OfferLaw.{offering_law}
 use Rattle.write_any.proofs.OfferStage.{ends_lost}
-use Rattle.write_any.proofs.FewLost.{past_seal, past_few, seals_passed, LostAtTail, WalkLost, walk_keeps, overtaken_keeps, first_slot, refused_few}
+use Rattle.write_any.proofs.FewLost.{past_seal, seals_passed, LostAtTail, WalkLost, WalkKeeps, walk_keeps, overtaken_keeps, first_slot, refused_few, committed_few}
+use Rattle.write_any.proofs.SameHold.{walk_hold, lost_hold}
 use Rattle.write_any.proofs.WriteStanding.{AtSlot, WriteStands, StageStands}
 
 -- what is to hold where the whole goes on, and where it ends
@@ -71,105 +73,123 @@ module _ {C Out : Type 0} (K : C → Seat → Type 0) (E : Seat → Type 0) wher
     pub keeps_onward : (r : After A OutA) → (r.turn ≡ Go → K (inject r.machine) r.seat) → ((out : OutA) → r.turn ≡ Done out → KeepsOn (next out r.seat)) → Keeps (onward inject next r)
     keeps_onward r goes ends = keeps_at r.machine r.seat r.turn goes ends
 
-module _ (first before : ℕ) where
+-- the seat is of this generation, and the bound holds where it is tied to the first position
+module _ (generation first before : ℕ) (Tied : Type 0) where
+  abbrev Held : Seat → Type 0
+  Held s = s.hold.generation ≡ generation
+
+  abbrev TailLost : Seat → Type 0
+  TailLost s = Held s × (Tied → LostAtTail first before s)
+
+  abbrev pub EndLost : Seat → Type 0
+  EndLost s = Held s × (Tied → HasLostFew first before s)
+
   abbrev pub StageLost : Stage → Seat → Type 0
   StageLost (Pinning p) s = ⊥
-  StageLost (Walking p) s = WalkLost first before p s
-  StageLost (Taking p) s = LostAtTail first before s
-  StageLost (TakingRuns p) s = LostAtTail first before s
-  StageLost (Filling p) s = LostAtTail first before s
-  StageLost (TakingLog p) s = LostAtTail first before s
-  StageLost (FillingLog p) s = LostAtTail first before s
-  StageLost (Growing p) s = LostAtTail first before s
-  StageLost (GivingLog p) s = LostAtTail first before s
-  StageLost (Offering p) s = LostAtTail first before s
-  StageLost (Unpinning refusal p) s = HasLostFew first before s
-  StageLost (Giving refusal p) s = HasLostFew first before s
+  StageLost (Walking p) s = Held s × (Tied → WalkLost first before p s)
+  StageLost (Taking p) s = TailLost s
+  StageLost (TakingRuns p) s = TailLost s
+  StageLost (Filling p) s = TailLost s
+  StageLost (TakingLog p) s = TailLost s
+  StageLost (FillingLog p) s = TailLost s
+  StageLost (Growing p) s = TailLost s
+  StageLost (GivingLog p) s = TailLost s
+  StageLost (Offering p) s = TailLost s
+  StageLost (Unpinning refusal p) s = EndLost s
+  StageLost (Giving refusal p) s = EndLost s
 
   abbrev pub WriteLost : Write → Seat → Type 0
   WriteLost m s = StageLost m.stage s
 
   abbrev pub Kept : After Write Written → Type 0
-  Kept r = Keeps WriteLost (HasLostFew first before) r
+  Kept r = Keeps WriteLost EndLost r
+
+  refused : (s : Seat) → TailLost s → EndLost s
+  refused s x = (x.0, λ tied. refused_few first before s (x.1 tied))
 
   module _ (t : Target) where
-    tail_lost : (end : Bool) (s : Seat) → LostAtTail first before s → StageLost (tail_by end t s) s
+    tail_lost : (end : Bool) (s : Seat) → TailLost s → StageLost (tail_by end t s) s
     tail_lost true s x = x
     tail_lost false s x = x
 
-    walked_lost : (limit none : Bool) (s : Seat) → LostAtTail first before s → StageLost (walked_by limit none t s) s
-    walked_lost true none s x = refused_few first before s x
+    walked_lost : (limit none : Bool) (s : Seat) → TailLost s → StageLost (walked_by limit none t s) s
+    walked_lost true none s x = refused s x
     walked_lost false true s x = x
     walked_lost false false s x = tail_lost (s.walk.tail_slot == words_of s) s x
 
-    taken_lost : (one : Bool) (s : Seat) → LostAtTail first before s → StageLost (taken_stage one s) (taken_seat one t s)
-    taken_lost true s x = subst (λ (u : Seat). LostAtTail first before u) (sym (composed_bare (offset_of t) s)) x
+    taken_lost : (one : Bool) (s : Seat) → TailLost s → StageLost (taken_stage one s) (taken_seat one t s)
+    taken_lost true s x = subst (λ (u : Seat). TailLost u) (sym (composed_bare (offset_of t) s)) x
     taken_lost false s x = x
 
-    walking : (p : Walk) (s : Seat) (f : ℕ) → WalkLost first before p s → Kept (stage_after t (Walking p) s f)
-    walking p s f x = (let kept = walk_keeps first before p s f x in
-        keeps_onward WriteLost (HasLostFew first before) (λ n. at_stage t (Walking n)) (walked_so t) (walk_script.after p s f) kept.goes
-        (λ out done. walked_lost ((walk_script.after p s f).seat.walk.position == last_position) (length (walk_script.after p s f).seat.blocks.owned == 0) (walk_script.after p s f).seat (kept.ends out done)))
+    walking : (p : Walk) (s : Seat) (f : ℕ) → StageLost (Walking p) s → Kept (stage_after t (Walking p) s f)
+    walking p s f x = keeps_onward WriteLost EndLost (λ n. at_stage t (Walking n)) (walked_so t) (walk_script.after p s f) (λ go. (held, λ tied. (kept tied).goes go))
+        (λ out done. walked_lost ((walk_script.after p s f).seat.walk.position == last_position) (length (walk_script.after p s f).seat.blocks.owned == 0) (walk_script.after p s f).seat (held, λ tied. (kept tied).ends out done))
+      where
+        held : Held (walk_script.after p s f).seat
+        held = ap (λ (h : Hold). h.generation) (walk_hold p s f) ∙ x.0
 
-    module _ (p : Take) (s : Seat) (f : ℕ) (x : LostAtTail first before s) where
+        kept : Tied → WalkKeeps first before (walk_after p s f)
+        kept tied = walk_keeps first before p s f (x.1 tied)
+
+    module _ (p : Take) (s : Seat) (f : ℕ) (x : TailLost s) where
       abbrev u : Seat
       u = (take_script.after p s f).seat
 
-      still : LostAtTail first before u
-      still = subst (λ (v : Seat). LostAtTail first before v) (sym (take_unfound p s f)) x
+      still : TailLost u
+      still = subst (λ (v : Seat). TailLost v) (sym (take_unfound p s f)) x
 
       taking : Kept (stage_after t (Taking p) s f)
-      taking = keeps_onward WriteLost (HasLostFew first before) (λ n. at_stage t (Taking n)) (taken_so t) (take_script.after p s f) (λ go. still) by
+      taking = keeps_onward WriteLost EndLost (λ n. at_stage t (Taking n)) (taken_so t) (take_script.after p s f) (λ go. still) by
         where
-          by : (out : Taken) → (take_script.after p s f).turn ≡ Done out → KeepsOn WriteLost (HasLostFew first before) (taken_so t out u)
+          by : (out : Taken) → (take_script.after p s f).turn ≡ Done out → KeepsOn WriteLost EndLost (taken_so t out u)
           by HasTaken done = taken_lost (are_one_run u.blocks.owned) u still
-          by (NoSpace area) done = refused_few first before u still
+          by (NoSpace area) done = refused u still
 
       taking_runs : Kept (stage_after t (TakingRuns p) s f)
-      taking_runs = keeps_onward WriteLost (HasLostFew first before) (λ n. at_stage t (TakingRuns n)) (taken_runs_so t) (take_script.after p s f) (λ go. still) by
+      taking_runs = keeps_onward WriteLost EndLost (λ n. at_stage t (TakingRuns n)) (taken_runs_so t) (take_script.after p s f) (λ go. still) by
         where
-          by : (out : Taken) → (take_script.after p s f).turn ≡ Done out → KeepsOn WriteLost (HasLostFew first before) (taken_runs_so t out u)
+          by : (out : Taken) → (take_script.after p s f).turn ≡ Done out → KeepsOn WriteLost EndLost (taken_runs_so t out u)
           by HasTaken done = taken_lost true u still
-          by (NoSpace area) done = refused_few first before u still
+          by (NoSpace area) done = refused u still
 
       taking_log : Kept (stage_after t (TakingLog p) s f)
-      taking_log = keeps_onward WriteLost (HasLostFew first before) (λ n. at_stage t (TakingLog n)) (taken_log_so t) (take_script.after p s f) (λ go. still) by
+      taking_log = keeps_onward WriteLost EndLost (λ n. at_stage t (TakingLog n)) (taken_log_so t) (take_script.after p s f) (λ go. still) by
         where
-          by : (out : Taken) → (take_script.after p s f).turn ≡ Done out → KeepsOn WriteLost (HasLostFew first before) (taken_log_so t out u)
+          by : (out : Taken) → (take_script.after p s f).turn ≡ Done out → KeepsOn WriteLost EndLost (taken_log_so t out u)
           by HasTaken done = still
-          by (NoSpace area) done = refused_few first before u still
+          by (NoSpace area) done = refused u still
 
-    module _ (p : Fill) (s : Seat) (f : ℕ) (x : LostAtTail first before s) where
+    module _ (p : Fill) (s : Seat) (f : ℕ) (x : TailLost s) where
       abbrev v : Seat
       v = (fill_script.after p s f).seat
 
-      same : LostAtTail first before v
-      same = subst (λ (w : Seat). LostAtTail first before w) (sym (fill_bare p s f)) x
+      same : TailLost v
+      same = subst (λ (w : Seat). TailLost w) (sym (fill_bare p s f)) x
 
       filling_some : Kept (stage_after t (Filling p) s f)
-      filling_some = keeps_onward WriteLost (HasLostFew first before) (λ n. at_stage t (Filling n)) (filled_so t) (fill_script.after p s f) (λ go. same) (λ out done. tail_lost (v.walk.tail_slot == words_of v) v same)
+      filling_some = keeps_onward WriteLost EndLost (λ n. at_stage t (Filling n)) (filled_so t) (fill_script.after p s f) (λ go. same) (λ out done. tail_lost (v.walk.tail_slot == words_of v) v same)
 
       filling_log : Kept (stage_after t (FillingLog p) s f)
-      filling_log = keeps_onward WriteLost (HasLostFew first before) (λ n. at_stage t (FillingLog n)) (filled_log_so t) (fill_script.after p s f) (λ go. same) (λ out done. same)
+      filling_log = keeps_onward WriteLost EndLost (λ n. at_stage t (FillingLog n)) (filled_log_so t) (fill_script.after p s f) (λ go. same) (λ out done. same)
 
-    growing : (won : Bool) (p : Grow) (s : Seat) (f : ℕ) → LostAtTail first before s → Kept (onward (λ n. at_stage t (Growing n)) (grown_so t) (grow_after won p s f))
-    growing true p s f x = record { goes = λ go. first_slot first before s (grow_after true p s f).seat.walk (3 == words_of s) x refl refl; ends = λ out done. cc }
-    growing false p s f x = record { goes = λ go. first_slot first before s (grow_after false p s f).seat.walk (3 == words_of s) x refl refl; ends = λ out done. cc }
+    growing : (won : Bool) (p : Grow) (s : Seat) (f : ℕ) → TailLost s → Kept (onward (λ n. at_stage t (Growing n)) (grown_so t) (grow_after won p s f))
+    growing true p s f x = record { goes = λ go. (x.0, λ tied. first_slot first before s (grow_after true p s f).seat.walk (3 == words_of s) (x.1 tied) refl refl); ends = λ out done. cc }
+    growing false p s f x = record { goes = λ go. (x.0, λ tied. first_slot first before s (grow_after false p s f).seat.walk (3 == words_of s) (x.1 tied) refl refl); ends = λ out done. cc }
 
-    offering : (won : Bool) (p : Offer) (s : Seat) (f : ℕ) → (won ≡ false → f ≡ SEAL → seals_passed s ≡ 0) → LostAtTail first before s → Kept (onward (λ n. at_stage t (Offering n)) (offered_so t) (offer_after won p s f))
+    offering : (won : Bool) (p : Offer) (s : Seat) (f : ℕ) → (won ≡ false → f ≡ SEAL → seals_passed s ≡ 0) → TailLost s → Kept (onward (λ n. at_stage t (Offering n)) (offered_so t) (offer_after won p s f))
     offering true p s f late x = record {
-      goes = λ go. record {
-        from = (let from = x.from in omega (arith, from));
-        few = (let from = x.from in let few = x.few in let one = past_few (s.walk.tail_slot == words_of s) (s.walk.tail_slot == 3) in omega (arith, from, few, one));
-      };
+      goes = λ go. (x.0, λ tied. committed_few first before p.entry s (x.1 tied));
       ends = λ out done. cc;
     }
     offering false p s f late x = record {
-      goes = λ go. overtaken_keeps first before (f == SEAL) (field ENTRY_KIND f == INDIRECT) f s (λ seal. late refl (eqb-true f SEAL seal)) x;
+      goes = λ go. (
+        ap (λ (h : Hold). h.generation) (lost_hold (f == SEAL) (field ENTRY_KIND f == INDIRECT) f (away (counted s))) ∙ x.0,
+        λ tied. overtaken_keeps first before (f == SEAL) (field ENTRY_KIND f == INDIRECT) f s (λ seal. late refl (eqb-true f SEAL seal)) (x.1 tied),
+      );
       ends = λ out done. cc;
     }
 
-    unpinned_lost : (none : Bool) (refusal : Option WriteRefusal) (s : Seat) → HasLostFew first before s → KeepsOn WriteLost (HasLostFew first before) (unpinned_by none t refusal s)
+    unpinned_lost : (none : Bool) (refusal : Option WriteRefusal) (s : Seat) → EndLost s → KeepsOn WriteLost EndLost (unpinned_by none t refusal s)
     unpinned_lost true refusal s x = x
     unpinned_lost false refusal s x = x
 
@@ -183,14 +203,22 @@ module _ (first before : ℕ) where
     stage_keeps (TakingLog p) s f late x = taking_log p s f x
     stage_keeps (FillingLog p) s f late x = filling_log p s f x
     stage_keeps (Growing p) s f late x = growing (f == EMPTY) p s f x
-    stage_keeps (GivingLog p) s f late x = keeps_onward WriteLost (HasLostFew first before) (λ n. at_stage t (GivingLog n)) (given_log_so t) (give_one_script.after p s f) (λ go. x) (λ out done. x)
+    stage_keeps (GivingLog p) s f late x = keeps_onward WriteLost EndLost (λ n. at_stage t (GivingLog n)) (given_log_so t) (give_one_script.after p s f) (λ go. x) (λ out done. x)
     stage_keeps (Offering p) s f late x = offering (f == EMPTY) p s f (λ other seal. late p refl (eqb-false f EMPTY other) seal) x
-    stage_keeps (Unpinning refusal p) s f late x = keeps_onward WriteLost (HasLostFew first before) (λ n. at_stage t (Unpinning refusal n)) (unpinned_so t refusal) (unpin_script.after p s f)
+    stage_keeps (Unpinning refusal p) s f late x = keeps_onward WriteLost EndLost (λ n. at_stage t (Unpinning refusal n)) (unpinned_so t refusal) (unpin_script.after p s f)
         (λ go. cc)
-        (λ out done. unpinned_lost (length s.blocks.owned == 0) refusal (unpin_script.after p s f).seat (record { from = x.from; few = x.few }))
-    stage_keeps (Giving refusal p) s f late x = keeps_onward WriteLost (HasLostFew first before) (λ n. at_stage t (Giving refusal n)) (given_so t refusal) (give_script.after p s f)
-        (λ go. record { from = x.from; few = x.few })
-        (λ out done. record { from = x.from; few = x.few })
+        (λ out done. unpinned_lost (length s.blocks.owned == 0) refusal (unpin_script.after p s f).seat ((x.0, λ tied. (let lost = x.1 tied in record { from = lost.from; few = lost.few }))))
+    stage_keeps (Giving refusal p) s f late x = keeps_onward WriteLost EndLost (λ n. at_stage t (Giving refusal n)) (given_so t refusal) (give_script.after p s f)
+        (λ go. (x.0, λ tied. (let lost = x.1 tied in record { from = lost.from; few = lost.few })))
+        (λ out done. (x.0, λ tied. (let lost = x.1 tied in record { from = lost.from; few = lost.few })))
+
+-- a part stands so, or has ended so, by what was found
+pub told_so : {A OutA : Type 0} {part : Script A OutA} {start : A} (law : Law part start) (o : Origin) (seat : ℕ) (Before : Seat → Ghost → Type 0) (m : A) (s : Seat) (g : Ghost) (f : ℕ) (at : HasBegun law o seat Before m s g) →
+    IsFound o seat s g (part.asks m s) f → Told law o seat Before m s g at f
+told_so {part = part} law o seat Before m s g f at found =
+    (let laws = law.serves o seat at.start at.ghost at.may m s g at.stands in
+    let admits : part.admits m s f = subst (λ (a : ℕ). part.admits m s a) found.is (laws.admitted found.core found.pin found.began found.holds found.unspent found.knows) in
+    record { goes = λ go. laws.goes f found admits go; ends = λ out done. laws.ends f out found admits done })
 
 module _ (offset : ℕ) (o : Origin) (seat : ℕ) (s0 : Seat) (g0 : Ghost) where
   -- a seal that is found at the tail's slot is not in a block's first slot
@@ -203,16 +231,14 @@ module _ (offset : ℕ) (o : Origin) (seat : ℕ) (s0 : Seat) (g0 : Ghost) where
       same = ap (λ (u : Seat). u.walk.tail_slot) at.stands.0.seat
 
       late : 3 < at.start.walk.tail_slot
-      late = (let laws = (offering_law entry).serves o seat at.start at.ghost at.may p s g at.stands in
-          let admits : offer_script.admits p s f = subst (λ (a : ℕ). offer_script.admits p s a) found.is (laws.admitted found.core found.pin found.began found.holds found.unspent found.knows) in
-          (laws.ends f (Overtaken f) found admits (ends_lost p s f some)).1.late f refl seal)
+      late = ((told_so (offering_law entry) o seat (AtSlot offset o seat s0 g0) p s g f at found).ends (Overtaken f) (ends_lost p s f some)).1.late f refl seal
 
   -- so each step keeps the bound, from where it once holds
-  module _ (first before : ℕ) (m : Write) (s : Seat) (g : Ghost) (f : ℕ) (stands : WriteStands offset o seat s0 g0 m s g) (x : WriteLost first before m s) (found : IsFound o seat s g (write_script.asks m s) f) where
+  module _ (generation first before : ℕ) (Tied : Type 0) (m : Write) (s : Seat) (g : Ghost) (f : ℕ) (stands : WriteStands offset o seat s0 g0 m s g) (x : WriteLost generation first before Tied m s) (found : IsFound o seat s g (write_script.asks m s) f) where
     late : (p : Offer) → m.stage ≡ Offering p → f ≢ EMPTY → f ≡ SEAL → seals_passed s ≡ 0
     late p is some seal =
         (let here = subst (λ (stage : Stage). StageStands offset o seat s0 g0 stage s g) is stands.1 in
         late_seal here.0 p s g f here.1 (subst (λ (stage : Stage). IsFound o seat s g (stage_asks stage s) f) is found) some seal)
 
-    pub lost_frames : Frames o seat write_script no_record (λ m s g. WriteStands offset o seat s0 g0 m s g) (HasWritten offset o seat s0 g0) (λ m s g. WriteLost first before m s) (λ out s g. HasLostFew first before s) m s g f
-    lost_frames = (let kept = stage_keeps first before m.target m.stage s f late x in record { goes = kept.goes; ends = kept.ends })
+    pub lost_frames : Frames o seat write_script no_record (λ m s g. WriteStands offset o seat s0 g0 m s g) (HasWritten offset o seat s0 g0) (λ m s g. WriteLost generation first before Tied m s) (λ out s g. EndLost generation first before Tied s) m s g f
+    lost_frames = (let kept = stage_keeps generation first before Tied m.target m.stage s f late x in record { goes = kept.goes; ends = kept.ends })

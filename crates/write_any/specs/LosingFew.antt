@@ -10,7 +10,7 @@ use Rattle.block_bitmap.specs.TakeScript.{take_of}
 use Rattle.write_any.specs.declared.stage.Target.TheVariants.{At}
 use Rattle.write_any.specs.declared.stage.Stage.TheVariants.{Taking}
 use Rattle.write_any.specs.Composing.{block_count}
-use Rattle.write_any.specs.Writing.{at_stage, write_script}
+use Rattle.write_any.specs.Writing.{at_stage, write_of, write_script}
 use Rattle.write_any.specs.WriteWithin.{MayWrite, HasWritten}
 
 -- the position that a seat comes to by the entries of others: with an entry of its own it is one further
@@ -38,3 +38,10 @@ pub record IsAtFirstTail (offset count : ℕ) (o : Origin) (seat : ℕ) (s : Sea
 abbrev pub LosesFew : Type 0
 LosesFew = (offset count : ℕ) →
     Promises write_script (IsAtFirstTail offset count) (λ o seat s0 g0 out s g. HasWritten offset o seat s0 g0 out s g × HasLostFew s0.walk.position s0.calling.lost s) (at_stage (At offset) (Taking (take_of Data count)))
+
+-- a seat whose table was ready, and that finds the same generation, loses few from its first position on
+abbrev pub HasLostFewFrom : Seat → Seat → Type 0
+HasLostFewFrom s0 s = s0.walk.ready ≡ true → s.hold.generation ≡ s0.hold.generation → HasLostFew s0.walk.position s0.calling.lost s
+
+abbrev pub LosesFewFromBegin : Type 0
+LosesFewFromBegin = (offset : ℕ) → Promises write_script (MayWrite offset) (λ o seat s0 g0 out s g. HasWritten offset o seat s0 g0 out s g × HasLostFewFrom s0 s) (write_of (At offset))
