@@ -4,6 +4,7 @@ use Rattle.std.proofs.lemmas.Bool.{ne_eqb, eqb-true, eqb-false}
 use Rattle.log_entry.specs.Fields.{field}
 use Rattle.log_entry.specs.Legal.{last_position}
 use Rattle.log_entry.specs.declared.layouts.TheConstants.{EMPTY, ENTRY_KIND, INDIRECT, SEAL}
+use Rattle.log_entry.specs.declared.shapes.Area.{Area}
 use Rattle.log_entry.specs.declared.calls.WriteRefusal.{WriteRefusal}
 use Rattle.pmem_words.specs.Scripts.{After, Script}
 use Rattle.pmem_words.specs.Seats.{Seat, Hold}
@@ -138,26 +139,22 @@ module _ (generation first before : ℕ) (Tied : Type 0) where
       still : TailLost u
       still = subst (λ (v : Seat). TailLost v) (sym (take_unfound p s f)) x
 
-      taking : Kept (stage_after t (Taking p) s f)
-      taking = keeps_onward WriteLost EndLost (λ n. at_stage t (Taking n)) (taken_so t) (take_script.after p s f) (λ go. still) by
+      from_take : (inject : Take → Stage) (next : Taken → Seat → Next Write Written) → StageLost (inject (take_script.after p s f).machine) u → KeepsOn WriteLost EndLost (next HasTaken u) → ((area : Area) → KeepsOn WriteLost EndLost (next (NoSpace area) u)) →
+          Kept (onward (λ n. at_stage t (inject n)) next (take_script.after p s f))
+      from_take inject next goes taken lacks = keeps_onward WriteLost EndLost (λ n. at_stage t (inject n)) next (take_script.after p s f) (λ go. goes) by
         where
-          by : (out : Taken) → (take_script.after p s f).turn ≡ Done out → KeepsOn WriteLost EndLost (taken_so t out u)
-          by HasTaken done = taken_lost (are_one_run u.blocks.owned) u still
-          by (NoSpace area) done = refused u still
+          by : (out : Taken) → (take_script.after p s f).turn ≡ Done out → KeepsOn WriteLost EndLost (next out u)
+          by HasTaken done = taken
+          by (NoSpace area) done = lacks area
+
+      taking : Kept (stage_after t (Taking p) s f)
+      taking = from_take (λ n. Taking n) (taken_so t) still (taken_lost (are_one_run u.blocks.owned) u still) (λ area. refused u still)
 
       taking_runs : Kept (stage_after t (TakingRuns p) s f)
-      taking_runs = keeps_onward WriteLost EndLost (λ n. at_stage t (TakingRuns n)) (taken_runs_so t) (take_script.after p s f) (λ go. still) by
-        where
-          by : (out : Taken) → (take_script.after p s f).turn ≡ Done out → KeepsOn WriteLost EndLost (taken_runs_so t out u)
-          by HasTaken done = taken_lost true u still
-          by (NoSpace area) done = refused u still
+      taking_runs = from_take (λ n. TakingRuns n) (taken_runs_so t) still (taken_lost true u still) (λ area. refused u still)
 
       taking_log : Kept (stage_after t (TakingLog p) s f)
-      taking_log = keeps_onward WriteLost EndLost (λ n. at_stage t (TakingLog n)) (taken_log_so t) (take_script.after p s f) (λ go. still) by
-        where
-          by : (out : Taken) → (take_script.after p s f).turn ≡ Done out → KeepsOn WriteLost EndLost (taken_log_so t out u)
-          by HasTaken done = still
-          by (NoSpace area) done = refused u still
+      taking_log = from_take (λ n. TakingLog n) (taken_log_so t) still still (λ area. refused u still)
 
     module _ (p : Fill) (s : Seat) (f : ℕ) (x : TailLost s) where
       abbrev v : Seat
