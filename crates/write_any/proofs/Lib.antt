@@ -14,6 +14,12 @@ pub mod OfferLaw
 pub mod OfferStage
 pub mod LastBlock
 pub mod GrowStages
+pub mod Offers
+pub mod FewLost
+pub mod LostStages
+pub mod LosesFew
+pub mod LosesFewFrom
+pub mod SameHold
 pub mod Lacks
 pub mod SetBlock
 pub mod LimitLaw

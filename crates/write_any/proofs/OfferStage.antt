@@ -21,7 +21,7 @@ use Rattle.log_blocks.specs.declared.offer.Offer.{Offer}
 use Rattle.log_blocks.specs.declared.offer.Offered.{Offered}
 use Rattle.log_blocks.specs.declared.offer.Offered.TheVariants.{Committed, Overtaken}
 use Rattle.log_blocks.specs.Committing.{lost_by, away}
-use Rattle.log_blocks.specs.Offering.{counted, offer_script}
+use Rattle.log_blocks.specs.Offering.{counted, offer_after, offer_script}
 use Rattle.log_blocks.specs.PutWithin.{HasCommitted, HasTakenIn, HasOffered}
 use Rattle.log_blocks.specs.Walking.{walk_if}
 use Rattle.log_blocks.proofs.WalkServes.{walk_law}
@@ -62,6 +62,14 @@ lost_keeps false false word s = record { owned = refl; contents = refl; valid = 
 lost_none : (seal : Bool) (word : ℕ) (s : Seat) → (lost_by seal false word s).walk.kept ≡ []
 lost_none true word s = refl
 lost_none false word s = refl
+
+-- an exchange that lost ends with the word that it found
+ends_by : (won : Bool) (p : Offer) (t : Seat) (a : ℕ) → won ≡ false → (offer_after won p t a).turn ≡ Done (Overtaken a)
+ends_by true p t a is = cc
+ends_by false p t a is = refl
+
+pub ends_lost : (p : Offer) (t : Seat) (a : ℕ) → a ≢ EMPTY → (offer_script.after p t a).turn ≡ Done (Overtaken a)
+ends_lost p t a some = ends_by (a == EMPTY) p t a (ne_eqb a EMPTY some)
 
 module _ (offset : ℕ) (o : Origin) (seat : ℕ) (s0 : Seat) (g0 : Ghost) (may : MayWrite offset o seat s0 g0) where
   -- the entry is in the log, and the pin is to be given up
@@ -145,13 +153,6 @@ module _ (offset : ℕ) (o : Origin) (seat : ℕ) (s0 : Seat) (g0 : Ghost) (may 
       (λ p t h at. (refl, (entry, at)))
       (λ start ghost out t h before may' left. offered_fits entry start ghost out t h before left.0)
     where
-      ends_by : (won : Bool) (p : Offer) (t : Seat) (a : ℕ) → won ≡ false → (Rattle.log_blocks.specs.Offering.offer_after won p t a).turn ≡ Done (Overtaken a)
-      ends_by true p t a is = cc
-      ends_by false p t a is = refl
-
-      ends_lost : (p : Offer) (t : Seat) (a : ℕ) → a ≢ EMPTY → (offer_script.after p t a).turn ≡ Done (Overtaken a)
-      ends_lost p t a some = ends_by (a == EMPTY) p t a (ne_eqb a EMPTY some)
-
       room : (p : Offer) (t : Seat) (h : Ghost) (a : ℕ) → HasBegun (offering_law entry) o seat (AtSlot offset o seat s0 g0) p t h → offer_script.admits p t a → t.walk.position < 2 ^ 40
       room p t h a at admits = by (a == EMPTY) refl
         where

@@ -1,5 +1,6 @@
 pub mod Composing
 pub mod GiveOneWithin
 pub mod GivingOne
+pub mod LosingFew
 pub mod WriteWithin
 pub mod Writing
