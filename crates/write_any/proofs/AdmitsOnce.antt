@@ -1,9 +1,11 @@
 -- What a write admits is said once.
-use Rattle.std.proofs.Common.{◌≡◌, ℕ, Bool, true, false, List}
+use Rattle.std.proofs.Common.{◌≡◌, ◌⊎◌, inl, inr, ℕ, Bool, true, false, List, [], ◌∷◌, length, refl, sym, ap, ◌∙◌, arith}
 use Rattle.std.proofs.Math.Bool.{Bool-set}
 use Rattle.std.proofs.Math.Bridge.{le_prop}
-use lib.List.{List-set}
 use Rattle.std.proofs.Math.Nat.{ℕ_set}
+use Rattle.std.proofs.Math.Path.{path_j, sym_refl}
+use Rattle.log_entry.specs.Fields.{field}
+use Rattle.log_entry.specs.declared.layouts.TheConstants.{BLOCK_KIND, LOG, SNAPSHOT}
 use Rattle.pmem_words.specs.declared.keeps.KeptWord.{KeptWord}
 use Rattle.pmem_words.specs.Seats.{Seat}
 use Rattle.pins.specs.declared.pin.Pin.{Pin}
@@ -23,8 +25,28 @@ use Rattle.write_any.specs.declared.stage.Target.{Target}
 use Rattle.write_any.specs.declared.write.Write.{Write}
 use Rattle.write_any.specs.Writing.{part_admits, JointAdmits, write_script}
 
-kept_set : IsSet (List KeptWord)
-kept_set = List-set (hlevel ℕ_set)
+-- a list is empty in one way
+emptied : {A : Type 0} (l : List A) → length l ≡ 0 → [] ≡ l
+emptied [] none = refl
+emptied (x ∷ l) none = absurd (omega (arith, none))
+
+back : {A : Type 0} (l : List A) (e : [] ≡ l) → emptied l (sym (ap length e)) ≡ e
+unfolding emptied
+back l e = path_j (λ y p. emptied y (sym (ap length p)) ≡ p) refl e
+
+twice : {A : Type 0} {a b : A} (p : a ≡ b) → sym (sym p) ≡ p
+twice p = path_j (λ y q. sym (sym q) ≡ q) (ap (λ (e : _). sym e) sym_refl ∙ sym_refl) p
+
+none_one : {A : Type 0} (l : List A) → IsProp (l ≡ [])
+none_one l x y =
+    sym (twice x) ∙ (ap (λ (e : [] ≡ l). sym e) (sym (back l (sym x)) ∙ (ap (λ (n : length l ≡ 0). emptied l n) (ℕ_set (length l) 0 _ _) ∙ back l (sym y))) ∙ twice y)
+
+-- a block is of one kind
+kind_one : (f : ℕ) → IsProp ((field BLOCK_KIND f ≡ LOG) ⊎ (field BLOCK_KIND f ≡ SNAPSHOT))
+kind_one f (inl x) (inl y) = ap inl (ℕ_set (field BLOCK_KIND f) LOG x y)
+kind_one f (inl x) (inr y) = absurd (omega (arith, x, y))
+kind_one f (inr x) (inl y) = absurd (omega (arith, x, y))
+kind_one f (inr x) (inr y) = ap inr (ℕ_set (field BLOCK_KIND f) SNAPSHOT x y)
 
 pin_one : (p : Pin) (s : Seat) (a : ℕ) → IsProp (pin_admits p s a)
 pin_one Begin s a = λ x y. refl
@@ -38,21 +60,21 @@ fill_one Fence s a = λ x y. refl
 
 begin_one : (ready : Bool) (s : Seat) (f : ℕ) → IsProp (BeginAdmits ready s f)
 begin_one true s f = hlevel (ℕ_set, Bool-set, le_prop)
-begin_one false s f = hlevel (ℕ_set, Bool-set, le_prop)
+begin_one false s f = hlevel (ℕ_set, Bool-set, le_prop, kind_one)
 
 stage_one : (p : Walk) (s : Seat) (f : ℕ) → IsProp (StageAdmits p s f)
 stage_one BeginWalk s f = begin_one s.walk.ready s f
 stage_one (Size base) s f = le_prop
 stage_one Run s f = hlevel (ℕ_set, Bool-set, le_prop)
 stage_one Link s f = le_prop
-stage_one (Next block) s f = hlevel (ℕ_set, Bool-set, le_prop)
+stage_one (Next block) s f = hlevel (ℕ_set, Bool-set, le_prop, kind_one)
 stage_one (Indirect block word) s f = hlevel (ℕ_set, Bool-set, le_prop)
 
 walk_one : (p : Walk) (s : Seat) (f : ℕ) → IsProp (WalkAdmits p s f)
 walk_one p s f = λ x y. λ i. record { room = le_prop x.room y.room i; stage = stage_one p s f x.stage y.stage i; falls = λ go. le_prop (x.falls go) (y.falls go) i }
 
 offer_one : (entry : ℕ) (s : Seat) (f : ℕ) → IsProp (OfferAdmits entry s f)
-offer_one entry s f = hlevel (ℕ_set, Bool-set, le_prop, kept_set)
+offer_one entry s f = hlevel (ℕ_set, Bool-set, le_prop, none_one)
 
 grow_one : (block : ℕ) (s : Seat) (f : ℕ) → IsProp (GrowAdmits block s f)
 grow_one block s f = hlevel (ℕ_set, Bool-set, le_prop)

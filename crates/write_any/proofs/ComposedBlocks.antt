@@ -27,13 +27,13 @@ use Rattle.log_core.proofs.WordBytesAt.{eight_words}
 use Rattle.log_core.proofs.writes.PlacedBytes.{word_has}
 use Rattle.log_core.proofs.writes.RunLists.{runs_of, are_runs, blocks_back}
 use Rattle.write_any.specs.Composing.{block_count, virt_at, follow, are_one_run, blocks_set, run_at, runs_at, word_set, runs_set, runs_composed, composed_by, composed}
-use Rattle.write_any.specs.WriteWithin.{MayWrite, unwritten}
+use Rattle.write_any.specs.WriteWithin.{AreBytes, MayWrite, unwritten}
 use Rattle.write_any.proofs.Composed.{set_bare, set_long, runs_bare}
 use Rattle.write_any.proofs.ComposedSteps.{run_fits, first_fits, enters_blocks, enters_composed_runs}
 use Rattle.write_any.proofs.Lacks.{numbers_unmarked}
 use Rattle.write_any.proofs.Marks.{filled_marks, fenced_marks}
 use Rattle.write_any.proofs.RunsHeld.{firsts, firsts_long, firsts_at, runs_words, runs_words_long, runs_words_small, runs_words_before, are_held, indirect_words}
-use Rattle.write_any.proofs.WordsSet.{AreBytes, AreWords, range_bytes, zero_words, set_words, blocks_words, blocks_words_long, blocks_words_at, blocks_words_behind, blocks_words_small}
+use Rattle.write_any.proofs.WordsSet.{AreWords, range_bytes, zero_words, set_words, blocks_words, blocks_words_long, blocks_words_at, blocks_words_behind, blocks_words_small}
 use Rattle.write_any.proofs.WriteStanding.{unmarked, unmarked_all, HoldsBytes, AreOneRun, AreRunsOf, AreComposed}
 
 -- the same blocks, but for their marks
@@ -59,8 +59,8 @@ source s place = slice_range s.calling.bytes (place * s.geometry.block_bytes) (p
 blocks_contents : (count : ℕ) (s : Seat) → (blocks_set count s).blocks.contents ≡ blocks_words (source s) (words_of s) s.blocks.contents count
 blocks_contents zero s = refl
 blocks_contents (suc count) s =
-    ap (λ (u : Seat). Rattle.write_any.specs.ByteWords.words_set (source u count) (blocks_set count s).blocks.contents (count * words_of u) (words_of u)) (set_bare count s)
-    ∙ ap (λ (l : List ℕ). Rattle.write_any.specs.ByteWords.words_set (source s count) l (count * words_of s) (words_of s)) (blocks_contents count s)
+    ap (λ (u : Seat). Rattle.pmem_words.specs.ByteWords.words_set (source u count) (blocks_set count s).blocks.contents (count * words_of u) (words_of u)) (set_bare count s)
+    ∙ ap (λ (l : List ℕ). Rattle.pmem_words.specs.ByteWords.words_set (source s count) l (count * words_of s) (words_of s)) (blocks_contents count s)
 
 runs_contents : (count place : ℕ) (s : Seat) → (runs_set count place s).blocks.contents ≡ runs_words s s.blocks.contents (count * words_of s) place
 runs_contents count zero s = refl
@@ -100,7 +100,7 @@ module _ (offset : ℕ) (o : Origin) (seat : ℕ) (s0 : Seat) (g0 : Ghost) where
     pub once : all_different (owned_numbers s.blocks.owned) ≡ true
     pub zeros : s.blocks.contents ≡ replicate (many * words_of s0) 0
 
-  module _ (may : MayWrite offset o seat s0 g0) (bytes : AreBytes s0.calling.bytes) (many : ℕ) (s : Seat) (owns : OwnsZeros many s) (least : block_count s0 ≤ many) where
+  module _ (may : MayWrite offset o seat s0 g0) (many : ℕ) (s : Seat) (owns : OwnsZeros many s) (least : block_count s0 ≤ many) where
     abbrev count : ℕ
     count = block_count s0
 
@@ -121,7 +121,7 @@ module _ (offset : ℕ) (o : Origin) (seat : ℕ) (s0 : Seat) (g0 : Ghost) where
     words_many = blocks_words_long (source s0) q (replicate (many * q) 0) count ∙ length-replicate {A = ℕ} (many * q) 0
 
     source_bytes : (place : ℕ) → AreBytes (source s0 place)
-    source_bytes place = range_bytes s0.calling.bytes (place * size) (place * size + 8 * q) bytes
+    source_bytes place = range_bytes s0.calling.bytes (place * size) (place * size + 8 * q) may.bytes
 
     words_small : AreWords words
     words_small = blocks_words_small (source s0) q (replicate (many * q) 0) count source_bytes (zero_words (many * q))
@@ -168,7 +168,7 @@ module _ (offset : ℕ) (o : Origin) (seat : ℕ) (s0 : Seat) (g0 : Ghost) where
 
     -- the blocks may be set
     enters_set : (g : Ghost) → Enters g s (blocks_set count s) []
-    enters_set g = enters_blocks g s (subst AreBytes (sym (ap (λ (u : Seat). u.calling.bytes) owns.rest)) bytes) count (let same = owns.many_are in omega (arith, least, same))
+    enters_set g = enters_blocks g s (subst AreBytes (sym (ap (λ (u : Seat). u.calling.bytes) owns.rest)) may.bytes) count (let same = owns.many_are in omega (arith, least, same))
 
     -- a block for each virtual block, and they are one run
     module _ (all : many ≡ count) where

@@ -13,12 +13,13 @@ use Rattle.log_core.proofs.machines.Entering.{enters_same, enters_works}
 use Rattle.log_core.proofs.machines.Parts.{enters_more}
 use Rattle.log_core.proofs.writes.IndirectBlocks.{run_small}
 use Rattle.block_bitmap.proofs.OwnedFlags.{unfilled_many}
-use Rattle.write_any.specs.ByteWords.{words_set, word_in}
+use Rattle.pmem_words.specs.ByteWords.{words_set, word_in}
 use Rattle.write_any.specs.Composing.{block_set, blocks_set, run_at, runs_at, word_set, runs_set, runs_composed}
 use Rattle.write_any.proofs.Composed.{set_bare, set_long, runs_bare, runs_long}
 use Rattle.write_any.proofs.RunsHeld.{runs_range, run_range}
 use Rattle.write_any.proofs.SetBlock.{unmarked_again}
-use Rattle.write_any.proofs.WordsSet.{AreBytes, range_bytes, word_small}
+use Rattle.write_any.specs.WriteWithin.{AreBytes}
+use Rattle.write_any.proofs.WordsSet.{range_bytes, word_small}
 
 -- the words of the runs of so many blocks have 64 bits
 module _ (s : Seat) (count : ℕ) (few : count < words_of s) where

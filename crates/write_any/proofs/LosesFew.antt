@@ -16,7 +16,7 @@ use Rattle.write_any.specs.Writing.{at_stage, write_script, write_lowers}
 use Rattle.write_any.specs.WriteWithin.{MayWrite, HasWritten}
 use Rattle.write_any.specs.LosingFew.{HasLostFew, IsAtFirstTail, LosesFew}
 use Rattle.write_any.proofs.Lacks.{lacks_data}
-use Rattle.write_any.proofs.PartLaws.{taking_law}
+use Rattle.write_any.proofs.TakenInOrder.{ordered_law}
 use Rattle.write_any.proofs.LostStages.{WriteLost, lost_frames}
 use Rattle.write_any.proofs.WriteStanding.{BeforeTake, StageStands, WriteStands}
 
@@ -40,7 +40,7 @@ module _ (offset count : ℕ) (o : Origin) (seat : ℕ) (s : Seat) (g : Ghost) (
   first_stands = (
     refl,
     subst (λ (n : ℕ). StageStands offset o seat s g (Taking (take_of Data n)) s g) at.count_is
-        (has_begun (taking_law Data (block_count s)) o seat (BeforeTake offset o seat s g) s g first_before (lacks_data offset o seat s g at.may s g first_before)),
+        (has_begun (ordered_law Data (block_count s)) o seat (BeforeTake offset o seat s g) s g first_before (lacks_data offset o seat s g at.may s g first_before)),
   )
 
   first_lost : WriteLost s.hold.generation s.walk.position s.calling.lost (Unit {0}) (at_stage (At offset) (Taking (take_of Data count))) s

@@ -4,12 +4,10 @@ use Rattle.std.specs.List.{slice_range}
 use Rattle.std.proofs.lemmas.Bool.{cases_eq, cases_lt}
 use Rattle.std.proofs.lemmas.List.{get_or-set_same, get_or-set_other, set_past, length-set, get_or-take, get_or-drop, get_or_past, get_or-replicate, length-take, length-replicate}
 use Rattle.byteorder.specs.Endian.{little_number}
-use Rattle.write_any.specs.ByteWords.{words_set, word_in}
+use Rattle.pmem_words.specs.ByteWords.{words_set, word_in}
+use Rattle.write_any.specs.WriteWithin.{AreBytes}
 
--- each is a byte, and each a word of 64 bits
-abbrev pub AreBytes : List ℕ → Type 0
-AreBytes bytes = (k : ℕ) → slice_index bytes k < 256
-
+-- each is a word of 64 bits
 abbrev pub AreWords : List ℕ → Type 0
 AreWords words = (k : ℕ) → slice_index words k < 2 ^ 64
 

@@ -1,5 +1,5 @@
 -- Writing whole blocks within a core: when a seat may, and what it has in the end, whatever other seats do meanwhile.
-use Rattle.std.specs.Prelude.{ℕ, ◌≡◌, ◌≢◌, ◌⊎◌, true, false, [], Option, Some, None}
+use Rattle.std.specs.Prelude.{ℕ, ◌<◌, ◌≡◌, ◌≢◌, ◌⊎◌, true, false, List, [], slice_index, Option, Some, None}
 use Rattle.log_entry.specs.declared.shapes.Area.TheVariants.{Data, Log}
 use Rattle.log_entry.specs.declared.calls.WriteRefusal.{WriteRefusal}
 use Rattle.log_entry.specs.declared.calls.WriteRefusal.TheVariants.{NoSpace, PositionLimit}
@@ -16,10 +16,15 @@ use Rattle.write_any.specs.declared.stage.Target.TheVariants.{At}
 use Rattle.write_any.specs.Composing.{IsWhole}
 use Rattle.write_any.specs.Writing.{write_of, written, write_script}
 
+-- each of these is a byte
+abbrev pub AreBytes : List ℕ → Type 0
+AreBytes bytes = (k : ℕ) → slice_index bytes k < 256
+
 -- a seat may write whole blocks: that is its call, it owns no block and has marked nothing, and its call has put in nothing and read nothing
 pub record MayWrite (offset : ℕ) (o : Origin) (seat : ℕ) (s : Seat) (g : Ghost) : Type 0 where
   pub number : s.number ≡ seat
   pub job : s.calling.job ≡ Pwrite offset
+  pub bytes : AreBytes s.calling.bytes
   pub whole : IsWhole offset s
   pub none_owned : s.blocks.owned ≡ []
   pub no_contents : s.blocks.contents ≡ []
