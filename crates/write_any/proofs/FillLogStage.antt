@@ -1,9 +1,9 @@
 -- The stage of a write that fills its log block is lawful.
-use Rattle.std.proofs.Common.{◌≡◌, ℕ, ◌+◌, ◌-◌, ◌*◌, ◌^◌, ◌<◌, Bool, true, false, List, [], ◌∷◌, ◌++◌, length, length-append, refl, sym, ap, subst, ◌∙◌, arith}
+use Rattle.std.proofs.Common.{◌≡◌, ℕ, ◌+◌, ◌*◌, true, false, List, [], ◌∷◌, ◌++◌, length, length-append, refl, sym, ap, subst, ◌∙◌, arith}
 use Rattle.std.proofs.lemmas.List.{length-map}
 use Rattle.log_entry.specs.declared.shapes.Area.TheVariants.{Log}
 use Rattle.log_image.specs.Image.{Shape, is_in_log}
-use Rattle.log_image.specs.Chains.{all_different, is_listed}
+use Rattle.log_image.specs.Chains.{all_different}
 use Rattle.pmem_words.specs.Owned.{owned_at, with_filled, with_fenced, fenced_all}
 use Rattle.pmem_words.specs.declared.owned.OwnedBlock.{OwnedBlock}
 use Rattle.pmem_words.specs.Seats.{Seat}

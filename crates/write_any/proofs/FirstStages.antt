@@ -35,7 +35,6 @@ use Rattle.write_any.specs.WriteWithin.{MayWrite, HasWritten, unwritten}
 use Rattle.write_any.proofs.Embedding.{at_pin, at_walk}
 use Rattle.write_any.proofs.OfferLaw.{offering_law}
 use Rattle.write_any.proofs.LimitLaw.{taking_log_law}
-use Rattle.write_any.proofs.PartLaws.{taking_law}
 use Rattle.write_any.proofs.TakenInOrder.{ordered_law}
 use Rattle.write_any.proofs.Falls.{pin_falls, walk_falls}
 use Rattle.write_any.proofs.EndStages.{may_pin}

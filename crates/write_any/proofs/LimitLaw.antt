@@ -1,5 +1,5 @@
 -- Where a log block was taken the position is below the limit of positions.
-use Rattle.std.proofs.Common.{◌≡◌, ℕ, ◌^◌, ◌<◌, ap, arith}
+use Rattle.std.proofs.Common.{◌^◌, ◌<◌, ap, arith}
 use Rattle.log_entry.specs.declared.shapes.Area.TheVariants.{Log}
 use Rattle.pmem_words.specs.Seats.{Seat}
 use Rattle.log_core.specs.Within.{no_record}

@@ -1,8 +1,7 @@
 -- Where a write has taken blocks, or has found too few.
-use Rattle.std.proofs.Common.{◌≡◌, ◌≢◌, ◌⊎◌, ℕ, ◌^◌, ◌<◌, List, Option, Some, None, length, refl, sym, ap, subst, ◌∙◌}
+use Rattle.std.proofs.Common.{◌≡◌, ◌⊎◌, ℕ, ◌^◌, ◌<◌, Some, length, sym, ap, subst, ◌∙◌}
 use Rattle.log_entry.specs.declared.shapes.Area.{Area}
 use Rattle.log_entry.specs.declared.shapes.Area.TheVariants.{Data, Log}
-use Rattle.log_entry.specs.Legal.{last_position}
 use Rattle.log_entry.specs.declared.calls.WriteRefusal.TheVariants.{NoSpace as RefusesSpace}
 use Rattle.pmem_words.specs.Seats.{Seat}
 use Rattle.log_core.specs.Views.{Ghost}

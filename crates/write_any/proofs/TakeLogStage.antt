@@ -1,5 +1,5 @@
 -- The stage of a write that takes a log block at a block's end is lawful.
-use Rattle.std.proofs.Common.{◌≡◌, inr, ℕ, zero, suc, ◌+◌, ◌-◌, ◌*◌, ◌^◌, ◌<◌, ◌≤◌, ◌==◌, ◌&&◌, nat_lt, nat_le, Bool, true, false, List, [], ◌∷◌, ◌++◌, length, length-append, map, replicate, slice_index, slice_set, Some, refl, sym, ap, subst, ◌∙◌, arith}
+use Rattle.std.proofs.Common.{◌≡◌, inr, ℕ, zero, suc, ◌+◌, ◌-◌, ◌*◌, ◌^◌, ◌<◌, ◌≤◌, ◌==◌, nat_lt, nat_le, true, false, List, [], ◌∷◌, ◌++◌, length, length-append, map, replicate, slice_index, slice_set, Some, refl, sym, ap, subst, ◌∙◌, arith}
 use Rattle.std.proofs.lemmas.Bool.{and_parts, and_from, leb-true, lt-ltb, or_left, eq-eqb}
 use Rattle.std.proofs.lemmas.List.{length-map, length-replicate}
 use Rattle.log_entry.specs.declared.shapes.Area.{Area}
@@ -10,7 +10,6 @@ use Rattle.log_entry.specs.declared.words.BlockKind.TheVariants.{Log as LogKind}
 use Rattle.log_image.specs.Image.{Shape, is_in_log, total}
 use Rattle.log_image.specs.Chains.{all_different, is_listed}
 use Rattle.pmem_words.specs.Owned.{with_filled, with_fenced}
-use Rattle.pmem_words.specs.declared.keeps.Task.{Task}
 use Rattle.pmem_words.specs.declared.owned.OwnedBlock.{OwnedBlock}
 use Rattle.pmem_words.specs.Seats.{Seat}
 use Rattle.log_core.specs.Views.{Ghost, MarkedWord}
@@ -32,7 +31,7 @@ use Rattle.block_bitmap.specs.TakeWithin.{HasTakenBlocks}
 use Rattle.block_bitmap.specs.FillWithin.{MayFill}
 use Rattle.write_any.specs.declared.stage.Target.TheVariants.{At}
 use Rattle.write_any.specs.declared.stage.Stage.TheVariants.{TakingLog, FillingLog}
-use Rattle.write_any.specs.Composing.{HasLast, last_place, log_composed}
+use Rattle.write_any.specs.Composing.{last_place, log_composed}
 use Rattle.write_any.specs.Writing.{HasLogBlock, at_stage, taken_log_so, write_script}
 use Rattle.write_any.specs.WriteWithin.{MayWrite, HasWritten}
 use Rattle.write_any.proofs.Embedding.{at_take_log}
@@ -212,11 +211,15 @@ module _ (offset : ℕ) (o : Origin) (seat : ℕ) (s0 : Seat) (g0 : Ghost) (may 
     (refl, fills start ghost t h before left.0.0 left.0.1 left.1),
   )
   taken_log_fits start ghost (NoSpace other) t h before left =
-      (let now = taken_writing offset o seat s0 g0 Log 1 start ghost (NoSpace other) t h before.writing before.here left.0.0 left.0.1 in
-      (enters_same h t t refl,
-      (refl, has_begun unpin_law o seat (IsEnding offset o seat s0 g0 (Some (RefusesSpace other))) t h
-      (lacked_ends offset o seat s0 g0 Log 1 start ghost (NoSpace other) t h before.writing before.here left.0.0 left.0.1 other refl (inr refl) (few_left start ghost other t h before left.0.0))
-      (may_pin offset o seat s0 g0 may t h now.rest))))
+      (let now = taken_writing offset o seat s0 g0 Log 1 start ghost (NoSpace other) t h before.writing before.here left.0.0 left.0.1 in (
+        enters_same h t t refl,
+        (
+          refl,
+          has_begun unpin_law o seat (IsEnding offset o seat s0 g0 (Some (RefusesSpace other))) t h
+              (lacked_ends offset o seat s0 g0 Log 1 start ghost (NoSpace other) t h before.writing before.here left.0.0 left.0.1 other refl (inr refl) (few_left start ghost other t h before left.0.0))
+              (may_pin offset o seat s0 g0 may t h now.rest),
+        ),
+      ))
 
   pub take_log_stage : (p : Take) (s : Seat) (g : Ghost) → HasBegun taking_log_law o seat (AtEnd offset o seat s0 g0) p s g →
       Lawful o seat write_script no_record (WriteStands offset o seat s0 g0) (HasWritten offset o seat s0 g0) (at_stage (At offset) (TakingLog p)) s g

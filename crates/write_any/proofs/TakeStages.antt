@@ -1,6 +1,5 @@
 -- The stages of a write that take its data blocks are lawful.
-use Rattle.std.proofs.Common.{◌≡◌, inl, ℕ, ◌+◌, ◌^◌, ◌<◌, Bool, true, false, List, [], length, Some, refl, sym, ap, subst, ◌∙◌, arith}
-use Rattle.log_entry.specs.declared.shapes.Area.{Area}
+use Rattle.std.proofs.Common.{◌≡◌, inl, ℕ, ◌+◌, ◌<◌, Bool, true, false, List, [], length, Some, refl, sym, ap, subst, ◌∙◌, arith}
 use Rattle.log_entry.specs.declared.shapes.Area.TheVariants.{Data}
 use Rattle.log_entry.specs.declared.calls.WriteRefusal.TheVariants.{NoSpace as RefusesSpace}
 use Rattle.pmem_words.specs.Seats.{Seat}
@@ -8,7 +7,7 @@ use Rattle.pmem_words.specs.Parts.{Into}
 use Rattle.log_core.specs.Views.{Ghost, MarkedWord}
 use Rattle.log_core.specs.Origin.{Origin}
 use Rattle.log_core.specs.Steps.{is_head_marked}
-use Rattle.log_core.specs.Answers.{Enters, HasLacked}
+use Rattle.log_core.specs.Answers.{Enters}
 use Rattle.log_core.specs.Within.{no_record, Lawful, FitsNext}
 use Rattle.log_core.proofs.machines.Entering.{enters_same}
 use Rattle.log_core.proofs.machines.MachineLaws.{HasBegun, has_begun, lawful_stage}
@@ -16,7 +15,7 @@ use Rattle.pins.proofs.PinWithin.{unpin_law}
 use Rattle.block_bitmap.specs.declared.take.Take.{Take}
 use Rattle.block_bitmap.specs.declared.take.Taken.{Taken}
 use Rattle.block_bitmap.specs.declared.take.Taken.TheVariants.{Taken as HasTaken, NoSpace}
-use Rattle.block_bitmap.specs.TakeWithin.{HasEnded, HasTakenBlocks}
+use Rattle.block_bitmap.specs.TakeWithin.{HasEnded}
 use Rattle.write_any.specs.declared.stage.Target.TheVariants.{At}
 use Rattle.write_any.specs.declared.stage.Stage.TheVariants.{Taking, TakingRuns}
 use Rattle.write_any.specs.Composing.{block_count, are_one_run, composed}
@@ -28,7 +27,7 @@ use Rattle.write_any.proofs.Embedding.{at_take, at_take_runs}
 use Rattle.write_any.proofs.EndStages.{may_pin}
 use Rattle.write_any.proofs.FillStage.{still_writing, still_here}
 use Rattle.write_any.proofs.FirstStages.{few_count}
-use Rattle.write_any.proofs.PartLaws.{HasSamePut, taking_law, filling_law}
+use Rattle.write_any.proofs.PartLaws.{taking_law, filling_law}
 use Rattle.write_any.proofs.RoundFalls.{taking_falls, taking_runs_falls}
 use Rattle.write_any.proofs.TakenBlocks.{owns_no_zeros, owns_taken, owns_more, taken_blocks, lacks_runs}
 use Rattle.write_any.proofs.TakenInOrder.{ordered_law}

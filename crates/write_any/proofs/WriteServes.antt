@@ -1,18 +1,15 @@
 -- A write of whole blocks is lawful at each of its stages, so it keeps its promise.
-use Rattle.std.proofs.Common.{◌≡◌, ◌⊎◌, inl, inr, ℕ, ◌^◌, ◌<◌, refl, sym, subst}
+use Rattle.std.proofs.Common.{inl, inr, ℕ, refl, sym, subst}
 use Rattle.pmem_words.specs.Seats.{Seat}
 use Rattle.log_core.specs.Views.{Ghost}
 use Rattle.log_core.specs.Origin.{Origin}
 use Rattle.log_core.specs.Within.{no_record, Lawful, Serves}
 use Rattle.log_core.proofs.machines.MachineLaws.{Law, has_begun, promised, IsUnmoved}
-use Rattle.log_blocks.specs.PutWithin.{MayOffer}
 use Rattle.pins.proofs.PinWithin.{pin_law}
 use Rattle.write_any.specs.declared.stage.Stage.{Stage}
 use Rattle.write_any.specs.declared.stage.Stage.TheVariants.{Pinning, Walking, Taking, TakingRuns, Filling, TakingLog, FillingLog, Growing, GivingLog, Offering, Unpinning, Giving}
 use Rattle.write_any.specs.declared.stage.Target.{Target}
 use Rattle.write_any.specs.declared.stage.Target.TheVariants.{At}
-use Rattle.write_any.specs.declared.write.Write.{Write}
-use Rattle.write_any.specs.Composing.{entry_for}
 use Rattle.write_any.specs.Writing.{at_stage, write_of, write_script, write_lowers}
 use Rattle.write_any.specs.LosingFew.{LosesFew, LosesFewFromBegin}
 use Rattle.write_any.specs.WriteWithin.{MayWrite, HasWritten, WritesWhole}

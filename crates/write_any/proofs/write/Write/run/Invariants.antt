@@ -1,4 +1,4 @@
-use Rattle.std.proofs.Common.{◌≡◌, ℕ, List}
+use Rattle.std.proofs.Common.{ℕ, List}
 use Rattle.pmem_words.specs.Courses.{over}
 use Rattle.pmem_words.specs.Drives.{Goes}
 use Rattle.write_any.specs.Writing.{write_script}

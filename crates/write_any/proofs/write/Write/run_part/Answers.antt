@@ -1,15 +1,14 @@
-use Rattle.std.proofs.Common.{◌≡◌, ◌==◌, length, refl, sym, ap, subst, ◌∙◌}
+use Rattle.std.proofs.Common.{◌==◌, length, sym, ap, subst, ◌∙◌}
 use Rattle.pmem_words.specs.Seats.{Seat}
-use Rattle.pmem_words.specs.Parts.{Next, Into, End}
+use Rattle.pmem_words.specs.Parts.{Into, End}
 use Rattle.pmem_words.specs.declared.machine.Turn.TheVariants.{Done}
 use Rattle.pmem_words.specs.declared.written.Written.{Written}
 use Rattle.log_blocks.specs.declared.grow.Grow.{Grow}
 use Rattle.log_blocks.specs.declared.walk.Walk.{Walk}
 use Rattle.write_any.specs.declared.stage.Stage.{Stage}
 use Rattle.write_any.specs.declared.stage.Stage.TheVariants.{Walking, Growing}
-use Rattle.write_any.specs.declared.write.Write.{Write}
 use Rattle.write_any.specs.Composing.{HasBlocks, HasLast}
-use Rattle.write_any.specs.Writing.{CanGoOn, HasLogBlock, offset_of, at_stage, tail_stage}
+use Rattle.write_any.specs.Writing.{CanGoOn, HasLogBlock, offset_of, at_stage}
 use Rattle.write_any.proofs.Embedding.{at_pin, at_walk, at_take, at_take_runs, at_fill, at_take_log, at_fill_log, at_grow, at_give_log, at_offer, at_unpin, at_give}
 use Rattle.write_any.proofs.RunParts.{part_safe, joint_at, runs_on, runs_out, gone_on, gives, gives_none}
 use Rattle.write_any.proofs.write.Write.run_part.Goals as goal
