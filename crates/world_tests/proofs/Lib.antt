@@ -5,3 +5,5 @@ pub mod BlockLemmas
 pub mod Takes
 pub mod Fills
 pub mod Gives
+pub mod OneSeat
+pub mod WriteAfter

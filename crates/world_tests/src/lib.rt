@@ -4,6 +4,9 @@
 #[cfg(test)]
 mod block_tests;
 pub mod block_turns;
+pub mod one_seat;
+#[cfg(test)]
+mod one_seat_tests;
 pub mod pair_turns;
 pub mod pin_drives;
 #[cfg(test)]

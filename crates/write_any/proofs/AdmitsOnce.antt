@@ -47,7 +47,7 @@ kind_one f (inl x) (inr y) = absurd (omega (arith, x, y))
 kind_one f (inr x) (inl y) = absurd (omega (arith, x, y))
 kind_one f (inr x) (inr y) = ap inr (ℕ_set (field BLOCK_KIND f) SNAPSHOT x y)
 
-pin_one : (p : Pin) (s : Seat) (a : ℕ) → IsProp (pin_admits p s a)
+pub pin_one : (p : Pin) (s : Seat) (a : ℕ) → IsProp (pin_admits p s a)
 pin_one Begin s a = λ x y. refl
 pin_one Publish s a = λ x y. refl
 pin_one Confirm s a = le_prop
@@ -69,7 +69,7 @@ stage_one Link s f = le_prop
 stage_one (Next block) s f = hlevel (ℕ_set, Bool-set, le_prop, kind_one)
 stage_one (Indirect block word) s f = hlevel (ℕ_set, Bool-set, le_prop)
 
-walk_one : (p : Walk) (s : Seat) (f : ℕ) → IsProp (WalkAdmits p s f)
+pub walk_one : (p : Walk) (s : Seat) (f : ℕ) → IsProp (WalkAdmits p s f)
 walk_one p s f = λ x y. λ i. record { room = le_prop x.room y.room i; stage = stage_one p s f x.stage y.stage i; falls = λ go. le_prop (x.falls go) (y.falls go) i }
 
 offer_one : (entry : ℕ) (s : Seat) (f : ℕ) → IsProp (OfferAdmits entry s f)
