@@ -7,8 +7,6 @@ mod joints;
 pub mod laws;
 mod run;
 mod stage;
-#[cfg(test)]
-mod tests;
 mod write;
 
 pub use stage::{Stage, Target};
