@@ -5,3 +5,4 @@ pub mod BlockLemmas
 pub mod Takes
 pub mod Fills
 pub mod Gives
+pub mod WriteLemmas

@@ -1,2 +1,3 @@
 pub mod PinSeats
 pub mod AloneSeats
+pub mod WriteSeats
