@@ -18,7 +18,7 @@ use Rattle.world_tests.specs.AloneSeats.{RunsAlone, AreAlone, AreAloneBut}
 
 -- seats of a world in which nothing was done
 module _ (geometry : Geometry) (words taken : List ℕ) (position seats seat : ℕ) (inside : seat < seats) where
-  new_state : seat_of (new_world geometry words taken position seats) seat ≡ new_seat geometry seat seats position
+  pub new_state : seat_of (new_world geometry words taken position seats) seat ≡ new_seat geometry seat seats position
   new_state = get_or-map-range_with_len (λ (number : ℕ). new_seat geometry number seats position) 0 seats seat seat (new_seat no_geometry 0 0 0) inside (omega arith)
 
   pub new_runs : RunsAlone seat (seat_of (new_world geometry words taken position seats) seat)

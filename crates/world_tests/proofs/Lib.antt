@@ -7,3 +7,4 @@ pub mod Fills
 pub mod Gives
 pub mod OneSeat
 pub mod WriteAfter
+pub mod WriteLemmas

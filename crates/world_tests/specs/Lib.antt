@@ -1,3 +1,4 @@
 pub mod PinSeats
 pub mod AloneSeats
 pub mod OneSeat
+pub mod WriteSeats

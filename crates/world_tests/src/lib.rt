@@ -12,6 +12,9 @@ pub mod pin_drives;
 #[cfg(test)]
 mod pin_tests;
 pub mod pin_turns;
+#[cfg(test)]
+mod write_tests;
+pub mod write_turns;
 
 /// A machine has not ended in the turns that it was given.
 #[derive(Clone, Copy, Debug)]
