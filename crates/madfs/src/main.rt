@@ -39,10 +39,11 @@ cat
 dump
     checks the image, and prints its log
 
-A trace has one call a line, and each line ends with a newline:
+A trace has one call a line, its fields between spaces or tabs:
     <seat> pwrite <offset> <bytes>
     <seat> pread <offset> <length>
-Seats count from 0. A byte is two hex digits, in lower case; - is no bytes.
+Seats count from 0. A byte is two hex digits; - is no bytes. Lines that are
+empty or begin with # are passed over.
 
 Ranges: data and log blocks from 1, at most 65535 blocks with those that mkfs
 adds; block bytes 64, 512 or 4096; seats 1; the file up to 65536 blocks; one

@@ -21,7 +21,6 @@ use log_entry::text::push_number;
 use log_entry::{Geometry, to_bytes};
 use log_image::laws::{law_just_made, law_one_meaning};
 use std::alloc::{AllocError, Global};
-use trace_reader::laws::law_readings;
 
 /// The line that says how large an image of this shape is: its blocks and its bytes.
 fn size_line(alloc: Global, shape: Geometry) -> Result<Vec<u8>, AllocError>
@@ -75,7 +74,6 @@ pub fn show_file<I: Source, O: Sink>(alloc: Global, image: &mut I, report: &mut 
         })
         result }
 {
-    law_readings();
     law_one_meaning();
     let start = match open_image(alloc, image) {
         Ok(start) => start,
@@ -134,7 +132,6 @@ pub fn output_of<I: Source, T: Source>(
         (record { left = I.left image.old; faults_before = I.faults image.old; faults_after = I.faults image.new })
         (record { left = T.left trace.old; faults_before = T.faults trace.old; faults_after = T.faults trace.new })) }
 {
-    law_readings();
     match making {
         Making::Mkfs { shape } => match make_image(alloc, shape) {
             Ok(output) => Ok(output),

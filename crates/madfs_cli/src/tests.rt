@@ -100,6 +100,38 @@ fn refused_words_images_and_traces(rt: HostRuntime) -> Result<(), Fail> {
     Ok(())
 }
 
+/// A trace as a person writes it, and each kind of refusal, by both commands that read one.
+#[test]
+fn traces_by_hand(rt: HostRuntime) -> Result<(), Fail> {
+    let alloc = rt.alloc();
+    let by_hand = b"# three bytes\n\n 00 pwrite\t0 61626C\r\n0 pwrite 002 63\n0 pread 0 010";
+    let report =
+        b"1 0 1 pwrite 0 3 = 3\n2 0 2 pwrite 2 1 = 1\n2 0 3 pread 0 10 = 616263\nend 2 3\n";
+    let made = run_bytes(alloc, "mkfs 2 1 64", b"", b"")?;
+    let tried = run_bytes(alloc, "try 2 1 64 1", b"", by_hand)?;
+    assert_eq!(rt; tried.report.as_slice(), report.as_slice());
+    let ran = run_bytes(alloc, "replay 1", &made.image, by_hand)?;
+    assert_eq!(rt; ran.report.as_slice(), report.as_slice());
+    let refusals: [(&[u8], BadTrace); 5] = [
+        (b"0 pwrite 0 abc", BadTrace::BadHex { line: 1 }),
+        (b"1 size", BadTrace::BadSeat { line: 1, seat: 1 }),
+        (b"0 pread 0 1048577", BadTrace::BadNumber { line: 1 }),
+        (b"0 fsync", BadTrace::BadLine { line: 1 }),
+        (
+            b"0 pread 0 1\n0 size\n0 sync",
+            BadTrace::BadLine { line: 2 },
+        ),
+    ];
+    for (text, why) in refusals {
+        let tried = run_bytes(alloc, "try 2 1 64 1", b"", text)?;
+        assert_eq!(rt; tried.status, Status::BadTrace(why));
+        let ran = run_bytes(alloc, "replay 1", &made.image, text)?;
+        assert_eq!(rt; ran.status, Status::BadTrace(why));
+        assert_eq!(rt; ran.report.len() + ran.image.len(), 0);
+    }
+    Ok(())
+}
+
 #[test]
 fn faults_are_reported(rt: HostRuntime) -> Result<(), Fail> {
     let alloc = rt.alloc();

@@ -14,7 +14,6 @@ use crate::outputs::write_output;
 use crate::statuses::Status;
 use io_ends::{Sink, Source, Words};
 use std::alloc::Global;
-use trace_reader::laws::law_readings;
 
 /// Runs a command, and says how it ended.
 fn run_command<I: Source, T: Source, O: Sink, N: Sink>(
@@ -65,7 +64,6 @@ fn run_command<I: Source, T: Source, O: Sink, N: Sink>(
         })
         result }
 {
-    law_readings();
     let making = match command {
         Command::Make(making) => making,
         Command::Cat => return show_file(alloc, image, report),

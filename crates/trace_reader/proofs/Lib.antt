@@ -1,6 +1,6 @@
-pub mod NumberLemmas
-pub mod BytesLemmas
 pub mod LineLemmas
-pub mod FrontLemmas
+pub mod DigitLemmas
+pub mod CallLemmas
 pub mod TraceLemmas
+pub mod PrintLemmas
 pub mod LawLemmas

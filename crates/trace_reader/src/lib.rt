@@ -1,6 +1,7 @@
 //! Decides what a trace's text says: the jobs that it asks, or the first line that it refuses.
 #![tactic(auto)]
 
+mod digits;
 mod fields;
 pub mod laws;
 mod lines;
