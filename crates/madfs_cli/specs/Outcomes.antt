@@ -3,9 +3,11 @@ use Rattle.std.specs.Prelude.{ℕ, ◌≡◌, ◌<◌, ◌⊎◌, Bool, true, fa
 use Rattle.io_ends.specs.Faults.{Rose}
 use Rattle.io_ends.specs.Giving.{Gives, GivesPrefix}
 use Rattle.madfs_cli.specs.Traces.{ReadsCalls}
+use Rattle.trace_reader.specs.TraceText.{trace_text}
+use Rattle.trace_reader.specs.Generator.{generated}
 use Rattle.trace_reader.specs.declared.refusals.BadTrace.{BadTrace as TraceRefusal}
 use Rattle.opening_rules.specs.declared.refusals.BadImage.{BadImage as ImageRefusal}
-use Rattle.madfs_cli.specs.Commands.{Request, MakeImage, TryTrace, ReplayTrace, ShowFile, ShowImage, reads_image, reads_trace, writes_image}
+use Rattle.madfs_cli.specs.Commands.{Request, MakeImage, TryTrace, ReplayTrace, ShowFile, ShowImage, MakeTrace, reads_image, reads_trace, writes_image}
 use Rattle.madfs_cli.specs.Replays.{IsTryOf, IsReplayOf}
 use Rattle.madfs_cli.specs.Images.{RefusesImage, IsFileOf, IsDumpOf, made_text, IsNewImage}
 use Rattle.madfs_cli.specs.declared.statuses.Status.{Status}
@@ -18,6 +20,7 @@ IsOutput (TryTrace shape) image trace text fresh = IsTryOf shape trace text × (
 IsOutput ReplayTrace image trace text fresh = IsReplayOf image trace text fresh
 IsOutput ShowFile image trace text fresh = IsFileOf image text × (fresh ≡ [])
 IsOutput ShowImage image trace text fresh = IsDumpOf image text × (fresh ≡ [])
+IsOutput (MakeTrace number seats calls) image trace text fresh = (text ≡ trace_text (generated number seats calls)) × (fresh ≡ [])
 
 -- a source before and after a command: what it had left, where it tells that, and its count of faults
 pub record TakenFrom : Type 0 where

@@ -132,6 +132,47 @@ fn traces_by_hand(rt: HostRuntime) -> Result<(), Fail> {
     Ok(())
 }
 
+/// Words that are no command: nothing is read or written.
+#[test]
+fn words_that_are_none(rt: HostRuntime) -> Result<(), Fail> {
+    let alloc = rt.alloc();
+    let lines = [
+        "replay 0",
+        "replay",
+        "replay 1 2",
+        "mkfs 2 1 63",
+        "replay -1",
+        "-1 replay",
+        "generate 1 2",
+        "generate 1 0 1",
+        "generate 1 17 1",
+        "generate 1 1 20001",
+        "generate 4294967296 1 1",
+    ];
+    for line in lines {
+        let mut image = Bytes::new(Vec::from_slice(alloc, b"abc")?);
+        let mut trace = Bytes::new(Vec::from_slice(alloc, b"def")?);
+        let mut report = Gathered::new(alloc);
+        let mut fresh = Gathered::new(alloc);
+        let status = run_line(alloc, line, &mut image, &mut trace, &mut report, &mut fresh)?;
+        assert_eq!(rt; status, Status::Usage);
+        assert_eq!(rt; report.bytes().len() + fresh.bytes().len(), 0);
+    }
+    Ok(())
+}
+
+/// A line of 1,593 bytes, each one more than the one before it.
+#[test]
+fn work_from_a_number(rt: HostRuntime) -> Result<(), Fail> {
+    let made = run_bytes(rt.alloc(), "generate 001 2 1", b"", b"")?;
+    assert_eq!(rt; made.status, Status::Done);
+    assert_eq!(rt; made.report.len(), 15 + 2 * 1593 + 1);
+    assert_eq!(rt; made.report.starts_with(b"0 pwrite 42984 02030405"), true);
+    assert_eq!(rt; made.report.ends_with(b"38393a\n"), true);
+    assert_eq!(rt; made.image.len(), 0);
+    Ok(())
+}
+
 #[test]
 fn faults_are_reported(rt: HostRuntime) -> Result<(), Fail> {
     let alloc = rt.alloc();

@@ -4,3 +4,6 @@ pub mod CallLemmas
 pub mod TraceLemmas
 pub mod PrintLemmas
 pub mod LawLemmas
+pub mod TurnLemmas
+pub mod LengthLemmas
+pub mod GeneratorLemmas

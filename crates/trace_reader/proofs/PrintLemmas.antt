@@ -114,7 +114,7 @@ bytes_ink : (bytes : List ℕ) → All IsByte bytes → All IsInk (bytes_text by
 bytes_ink [] all = All-cons IsInk 45 [] (omega arith) (All-nil IsInk)
 bytes_ink (byte ∷ bytes) all = encode_ink (byte ∷ bytes) all
 
-bytes_long : (bytes : List ℕ) → 0 < length (bytes_text bytes)
+pub bytes_long : (bytes : List ℕ) → 0 < length (bytes_text bytes)
 bytes_long [] = omega arith
 bytes_long (byte ∷ bytes) = omega (arith, length-encode_with lower_digits (byte ∷ bytes))
 

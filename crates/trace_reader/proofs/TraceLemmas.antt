@@ -23,19 +23,19 @@ all_follow_push seats before [] job all follows = (let P : List Job → Type 0 =
 all_follow_push seats before (first ∷ jobs) job all follows =
     (all.0, all_follow_push seats (before ++ first ∷ []) jobs job all.1 (rw (append_assoc before (first ∷ []) jobs) follows))
 
-trace_push : (seats : ℕ) (jobs : List Job) (job : Job) → IsTrace seats jobs → Follows seats jobs job → IsTrace seats (jobs ++ job ∷ [])
+pub trace_push : (seats : ℕ) (jobs : List Job) (job : Job) → IsTrace seats jobs → Follows seats jobs job → IsTrace seats (jobs ++ job ∷ [])
 trace_push seats jobs job all follows = all_follow_push seats [] jobs job all follows
 
-trace_text-push : (jobs : List Job) (job : Job) → trace_text (jobs ++ job ∷ []) ≡ trace_text jobs ++ line_text job
+pub trace_text-push : (jobs : List Job) (job : Job) → trace_text (jobs ++ job ∷ []) ≡ trace_text jobs ++ line_text job
 trace_text-push [] job = append-nil (line_text job)
 trace_text-push (first ∷ jobs) job = ap (λ (xs : List ℕ). line_text first ++ xs) (trace_text-push jobs job) ∙ sym (append_assoc (line_text first) (trace_text jobs) (line_text job))
 
-read_total-push : (jobs : List Job) (job : Job) → read_total (jobs ++ job ∷ []) ≡ read_total jobs + read_length job.op
+pub read_total-push : (jobs : List Job) (job : Job) → read_total (jobs ++ job ∷ []) ≡ read_total jobs + read_length job.op
 read_total-push [] job = omega arith
 read_total-push (first ∷ jobs) job = let rest = read_total-push jobs job in omega (arith, rest)
 
 -- how many calls a seat has with a job more
-abbrev one_if : Bool → ℕ
+abbrev pub one_if : Bool → ℕ
 one_if true = 1
 one_if false = 0
 
@@ -49,7 +49,7 @@ is_of seat job = job.seat == seat
 abbrev asked : Job → Asked
 asked job = record { number = job.number; op = job.op }
 
-asked_push : (seat : ℕ) (jobs : List Job) (job : Job) → length (asked_for seat (jobs ++ job ∷ [])) ≡ length (asked_for seat jobs) + one_if (job.seat == seat)
+pub asked_push : (seat : ℕ) (jobs : List Job) (job : Job) → length (asked_for seat (jobs ++ job ∷ [])) ≡ length (asked_for seat jobs) + one_if (job.seat == seat)
 asked_push seat jobs job =
     let new : length (asked_for seat (jobs ++ job ∷ [])) ≡ length (filter (is_of seat) (jobs ++ job ∷ [])) = length-map (filter (is_of seat) (jobs ++ job ∷ [])) asked in
     let old : length (asked_for seat jobs) ≡ length (filter (is_of seat) jobs) = length-map (filter (is_of seat) jobs) asked in

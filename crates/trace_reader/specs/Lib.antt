@@ -5,5 +5,6 @@ pub mod Calls
 pub mod Texts
 pub mod Reading
 pub mod RefusalText
+pub mod Generator
 pub mod Laws
 pub mod Rows

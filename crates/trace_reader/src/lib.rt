@@ -3,6 +3,7 @@
 
 mod digits;
 mod fields;
+mod generator;
 pub mod laws;
 mod lines;
 mod printing;
@@ -11,6 +12,7 @@ mod refusals;
 #[cfg(test)]
 mod tests;
 
+pub use generator::generate;
 pub use printing::print_trace;
 pub use reading::read_trace;
 pub use refusals::{BadTrace, TraceRefusal};

@@ -144,6 +144,24 @@ fn bounds_the_bytes(rt: HostRuntime) -> Result<(), Fail> {
     Ok(())
 }
 
+/// Work of ordinary size, printed, read, printed and read again.
+#[test]
+fn reads_work_from_a_number(rt: HostRuntime) -> Result<(), Fail> {
+    let alloc = rt.alloc();
+    let jobs = generate(alloc, 7, 4, 8000)?;
+    let text = print_trace(alloc, &jobs)?;
+    let read = read_trace(alloc, &text, 4)?;
+    let again = print_trace(alloc, &read)?;
+    assert!(rt; again.as_slice() == text.as_slice());
+    let last = read_trace(alloc, &again, 4)?;
+    assert_eq!(rt; last.len(), 8000);
+    assert_eq!(rt; read.len(), 8000);
+    for (job, other) in last.iter().zip(jobs.iter()) {
+        assert!(rt; is_place(job, other.line, other.seat, other.number));
+    }
+    Ok(())
+}
+
 fn asks(line: u64, op: Op) -> Job {
     Job {
         line,
