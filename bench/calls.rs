@@ -33,7 +33,7 @@ pub struct Call {
 }
 
 fn number(text: &[u8]) -> Option<u64> {
-    if text.is_empty() || (text.len() > 1 && text[0] == b'0') {
+    if text.is_empty() {
         return None;
     }
     let mut value = 0u64;
@@ -46,12 +46,13 @@ fn number(text: &[u8]) -> Option<u64> {
     Some(value)
 }
 
-/// The value of each hexadecimal digit, and 255 for every other character.
+/// The value of each hexadecimal digit, in either case, and 255 for every other character.
 const VALUES: [u8; 256] = {
     let mut values = [255; 256];
     let mut value = 0;
     while value < 16 {
         values[DIGITS[value] as usize] = value as u8;
+        values[DIGITS[value].to_ascii_uppercase() as usize] = value as u8;
         value += 1;
     }
     values
@@ -76,24 +77,25 @@ fn bytes(text: &[u8]) -> Option<Vec<u8>> {
     (seen < 16).then_some(bytes)
 }
 
-fn job(line: &[u8]) -> Option<Op> {
-    let mut fields = line.split(|b| *b == b' ');
-    if fields.next()? != b"0" {
-        return None;
+/// The call of a line, or none where it is passed over.
+fn job(line: &[u8]) -> Result<Option<Op>, ()> {
+    let mut fields = line.split(|b| *b == b' ' || *b == b'\t').filter(|field| !field.is_empty());
+    let Some(seat) = fields.next().filter(|field| field[0] != b'#') else {
+        return Ok(None);
+    };
+    let name = fields.next().ok_or(())?;
+    let (offset, last) = (fields.next().ok_or(())?, fields.next().ok_or(())?);
+    if fields.next().is_some() || number(seat) != Some(0) {
+        return Err(());
     }
-    let name = fields.next()?;
-    let offset = number(fields.next()?)?;
-    let last = fields.next()?;
-    if fields.next().is_some() {
-        return None;
-    }
+    let offset = number(offset).ok_or(())?;
     match name {
-        b"pwrite" => Some(Op::Pwrite { offset, bytes: bytes(last)? }),
+        b"pwrite" => Ok(Some(Op::Pwrite { offset, bytes: bytes(last).ok_or(())? })),
         b"pread" => {
-            let length = number(last)?;
-            (length <= 1_048_576).then_some(Op::Pread { offset, length })
+            let length = number(last).filter(|length| *length <= 1_048_576).ok_or(())?;
+            Ok(Some(Op::Pread { offset, length }))
         }
-        _ => None,
+        _ => Err(()),
     }
 }
 
@@ -102,18 +104,25 @@ pub fn jobs(text: &[u8]) -> Result<Vec<Job>, u64> {
     let mut jobs = Vec::new();
     let mut rest = text;
     let mut total = 0u64;
+    let mut line = 0;
     while !rest.is_empty() {
-        let line = jobs.len() as u64 + 1;
-        let end = rest.iter().position(|b| *b == b'\n').ok_or(line)?;
-        let op = job(&rest[..end]).ok_or(line)?;
+        line += 1;
+        let end = rest.iter().position(|b| *b == b'\n');
+        let text = match end {
+            Some(end) => rest[..end].strip_suffix(b"\r").unwrap_or(&rest[..end]),
+            None => rest,
+        };
+        rest = end.map_or(&[], |end| &rest[end + 1..]);
+        let Some(op) = job(text).map_err(|()| line)? else {
+            continue;
+        };
         if let Op::Pread { length, .. } = op {
             total += length;
             if total > 268_435_456 {
                 return Err(line);
             }
         }
-        jobs.push(Job { number: line as u32, op });
-        rest = &rest[end + 1..];
+        jobs.push(Job { number: jobs.len() as u32 + 1, op });
     }
     Ok(jobs)
 }

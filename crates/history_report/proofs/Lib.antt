@@ -1,3 +1,4 @@
 pub mod SplitLemmas
 pub mod AnswerLemmas
 pub mod TextLemmas
+pub mod LegalLemmas

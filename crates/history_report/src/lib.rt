@@ -3,6 +3,7 @@
 
 mod answers;
 pub mod laws;
+mod legality;
 mod lines;
 mod numbers;
 mod places;
@@ -10,6 +11,7 @@ mod reports;
 #[cfg(test)]
 mod tests;
 
+pub use legality::legal;
 pub use lines::line;
 pub use places::order;
 pub use reports::print_report;

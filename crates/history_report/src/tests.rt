@@ -3,8 +3,10 @@ ghost use Rattle.std.specs.Prelude.{◌≡◌, codes, IfOk};
 ghost use Rattle.log_entry.specs.Kinds.{IsReplyTo};
 ghost use Rattle.log_entry.specs.declared.calls.Op.TheVariants.{Pwrite};
 
-use crate::{line, order, print_report};
-use log_entry::{Area, Blob, Call, CollectRefusal, Collected, Held, Op, Reply, WriteRefusal};
+use crate::{legal, line, order, print_report};
+use log_entry::{
+    Area, Blob, Call, CollectRefusal, Collected, Geometry, Held, Op, Reply, WriteRefusal,
+};
 use std::alloc::{AllocError, Global};
 use std::process::Abort;
 use std::test::Fail;
@@ -158,5 +160,53 @@ fn prints_reports(rt: HostRuntime) -> Result<(), Fail> {
     let two = print_report(alloc, &calls, 2, 66)?;
     let want = "1 0 1 size = 4\n2 15 10 size = 4\nend 2 66\n";
     assert_eq!(rt; two.as_slice(), want.as_bytes());
+    Ok(())
+}
+
+/// A call of seat 0, of which the number says nothing here.
+fn call_at(position: u64, op: Op, reply: Reply) -> Call {
+    Call {
+        position,
+        seat: 0,
+        number: 1,
+        op,
+        reply,
+    }
+}
+
+/// A write past the end, a read over the gap, an append, one that is refused, and a size: a legal history. It is none from another position or
+/// another file.
+#[test]
+fn tells_legal_histories(rt: HostRuntime) -> Result<(), Fail> {
+    let alloc = rt.alloc();
+    let geometry = Geometry::new(40, 4, 64)?;
+    let write = Op::Pwrite {
+        offset: 3,
+        bytes: blob(alloc, b"xy")?,
+    };
+    let append = Op::Append {
+        bytes: blob(alloc, b"z")?,
+    };
+    let refused = Op::Pwrite {
+        offset: 4_194_304,
+        bytes: blob(alloc, b"q")?,
+    };
+    let read = Op::Pread {
+        offset: 1,
+        length: 9,
+    };
+    let limit = WriteRefusal::TooLarge { end: 4_194_305 };
+    let mut calls = Vec::new(alloc);
+    calls.push(call_at(8, write, Reply::Wrote { length: 2 }))?;
+    calls.push(call_at(8, read, Reply::Bytes(blob(alloc, b"b\0xy")?)))?;
+    calls.push(call_at(9, append, Reply::Appended { at: 5, length: 1 }))?;
+    calls.push(call_at(9, refused, Reply::NotWritten(limit)))?;
+    calls.push(call_at(9, Op::Size, Reply::Size(6)))?;
+    calls.push(call_at(9, Op::Sync, Reply::Synced(9)))?;
+    assert!(rt; legal(alloc, geometry, b"ab", 7, &calls)?);
+    assert!(rt; !legal(alloc, geometry, b"ab", 6, &calls)?);
+    assert!(rt; !legal(alloc, geometry, b"ac", 7, &calls)?);
+    assert!(rt; !legal(alloc, geometry, b"ab", 7, &calls[1..])?);
+    assert!(rt; legal(alloc, geometry, b"ab", 7, &calls[..0])?);
     Ok(())
 }

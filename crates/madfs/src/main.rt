@@ -38,11 +38,18 @@ cat
     prints the file that the image holds
 dump
     checks the image, and prints its log
+generate <number> <seats> <calls>
+    prints a trace of so many calls of so many seats, drawn from the number
 
-A trace has one call a line, and each line ends with a newline:
+A trace has one call a line, its fields between spaces or tabs:
     <seat> pwrite <offset> <bytes>
     <seat> pread <offset> <length>
-Seats count from 0. A byte is two hex digits, in lower case; - is no bytes.
+Seats count from 0. A byte is two hex digits; - is no bytes. Lines that are
+empty or begin with # are passed over.
+
+Ranges of generate: numbers below 4294967296, seats 1 to 16, at most 20000
+calls. It has calls that try and replay do not make yet: append, size, sync
+and collect.
 
 Ranges: data and log blocks from 1, at most 65535 blocks with those that mkfs
 adds; block bytes 64, 512 or 4096; seats 1; the file up to 65536 blocks; one

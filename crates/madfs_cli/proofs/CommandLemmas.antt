@@ -3,8 +3,9 @@ use Rattle.std.proofs.Common.{◌≡◌, ℕ, List, [], ◌∷◌, length, Optio
 use Rattle.std.specs.Prelude.{slice_get}
 use Rattle.log_entry.specs.Text.{number_of}
 use Rattle.log_image.specs.Image.{Shape, shape_by}
-use Rattle.madfs_cli.specs.Commands.{IsMkfs, IsTry, IsReplay, SaysShapeAt}
+use Rattle.madfs_cli.specs.Commands.{IsMkfs, IsTry, IsReplay, IsGenerate, SaysShapeAt, SaysWorkAt}
 use Rattle.log_entry.specs.declared.shapes.Geometry.{Geometry}
+use Rattle.madfs_cli.specs.declared.work.Work.{Work}
 
 -- five words that were read at their places are the list
 pub five_words : (words : List (List ℕ)) (a b c d e : List ℕ) → length words ≡ 5 → slice_get words 0 ≡ Some a → slice_get words 1 ≡ Some b → slice_get words 2 ≡ Some c → slice_get words 3 ≡ Some d → slice_get words 4 ≡ Some e
@@ -61,6 +62,33 @@ pub mkfs_read : (words : List (List ℕ)) (name : List ℕ) (result : Option Geo
     MatchOption result ((shape : Shape) → SaysShapeAt words shape → ⊥) (λ shape. SaysShapeAt words (shape_by shape)) → MatchOption result ((shape : Shape) → IsMkfs words shape → ⊥) (λ shape. IsMkfs words (shape_by shape))
 mkfs_read words name None four first is says = λ shape mkfs. says shape (mkfs_says words shape mkfs)
 mkfs_read words name (Some shape) four first is says = says_mkfs words name (shape_by shape) four first is says
+
+-- the words of `generate` are its name and three words that say its work
+says_generate : (words : List (List ℕ)) (name : List ℕ) (number seats calls : ℕ) → length words ≡ 4 → slice_get words 0 ≡ Some name → name ≡ codes "generate" → SaysWorkAt words number seats calls → IsGenerate words number seats calls
+says_generate words name number seats calls four first is says = record {
+  number_word = says.number_word;
+  seats_word = says.seats_word;
+  calls_word = says.calls_word;
+  words_are = four_words words (codes "generate") says.number_word says.seats_word says.calls_word four (first ∙ ap Some is) says.number_at says.seats_at says.calls_at;
+  work_is = says.work_is;
+}
+
+generate_says : (words : List (List ℕ)) (number seats calls : ℕ) → IsGenerate words number seats calls → SaysWorkAt words number seats calls
+generate_says words number seats calls is = record {
+  number_word = is.number_word;
+  seats_word = is.seats_word;
+  calls_word = is.calls_word;
+  number_at = rw is.words_are refl;
+  seats_at = rw is.words_are refl;
+  calls_at = rw is.words_are refl;
+  work_is = is.work_is;
+}
+
+pub generate_read : (words : List (List ℕ)) (name : List ℕ) (result : Option Work) → length words ≡ 4 → slice_get words 0 ≡ Some name → name ≡ codes "generate"
+    → MatchOption result ((number seats calls : ℕ) → SaysWorkAt words number seats calls → ⊥) (λ work. SaysWorkAt words work.number work.seats work.calls)
+    → MatchOption result ((number seats calls : ℕ) → IsGenerate words number seats calls → ⊥) (λ work. IsGenerate words work.number work.seats work.calls)
+generate_read words name None four first is says = λ number seats calls asked. says number seats calls (generate_says words number seats calls asked)
+generate_read words name (Some work) four first is says = says_generate words name work.number work.seats work.calls four first is says
 
 -- the words of `try` are its name, the same three words, and one seat
 pub says_try : (words : List (List ℕ)) (name seats : List ℕ) (shape : Shape) → length words ≡ 5 → slice_get words 0 ≡ Some name → name ≡ codes "try" → slice_get words 4 ≡ Some seats → number_of seats ≡ Some 1 → SaysShapeAt words shape → IsTry words shape

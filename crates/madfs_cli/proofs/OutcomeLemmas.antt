@@ -4,8 +4,7 @@ use Rattle.std.proofs.lemmas.List.{append-nil}
 use Rattle.io_ends.specs.Faults.{Rose}
 use Rattle.io_ends.specs.Giving.{Gives}
 use Rattle.log_entry.specs.declared.calls.Job.{Job}
-use Rattle.trace_reader.specs.Reading.{ReadsTrace}
-use Rattle.trace_reader.specs.Laws.{OneReading}
+use Rattle.madfs_cli.specs.Traces.{ReadsCalls}
 use Rattle.trace_reader.specs.declared.refusals.BadTrace.{BadTrace as TraceRefusal}
 use Rattle.opening_rules.specs.declared.refusals.BadImage.{BadImage as ImageRefusal}
 use Rattle.madfs_cli.specs.Inputs.{IsNotRead, IsNotOpened}
@@ -21,12 +20,12 @@ use Rattle.madfs_cli.specs.declared.statuses.Status.TheVariants.{Done, Usage, Ba
 use Rattle.madfs_cli.proofs.ImageLemmas.{one_image_refusal, file_shown}
 
 -- bytes that are a trace are not refused
-trace_not_both : OneReading → (bytes : List ℕ) (jobs : List Job) (why : TraceRefusal) → ReadsTrace 1 bytes (Ok jobs) → ReadsTrace 1 bytes (Err why) → ⊥
-trace_not_both one bytes jobs why read refused = let same = one 1 bytes (Ok jobs) (Err why) (omega arith) read refused in cc
+trace_not_both : (bytes : List ℕ) (jobs : List Job) (why : TraceRefusal) → ReadsCalls bytes (Ok jobs) → ReadsCalls bytes (Err why) → ⊥
+trace_not_both bytes jobs why read refused = cc (sym read ∙ refused)
 
 -- there is one refusal of a trace
-one_trace_refusal : OneReading → (bytes : List ℕ) (why other : TraceRefusal) → ReadsTrace 1 bytes (Err why) → ReadsTrace 1 bytes (Err other) → why ≡ other
-one_trace_refusal one bytes why other refused again = let same = one 1 bytes (Err why) (Err other) (omega arith) refused again in cc
+one_trace_refusal : (bytes : List ℕ) (why other : TraceRefusal) → ReadsCalls bytes (Err why) → ReadsCalls bytes (Err other) → why ≡ other
+one_trace_refusal bytes why other refused again = let same : ◌≡◌ {A = Result (List Job) TraceRefusal} (Err why) (Err other) = sym refused ∙ again in cc
 
 -- where there is an image to write, the command writes one
 some_image : (writes : Bool) (image : List ℕ) → (writes ≡ false → image ≡ []) → 0 < length image → writes ≡ true
@@ -67,29 +66,29 @@ made_outcome request seen text image status output none image_good trace_good en
     by ReadFault ended no_write ends = absurd ends
 
 -- no output was made, for this
-pub not_made_outcome : OneReading → (request : Request) (seen : Seen) (status : Status) → IsNotMade request seen.image seen.trace status → WritesNone seen → IsOutcome request seen status
-not_made_outcome one request seen Done not_made none = absurd not_made
-not_made_outcome one request seen Usage not_made none = absurd not_made
-not_made_outcome one request seen WriteFault not_made none = absurd not_made
-not_made_outcome one request seen (BadImage why) not_made none = record {
+pub not_made_outcome : (request : Request) (seen : Seen) (status : Status) → IsNotMade request seen.image seen.trace status → WritesNone seen → IsOutcome request seen status
+not_made_outcome request seen Done not_made none = absurd not_made
+not_made_outcome request seen Usage not_made none = absurd not_made
+not_made_outcome request seen WriteFault not_made none = absurd not_made
+not_made_outcome request seen (BadImage why) not_made none = record {
   ends = not_made;
   bad_image_comes = λ other refused. inl (ap BadImage (one_image_refusal refused.bytes why other (not_made.1 refused.bytes refused.left) refused.refused));
   bad_trace_comes = λ other refused. inr (inl (why, refl));
   complete = λ good no_read no_write. let bytes = good.image_bytes not_made.0 in absurd (good.image_good why (record { reads = not_made.0; bytes = bytes.0; left = bytes.1; refused = not_made.1 bytes.0 bytes.1 }));
 }
-not_made_outcome one request seen (BadTrace why) not_made none = record {
+not_made_outcome request seen (BadTrace why) not_made none = record {
   ends = (not_made.0, not_made.1);
   bad_image_comes = λ other refused. absurd (not_made.2 other refused);
-  bad_trace_comes = λ other refused. inl (ap BadTrace (one_trace_refusal one refused.bytes why other (not_made.1 refused.bytes refused.left) refused.refused));
+  bad_trace_comes = λ other refused. inl (ap BadTrace (one_trace_refusal refused.bytes why other (not_made.1 refused.bytes refused.left) refused.refused));
   complete = λ good no_read no_write. let bytes = good.trace_bytes not_made.0 in absurd (good.trace_good why (record { reads = not_made.0; bytes = bytes.0; left = bytes.1; refused = not_made.1 bytes.0 bytes.1 }));
 }
-not_made_outcome one request seen ReadFault not_made none = record {
+not_made_outcome request seen ReadFault not_made none = record {
   ends = not_made;
   bad_image_comes = λ other refused. inr (inl refl);
   bad_trace_comes = λ other refused. inr (inr (inl refl));
   complete = λ good no_read no_write. absurd (no_read not_made);
 }
-not_made_outcome one request seen NoMemory not_made none = record {
+not_made_outcome request seen NoMemory not_made none = record {
   ends = inl none;
   bad_image_comes = λ other refused. inr (inr refl);
   bad_trace_comes = λ other refused. inr (inr (inr refl));
@@ -97,20 +96,20 @@ not_made_outcome one request seen NoMemory not_made none = record {
 }
 
 -- a trace that was read is not refused
-pub trace_read : OneReading → (request : Request) (trace : TakenFrom) (why : TraceRefusal) → ((bytes : List ℕ) → trace.left ≡ Some bytes → (jobs : List Job) × ReadsTrace 1 bytes (Ok jobs)) → TraceRefused request trace why → ⊥
-trace_read one request trace why read refused =
+pub trace_read : (request : Request) (trace : TakenFrom) (why : TraceRefusal) → ((bytes : List ℕ) → trace.left ≡ Some bytes → (jobs : List Job) × ReadsCalls bytes (Ok jobs)) → TraceRefused request trace why → ⊥
+trace_read request trace why read refused =
     let known = read refused.bytes refused.left in
-    trace_not_both one refused.bytes known.0 why known.1 refused.refused
+    trace_not_both refused.bytes known.0 why known.1 refused.refused
 
 -- the same of an output that was made
-pub trace_good : OneReading → (request : Request) (trace : TakenFrom) (result : Result Output Status) → OnOk result ((bytes : List ℕ) → trace.left ≡ Some bytes → (jobs : List Job) × ReadsTrace 1 bytes (Ok jobs)) →
+pub trace_good : (request : Request) (trace : TakenFrom) (result : Result Output Status) → OnOk result ((bytes : List ℕ) → trace.left ≡ Some bytes → (jobs : List Job) × ReadsCalls bytes (Ok jobs)) →
     OnOk result ((why : TraceRefusal) → TraceRefused request trace why → ⊥)
-trace_good one request trace (Ok output) read = λ why refused. trace_read one request trace why read refused
-trace_good one request trace (Err status) read = tt
+trace_good request trace (Ok output) read = λ why refused. trace_read request trace why read refused
+trace_good request trace (Err status) read = tt
 
 -- what a run on a just-made image, and on an image, says of the reading of its trace
 pub try_reads : (shape : Shape) (left : Option (List ℕ)) (result : Result Output Status) → IfOk result (λ output. (bytes : List ℕ) → left ≡ Some bytes → IsTryOf shape bytes output.text.items) →
-    OnOk result ((bytes : List ℕ) → left ≡ Some bytes → (jobs : List Job) × ReadsTrace 1 bytes (Ok jobs))
+    OnOk result ((bytes : List ℕ) → left ≡ Some bytes → (jobs : List Job) × ReadsCalls bytes (Ok jobs))
 try_reads shape left (Ok output) report = λ bytes known. ((report bytes known).jobs, (report bytes known).read)
 try_reads shape left (Err status) report = tt
 

@@ -13,7 +13,7 @@ use Rattle.log_image.specs.Positions.{position_of}
 use Rattle.log_image.specs.Stands.{StandsBy}
 use Rattle.log_image.specs.Tails.{tail_of, IsClear}
 use Rattle.log_image.specs.Laws.{StaysCleared}
-use Rattle.trace_reader.specs.Reading.{ReadsTrace}
+use Rattle.madfs_cli.specs.Traces.{ReadsCalls}
 use Rattle.history_report.specs.Report.{report_text}
 use Rattle.opening_rules.specs.Opening.{chain_of}
 use Rattle.opening_rules.proofs.Accepted.{file_of, stands_by}
@@ -60,7 +60,7 @@ pub kinds_of : (engine new : PlainEngine) (chain file : List ℕ) (jobs : List J
 kinds_of engine new chain file jobs calls shown replays same = rw same (HaveKinds-Legal engine.geometry.block_bytes file engine.position calls replays.legal)
 
 -- a run on what clearing leaves of an image
-pub replayed : (image cleared trace text after fresh : List ℕ) (jobs : List Job) → OpensTo image cleared → ReadsTrace 1 trace (Ok jobs) →
+pub replayed : (image cleared trace text after fresh : List ℕ) (jobs : List Job) → OpensTo image cleared → ReadsCalls trace (Ok jobs) →
     ((chain file : List ℕ) (position : ℕ) → StandsBy cleared chain file position → IsRunOf cleared chain file position jobs text after) → ((place : ℕ) → get_or after place 0 < 2 ^ 64) → fresh ≡ word_bytes after → IsReplayOf image trace text fresh
 replayed image cleared trace text after fresh jobs opens read runs small fresh_is =
     let clears = opens.clears in

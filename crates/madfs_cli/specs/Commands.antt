@@ -1,5 +1,5 @@
 -- Which lists of words are a command, and what each command reads and writes.
-use Rattle.std.specs.Prelude.{ℕ, ◌≡◌, Bool, true, false, List, [], ◌∷◌, Some, None, codes}
+use Rattle.std.specs.Prelude.{ℕ, ◌^◌, ◌≡◌, ◌<◌, ◌≤◌, Bool, true, false, List, [], ◌∷◌, Some, None, codes}
 use Rattle.std.specs.List.{slice_get}
 use Rattle.log_entry.specs.Text.{number_of}
 use Rattle.log_entry.specs.Geometry.{shape_refusal}
@@ -7,16 +7,17 @@ use Rattle.log_image.specs.Image.{Shape, shape_by}
 use Rattle.madfs_cli.specs.declared.commands.Command.{Command}
 use Rattle.madfs_cli.specs.declared.commands.Command.TheVariants.{Make, Cat}
 use Rattle.madfs_cli.specs.declared.commands.Making.{Making}
-use Rattle.madfs_cli.specs.declared.commands.Making.TheVariants.{Mkfs, Try, Replay, Dump}
+use Rattle.madfs_cli.specs.declared.commands.Making.TheVariants.{Mkfs, Try, Replay, Dump, Generate}
 
 -- what a command asks: a new image of a shape; the run of a trace on a just-made image of a shape, or on an image; the file of
--- an image; the text of an image
+-- an image; the text of an image; a trace from a number
 pub data Request : Type 0 where
   MakeImage : (shape : Shape) → Request
   TryTrace : (shape : Shape) → Request
   ReplayTrace : Request
   ShowFile : Request
   ShowImage : Request
+  MakeTrace : (number seats calls : ℕ) → Request
 
 -- three words are the numbers of a shape that an image may have
 pub record SayShape (data_word log_word bytes_word : List ℕ) (shape : Shape) : Type 0 where
@@ -59,6 +60,38 @@ pub record IsReplay (words : List (List ℕ)) : Type 0 where
   pub words_are : words ≡ codes "replay" ∷ seats_word ∷ []
   pub one_seat : number_of seats_word ≡ Some 1
 
+-- the numbers are those of work that may be asked: at most 20,000 calls of 1 to 16 seats
+pub record IsWork (number seats calls : ℕ) : Type 0 where
+  pub small : number < 2 ^ 32
+  pub some_seats : 1 ≤ seats
+  pub few_seats : seats ≤ 16
+  pub few_calls : calls ≤ 20000
+
+-- three words are the numbers of work that may be asked
+pub record SayWork (number_word seats_word calls_word : List ℕ) (number seats calls : ℕ) : Type 0 where
+  pub number_is : number_of number_word ≡ Some number
+  pub seats_are : number_of seats_word ≡ Some seats
+  pub calls_are : number_of calls_word ≡ Some calls
+  pub allowed : IsWork number seats calls
+
+-- the second, third and fourth word are these numbers
+pub record SaysWorkAt (words : List (List ℕ)) (number seats calls : ℕ) : Type 0 where
+  pub number_word : List ℕ
+  pub seats_word : List ℕ
+  pub calls_word : List ℕ
+  pub number_at : slice_get words 1 ≡ Some number_word
+  pub seats_at : slice_get words 2 ≡ Some seats_word
+  pub calls_at : slice_get words 3 ≡ Some calls_word
+  pub work_is : SayWork number_word seats_word calls_word number seats calls
+
+-- the words are `generate`, a number, the seats and the calls
+pub record IsGenerate (words : List (List ℕ)) (number seats calls : ℕ) : Type 0 where
+  pub number_word : List ℕ
+  pub seats_word : List ℕ
+  pub calls_word : List ℕ
+  pub words_are : words ≡ codes "generate" ∷ number_word ∷ seats_word ∷ calls_word ∷ []
+  pub work_is : SayWork number_word seats_word calls_word number seats calls
+
 -- the words ask this
 abbrev pub Asks : List (List ℕ) → Request → Type 0
 Asks words (MakeImage shape) = IsMkfs words shape
@@ -66,6 +99,7 @@ Asks words (TryTrace shape) = IsTry words shape
 Asks words ReplayTrace = IsReplay words
 Asks words ShowFile = words ≡ codes "cat" ∷ []
 Asks words ShowImage = words ≡ codes "dump" ∷ []
+Asks words (MakeTrace number seats calls) = IsGenerate words number seats calls
 
 -- the words are a command
 abbrev pub IsCommand : List (List ℕ) → Type 0
@@ -77,6 +111,7 @@ made_request (Mkfs shape) = MakeImage (shape_by shape)
 made_request (Try shape) = TryTrace (shape_by shape)
 made_request Replay = ReplayTrace
 made_request Dump = ShowImage
+made_request (Generate work) = MakeTrace work.number work.seats work.calls
 
 -- what a command of the program asks
 abbrev pub request_of : Command → Request
@@ -94,6 +129,7 @@ reads_image (TryTrace shape) = false
 reads_image ReplayTrace = true
 reads_image ShowFile = true
 reads_image ShowImage = true
+reads_image (MakeTrace number seats calls) = false
 
 -- the command reads a trace
 abbrev pub reads_trace : Request → Bool
@@ -102,6 +138,7 @@ reads_trace (TryTrace shape) = true
 reads_trace ReplayTrace = true
 reads_trace ShowFile = false
 reads_trace ShowImage = false
+reads_trace (MakeTrace number seats calls) = false
 
 -- the command writes an image
 abbrev pub writes_image : Request → Bool
@@ -110,3 +147,4 @@ writes_image (TryTrace shape) = false
 writes_image ReplayTrace = true
 writes_image ShowFile = false
 writes_image ShowImage = false
+writes_image (MakeTrace number seats calls) = false

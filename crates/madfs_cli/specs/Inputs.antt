@@ -2,7 +2,7 @@
 use Rattle.std.specs.Prelude.{ℕ, ◌≡◌, List, Option, Some, Err}
 use Rattle.io_ends.specs.Faults.{Rose}
 use Rattle.io_ends.specs.Taking.{IsAtEnd}
-use Rattle.trace_reader.specs.Reading.{ReadsTrace}
+use Rattle.madfs_cli.specs.Traces.{ReadsCalls}
 use Rattle.opening_rules.specs.declared.refusals.BadImage.{BadImage as ImageRefusal}
 use Rattle.madfs_cli.specs.Images.{RefusesImage}
 use Rattle.madfs_cli.specs.declared.statuses.Status.{Status}
@@ -10,7 +10,7 @@ use Rattle.madfs_cli.specs.declared.statuses.Status.TheVariants.{Done, Usage, Ba
 
 -- why no jobs were read: the reading of all that was left refuses it, or a read failed, or want of memory
 abbrev pub IsNotRead : Option (List ℕ) → ℕ → ℕ → Status → Type 0
-IsNotRead left before now (BadTrace why) = (bytes : List ℕ) → left ≡ Some bytes → ReadsTrace 1 bytes (Err why)
+IsNotRead left before now (BadTrace why) = (bytes : List ℕ) → left ≡ Some bytes → ReadsCalls bytes (Err why)
 IsNotRead left before now ReadFault = Rose before now
 IsNotRead left before now NoMemory = Unit {0}
 IsNotRead left before now Done = ⊥

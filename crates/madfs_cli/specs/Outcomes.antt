@@ -2,10 +2,12 @@
 use Rattle.std.specs.Prelude.{ℕ, ◌≡◌, ◌<◌, ◌⊎◌, Bool, true, false, List, [], length, Option, Some, Err}
 use Rattle.io_ends.specs.Faults.{Rose}
 use Rattle.io_ends.specs.Giving.{Gives, GivesPrefix}
-use Rattle.trace_reader.specs.Reading.{ReadsTrace}
+use Rattle.madfs_cli.specs.Traces.{ReadsCalls}
+use Rattle.trace_reader.specs.TraceText.{trace_text}
+use Rattle.trace_reader.specs.Generator.{generated}
 use Rattle.trace_reader.specs.declared.refusals.BadTrace.{BadTrace as TraceRefusal}
 use Rattle.opening_rules.specs.declared.refusals.BadImage.{BadImage as ImageRefusal}
-use Rattle.madfs_cli.specs.Commands.{Request, MakeImage, TryTrace, ReplayTrace, ShowFile, ShowImage, reads_image, reads_trace, writes_image}
+use Rattle.madfs_cli.specs.Commands.{Request, MakeImage, TryTrace, ReplayTrace, ShowFile, ShowImage, MakeTrace, reads_image, reads_trace, writes_image}
 use Rattle.madfs_cli.specs.Replays.{IsTryOf, IsReplayOf}
 use Rattle.madfs_cli.specs.Images.{RefusesImage, IsFileOf, IsDumpOf, made_text, IsNewImage}
 use Rattle.madfs_cli.specs.declared.statuses.Status.{Status}
@@ -18,6 +20,7 @@ IsOutput (TryTrace shape) image trace text fresh = IsTryOf shape trace text × (
 IsOutput ReplayTrace image trace text fresh = IsReplayOf image trace text fresh
 IsOutput ShowFile image trace text fresh = IsFileOf image text × (fresh ≡ [])
 IsOutput ShowImage image trace text fresh = IsDumpOf image text × (fresh ≡ [])
+IsOutput (MakeTrace number seats calls) image trace text fresh = (text ≡ trace_text (generated number seats calls)) × (fresh ≡ [])
 
 -- a source before and after a command: what it had left, where it tells that, and its count of faults
 pub record TakenFrom : Type 0 where
@@ -88,7 +91,7 @@ WriteFailed request report fresh =
 abbrev pub Ends : Request → Seen → Status → Type 0
 Ends request seen Done = WritesAll request seen
 Ends request seen (BadImage why) = (reads_image request ≡ true) × ((bytes : List ℕ) → seen.image.left ≡ Some bytes → RefusesImage bytes why)
-Ends request seen (BadTrace why) = (reads_trace request ≡ true) × ((bytes : List ℕ) → seen.trace.left ≡ Some bytes → ReadsTrace 1 bytes (Err why))
+Ends request seen (BadTrace why) = (reads_trace request ≡ true) × ((bytes : List ℕ) → seen.trace.left ≡ Some bytes → ReadsCalls bytes (Err why))
 Ends request seen ReadFault = ReadFailed request seen.image seen.trace
 Ends request seen WriteFault = WriteFailed request seen.report seen.fresh × WritesPart request seen
 Ends request seen NoMemory = WritesNone seen ⊎ WritesPart request seen
@@ -106,7 +109,7 @@ pub record TraceRefused (request : Request) (trace : TakenFrom) (why : TraceRefu
   pub reads : reads_trace request ≡ true
   pub bytes : List ℕ
   pub left : trace.left ≡ Some bytes
-  pub refused : ReadsTrace 1 bytes (Err why)
+  pub refused : ReadsCalls bytes (Err why)
 
 -- the inputs of a command tell their bytes and are not refused
 pub record HasGoodInputs (request : Request) (image trace : TakenFrom) : Type 0 where
@@ -128,7 +131,7 @@ abbrev pub IsNotMade : Request → TakenFrom → TakenFrom → Status → Type 0
 IsNotMade request image trace Done = ⊥
 IsNotMade request image trace (BadImage why) = (reads_image request ≡ true) × ((bytes : List ℕ) → image.left ≡ Some bytes → RefusesImage bytes why)
 IsNotMade request image trace (BadTrace why) =
-    (reads_trace request ≡ true) × ((bytes : List ℕ) → trace.left ≡ Some bytes → ReadsTrace 1 bytes (Err why)) × ((other : ImageRefusal) → ImageRefused request image other → ⊥)
+    (reads_trace request ≡ true) × ((bytes : List ℕ) → trace.left ≡ Some bytes → ReadsCalls bytes (Err why)) × ((other : ImageRefusal) → ImageRefused request image other → ⊥)
 IsNotMade request image trace ReadFault = ReadFailed request image trace
 IsNotMade request image trace WriteFault = ⊥
 IsNotMade request image trace NoMemory = Unit {0}

@@ -12,7 +12,7 @@ use Rattle.log_image.specs.Stands.{StandsBy}
 use Rattle.log_image.specs.Tails.{tail_of, IsClear}
 use Rattle.log_image.specs.JustMade.{first_log, IsJustMade}
 use Rattle.log_image.specs.Laws.{StaysCleared}
-use Rattle.trace_reader.specs.Reading.{ReadsTrace}
+use Rattle.madfs_cli.specs.Traces.{ReadsCalls}
 use Rattle.history_report.specs.Report.{report_text}
 use Rattle.plain_engine.specs.Served.{AreServed}
 use Rattle.madfs_cli.specs.Images.{Clears, IsFileAt}
@@ -49,7 +49,7 @@ pub record IsTryOf (shape : Shape) (trace text : List ℕ) : Type 0 where
   pub words : List ℕ
   pub just_made : IsJustMade shape words
   pub jobs : List Job
-  pub read : ReadsTrace 1 trace (Ok jobs)
+  pub read : ReadsCalls trace (Ok jobs)
   pub after : List ℕ
   pub run : IsRunOf words (first_log shape ∷ []) [] 0 jobs text after
 
@@ -65,7 +65,7 @@ pub record IsReplayOf (image trace text fresh : List ℕ) : Type 0 where
   pub stands : StandsBy clears.words chain file position
   pub stays : StaysCleared clears.words cleared chain file position
   pub jobs : List Job
-  pub read : ReadsTrace 1 trace (Ok jobs)
+  pub read : ReadsCalls trace (Ok jobs)
   pub after : List ℕ
   pub run : IsRunOf cleared chain file position jobs text after
   pub past_header : KeepsPastHeader clears.words after

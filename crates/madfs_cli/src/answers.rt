@@ -8,6 +8,8 @@ ghost use Rattle.madfs_cli.specs.Inputs.{IsNotOpened, WasAccepted};
 ghost use Rattle.madfs_cli.specs.Images.{RefusesImage, IsDumpOf, made_text, IsNewImage};
 ghost use Rattle.madfs_cli.specs.Outcomes.{TakenFrom, GivenTo, IsOutcome, IsOutputOf, ImageRefused, TraceRefused, IsNotMade};
 ghost use Rattle.opening_rules.specs.declared.refusals.BadImage.{BadImage};
+ghost use Rattle.trace_reader.specs.TraceText.{trace_text};
+ghost use Rattle.trace_reader.specs.Generator.{generated};
 ghost use Rattle.trace_reader.specs.declared.refusals.BadTrace.{BadTrace};
 
 use crate::commands::Making;
@@ -15,13 +17,14 @@ use crate::images::open_image;
 use crate::outputs::Output;
 use crate::replays::{note_range, replay_trace, try_trace};
 use crate::statuses::Status;
+use crate::work::Work;
 use image_tools::{dump, mkfs, write_file};
 use io_ends::{Sink, Source, WriteAll};
 use log_entry::text::push_number;
 use log_entry::{Geometry, to_bytes};
 use log_image::laws::{law_just_made, law_one_meaning};
 use std::alloc::{AllocError, Global};
-use trace_reader::laws::law_readings;
+use trace_reader::{generate, print_trace};
 
 /// The line that says how large an image of this shape is: its blocks and its bytes.
 fn size_line(alloc: Global, shape: Geometry) -> Result<Vec<u8>, AllocError>
@@ -50,6 +53,19 @@ fn make_image(alloc: Global, shape: Geometry) -> Result<Output, AllocError>
     Ok(Output { text, image })
 }
 
+/// The trace of this work.
+fn make_trace(alloc: Global, work: Work) -> Result<Output, AllocError>
+    ensures text { IfOk result (λ output. output.text.items ≡ trace_text (generated work.number work.seats work.calls)) }
+    ensures image { IfOk result (λ output. output.image.items ≡ []) }
+{
+    let jobs = generate(alloc, work.number, work.seats, work.calls)?;
+    let text = print_trace(alloc, &jobs)?;
+    Ok(Output {
+        text,
+        image: Vec::new(alloc),
+    })
+}
+
 /// Writes the file of the image that a source has left, read to its end, and says how that ended.
 pub fn show_file<I: Source, O: Sink>(alloc: Global, image: &mut I, report: &mut O) -> Status
     ensures not_usage { result ≢ Status.Usage }
@@ -75,7 +91,6 @@ pub fn show_file<I: Source, O: Sink>(alloc: Global, image: &mut I, report: &mut 
         })
         result }
 {
-    law_readings();
     law_one_meaning();
     let start = match open_image(alloc, image) {
         Ok(start) => start,
@@ -134,7 +149,6 @@ pub fn output_of<I: Source, T: Source>(
         (record { left = I.left image.old; faults_before = I.faults image.old; faults_after = I.faults image.new })
         (record { left = T.left trace.old; faults_before = T.faults trace.old; faults_after = T.faults trace.new })) }
 {
-    law_readings();
     match making {
         Making::Mkfs { shape } => match make_image(alloc, shape) {
             Ok(output) => Ok(output),
@@ -143,5 +157,9 @@ pub fn output_of<I: Source, T: Source>(
         Making::Try { shape } => try_trace(alloc, shape, trace),
         Making::Replay => replay_trace(alloc, image, trace),
         Making::Dump => show_image(alloc, image),
+        Making::Generate { work } => match make_trace(alloc, work) {
+            Ok(output) => Ok(output),
+            Err(_) => Err(Status::NoMemory),
+        },
     }
 }

@@ -1,10 +1,11 @@
 //! The words of a command.
 
-ghost use Rattle.std.specs.Prelude.{◌≡◌, ◌≢◌, ◌≤◌, MatchOption, None, length, ℕ, IsTrue, false};
+ghost use Rattle.std.specs.Prelude.{◌≡◌, ◌≢◌, ◌<◌, ◌≤◌, ◌^◌, MatchOption, None, length, ℕ, IsTrue, false};
 ghost use Rattle.log_entry.specs.Geometry.{shape_refusal, HasShape};
 ghost use Rattle.log_image.specs.Image.{Shape, shape_by};
-ghost use Rattle.madfs_cli.specs.Commands.{IsCommand, IsMkfs, IsTry, IsReplay, Says, SaysShapeAt};
+ghost use Rattle.madfs_cli.specs.Commands.{IsCommand, IsMkfs, IsTry, IsReplay, IsGenerate, IsWork, Says, SaysShapeAt, SaysWorkAt};
 
+use crate::work::Work;
 use io_ends::Words;
 use log_entry::Geometry;
 use log_entry::text::read_number;
@@ -29,6 +30,8 @@ pub enum Making {
     Replay,
     /// The text of an image.
     Dump,
+    /// A trace from a number.
+    Generate { work: Work },
 }
 
 /// The shape of these numbers, where they are one.
@@ -91,6 +94,42 @@ fn is_replay(words: &Words) -> bool
     seats == 1
 }
 
+/// The work of these numbers, where it may be asked.
+fn work_of(number: u64, seats: u64, calls: u64) -> Option<Work>
+    ensures { MatchOption result (IsWork number seats calls → ⊥)
+        (λ work. IsWork number seats calls × (work.number ≡ number) × (work.seats ≡ seats) × (work.calls ≡ calls)) }
+{
+    if number > 4_294_967_295 || seats == 0 || seats > 16 || calls > 20_000 {
+        return None;
+    }
+    Some(Work {
+        number: number as u32,
+        seats: seats as u8,
+        calls: calls as u32,
+    })
+}
+
+/// The work that the words after the first say: a number, the seats, and the calls of all.
+fn read_work(words: &Words) -> Option<Work>
+    requires { 4 ≤ length words.now }
+    ensures { MatchOption result ((number seats calls : ℕ) → SaysWorkAt words.now number seats calls → ⊥) (λ work. SaysWorkAt words.now work.number work.seats work.calls) }
+{
+    let number = read_number(words.word(1).as_bytes())?;
+    let seats = read_number(words.word(2).as_bytes())?;
+    let calls = read_number(words.word(3).as_bytes())?;
+    work_of(number, seats, calls)
+}
+
+/// The work that the words of `generate` say, where they are its.
+fn read_generate(words: &Words) -> Option<Work>
+    ensures { MatchOption result ((number seats calls : ℕ) → IsGenerate words.now number seats calls → ⊥) (λ work. IsGenerate words.now work.number work.seats work.calls) }
+{
+    if words.count() != 4 || words.word(0) != "generate" {
+        return None;
+    }
+    read_work(words)
+}
+
 /// The command that the words are. None exactly where they are none.
 pub fn read_command(words: &Words) -> Option<Command>
     ensures { MatchOption result (IsCommand words.now → ⊥) (Says words.now) }
@@ -106,6 +145,9 @@ pub fn read_command(words: &Words) -> Option<Command>
     }
     if let Some(shape) = read_mkfs(words) {
         return Some(Command::Make(Making::Mkfs { shape }));
+    }
+    if let Some(work) = read_generate(words) {
+        return Some(Command::Make(Making::Generate { work }));
     }
     let shape = read_try(words)?;
     Some(Command::Make(Making::Try { shape }))

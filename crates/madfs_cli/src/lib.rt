@@ -11,6 +11,7 @@ pub mod statuses;
 mod tests;
 pub mod top;
 pub mod traces;
+mod work;
 
 pub use statuses::Status;
 pub use top::run;

@@ -5,7 +5,7 @@ ghost use Rattle.io_ends.specs.Taking.{IsAtEnd};
 ghost use Rattle.log_image.specs.Stands.{StandsBy};
 ghost use Rattle.log_entry.specs.declared.calls.Job.{Job};
 ghost use Rattle.trace_reader.specs.Trace.{IsTrace};
-ghost use Rattle.trace_reader.specs.Reading.{ReadsTrace};
+ghost use Rattle.madfs_cli.specs.Traces.{ReadsCalls};
 ghost use Rattle.log_image.specs.Image.{shape_by};
 ghost use Rattle.opening_rules.specs.declared.refusals.BadImage.{BadImage};
 ghost use Rattle.trace_reader.specs.declared.refusals.BadTrace.{BadTrace};
@@ -89,7 +89,7 @@ pub fn replay_trace<I: Source, T: Source>(
         → T.left trace.old ≡ Some text → IsReplayOf bytes text output.text.items output.image.items) }
     ensures image_good { OnOk result ((why : BadImage) → ImageRefused ReplayTrace (record { left = I.left image.old; faults_before = I.faults image.old; faults_after = I.faults image.new }) why → ⊥) }
     ensures trace_read { OnOk result ((bytes : List ℕ) → T.left trace.old ≡ Some bytes → (jobs : List Job)
-        × ReadsTrace 1 bytes (Ok jobs)) }
+        × ReadsCalls bytes (Ok jobs)) }
     ensures trace_after_image { (trace.new ≡ trace.old) ⊎ WasAccepted (I.left image.old) (I.left image.new) }
     ensures trace_at_bad_image { IfErr result (λ status. (why : BadImage) → status ≡ Status.BadImage why
         → trace.new ≡ trace.old) }

@@ -100,6 +100,79 @@ fn refused_words_images_and_traces(rt: HostRuntime) -> Result<(), Fail> {
     Ok(())
 }
 
+/// A trace as a person writes it, and each kind of refusal, by both commands that read one.
+#[test]
+fn traces_by_hand(rt: HostRuntime) -> Result<(), Fail> {
+    let alloc = rt.alloc();
+    let by_hand = b"# three bytes\n\n 00 pwrite\t0 61626C\r\n0 pwrite 002 63\n0 pread 0 010";
+    let report =
+        b"1 0 1 pwrite 0 3 = 3\n2 0 2 pwrite 2 1 = 1\n2 0 3 pread 0 10 = 616263\nend 2 3\n";
+    let made = run_bytes(alloc, "mkfs 2 1 64", b"", b"")?;
+    let tried = run_bytes(alloc, "try 2 1 64 1", b"", by_hand)?;
+    assert_eq!(rt; tried.report.as_slice(), report.as_slice());
+    let ran = run_bytes(alloc, "replay 1", &made.image, by_hand)?;
+    assert_eq!(rt; ran.report.as_slice(), report.as_slice());
+    let refusals: [(&[u8], BadTrace); 5] = [
+        (b"0 pwrite 0 abc", BadTrace::BadHex { line: 1 }),
+        (b"1 size", BadTrace::BadSeat { line: 1, seat: 1 }),
+        (b"0 pread 0 1048577", BadTrace::BadNumber { line: 1 }),
+        (b"0 fsync", BadTrace::BadLine { line: 1 }),
+        (
+            b"0 pread 0 1\n0 size\n0 sync",
+            BadTrace::BadLine { line: 2 },
+        ),
+    ];
+    for (text, why) in refusals {
+        let tried = run_bytes(alloc, "try 2 1 64 1", b"", text)?;
+        assert_eq!(rt; tried.status, Status::BadTrace(why));
+        let ran = run_bytes(alloc, "replay 1", &made.image, text)?;
+        assert_eq!(rt; ran.status, Status::BadTrace(why));
+        assert_eq!(rt; ran.report.len() + ran.image.len(), 0);
+    }
+    Ok(())
+}
+
+/// Words that are no command: nothing is read or written.
+#[test]
+fn words_that_are_none(rt: HostRuntime) -> Result<(), Fail> {
+    let alloc = rt.alloc();
+    let lines = [
+        "replay 0",
+        "replay",
+        "replay 1 2",
+        "mkfs 2 1 63",
+        "replay -1",
+        "-1 replay",
+        "generate 1 2",
+        "generate 1 0 1",
+        "generate 1 17 1",
+        "generate 1 1 20001",
+        "generate 4294967296 1 1",
+    ];
+    for line in lines {
+        let mut image = Bytes::new(Vec::from_slice(alloc, b"abc")?);
+        let mut trace = Bytes::new(Vec::from_slice(alloc, b"def")?);
+        let mut report = Gathered::new(alloc);
+        let mut fresh = Gathered::new(alloc);
+        let status = run_line(alloc, line, &mut image, &mut trace, &mut report, &mut fresh)?;
+        assert_eq!(rt; status, Status::Usage);
+        assert_eq!(rt; report.bytes().len() + fresh.bytes().len(), 0);
+    }
+    Ok(())
+}
+
+/// A line of 1,593 bytes, each one more than the one before it.
+#[test]
+fn work_from_a_number(rt: HostRuntime) -> Result<(), Fail> {
+    let made = run_bytes(rt.alloc(), "generate 001 2 1", b"", b"")?;
+    assert_eq!(rt; made.status, Status::Done);
+    assert_eq!(rt; made.report.len(), 15 + 2 * 1593 + 1);
+    assert_eq!(rt; made.report.starts_with(b"0 pwrite 42984 02030405"), true);
+    assert_eq!(rt; made.report.ends_with(b"38393a\n"), true);
+    assert_eq!(rt; made.image.len(), 0);
+    Ok(())
+}
+
 #[test]
 fn faults_are_reported(rt: HostRuntime) -> Result<(), Fail> {
     let alloc = rt.alloc();

@@ -14,7 +14,6 @@ use crate::outputs::write_output;
 use crate::statuses::Status;
 use io_ends::{Sink, Source, Words};
 use std::alloc::Global;
-use trace_reader::laws::law_readings;
 
 /// Runs a command, and says how it ended.
 fn run_command<I: Source, T: Source, O: Sink, N: Sink>(
@@ -65,7 +64,6 @@ fn run_command<I: Source, T: Source, O: Sink, N: Sink>(
         })
         result }
 {
-    law_readings();
     let making = match command {
         Command::Make(making) => making,
         Command::Cat => return show_file(alloc, image, report),
@@ -81,7 +79,8 @@ fn run_command<I: Source, T: Source, O: Sink, N: Sink>(
 /// The order of work is: the words, the image read to its end, opened and cleared, the trace read to its end, the calls, the
 /// report, the new image. `mkfs` reads nothing and writes the line of the new image's size and the image; `try`, of one seat,
 /// reads the trace and writes the report of its run on a just-made image; `replay`, of one seat, reads the image and the trace
-/// and writes the report and the image after the run; `cat` and `dump` read the image and write its file and its text. The image
+/// and writes the report and the image after the run; `cat` and `dump` read the image and write its file and its text;
+/// `generate` reads nothing and writes the trace of a number. The image
 /// that `mkfs` or `replay` writes opens, to the empty file at position 0 or to what the run leaves.
 /// Of a source or a sink that does not tell its bytes, the clauses say what is kept, and the causes.
 pub fn run<I: Source, T: Source, O: Sink, N: Sink>(

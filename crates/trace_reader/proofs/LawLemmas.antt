@@ -1,111 +1,102 @@
--- Traces told apart by their text, and the laws of reading.
-use Rattle.std.proofs.Common.{◌≡◌, ℕ, ◌+◌, ◌<◌, ◌⊎◌, List, [], ◌∷◌, ◌++◌, append_assoc, append-nil, length, Result, Ok, Err, inl, inr, codes, refl, sym, ap, ◌∙◌, arith}
-use Rattle.std.proofs.lemmas.List.{length-append}
-use Rattle.log_entry.specs.OfTrace.{asked_for}
-use Rattle.log_entry.specs.declared.calls.Op.{Op}
+-- A refusal is that of the first bad line.
+use Rattle.std.specs.Prelude.{if◌then◌else◌}
+use Rattle.std.proofs.Common.{◌≡◌, ◌≢◌, ℕ, ◌+◌, nat_lt, Bool, true, false, List, [], ◌∷◌, ◌++◌, length, Option, Some, None, Result, Ok, Err, refl, sym, ap, ◌∙◌, arith}
 use Rattle.log_entry.specs.declared.calls.Job.{Job}
-use Rattle.trace_reader.specs.TraceText.{ask_text, line_text, trace_text}
-use Rattle.trace_reader.specs.Trace.{Follows, AllFollow, IsTrace}
-use Rattle.trace_reader.specs.Reading.{GoesOn, IsFirstBadLine, ReadsTrace}
+use Rattle.trace_reader.specs.Lines.{lines_of, fields_of}
+use Rattle.trace_reader.specs.Calls.{line_call}
+use Rattle.trace_reader.specs.Trace.{read_length, read_total}
+use Rattle.trace_reader.specs.Reading.{ReadsTrace, reading_from, after_line, job_after, trace_limit, reads_limit}
+use Rattle.trace_reader.specs.Laws.{IsFirstBad}
+use Rattle.trace_reader.specs.declared.lines.SeatCall.{SeatCall}
 use Rattle.trace_reader.specs.declared.refusals.BadTrace.{BadTrace}
-use Rattle.trace_reader.specs.declared.refusals.BadTrace.TheVariants.{BadLine, BadSeat, BadNumber, BadHex, TooMuch, TooLong}
-use Rattle.trace_reader.proofs.FrontLemmas.{call_apart}
-use Rattle.trace_reader.proofs.TraceLemmas.{job_front}
+use Rattle.trace_reader.specs.declared.refusals.BadTrace.TheVariants.{TooMuch, TooLong}
+use Rattle.trace_reader.proofs.TraceLemmas.{more_jobs}
 
--- a job is its four fields
-same_job : (a b : Job) → a.line ≡ b.line → a.seat ≡ b.seat → a.number ≡ b.number → a.op ≡ b.op → a ≡ b
-same_job a b line seat number op =
-    ap (λ (x : ℕ). record a { line = x }) line
-    ∙ ap (λ (x : ℕ). record a { line = b.line; seat = x }) seat
-    ∙ ap (λ (x : ℕ). record a { line = b.line; seat = b.seat; number = x }) number
-    ∙ ap (λ (x : Op). record b { op = x }) op
+-- a bad line among these, of which the first has this number, after these jobs
+record FoundBad (seats : ℕ) (lines : List (List ℕ)) (at : ℕ) (jobs : List Job) (why : BadTrace) : Type 0 where
+  pub before : List (List ℕ)
+  pub bad : List ℕ
+  pub after : List (List ℕ)
+  pub split : lines ≡ before ++ bad ∷ after
+  pub read : List Job
+  pub place : ℕ
+  pub place_is : place ≡ at + length before
+  pub good : reading_from seats before at jobs ≡ Ok read
+  pub refused : after_line Ok read place (line_call seats place (fields_of bad)) ≡ Err why
 
--- jobs that may follow the same ones, with one text up to what is left, are the same job
-same_follower : (seats : ℕ) (before : List Job) (a b : Job) (r s : List ℕ) → seats < 256 → Follows seats before a → Follows seats before b → line_text a ++ r ≡ line_text b ++ s → (a ≡ b) × (r ≡ s)
-same_follower seats before a b r s small fa fb same =
-    let same_call = call_apart (line_text a ++ r) a.seat b.seat a.op b.op r s
-    (job_front seats before (line_text a ++ r) (omega arith) (a, r, fa, refl))
-    (job_front seats before (line_text a ++ r) (omega arith) (b, s, fb, same)) in
-    let seat = same_call.seat in
-    let count : length (asked_for a.seat before) ≡ length (asked_for b.seat before) = ap (λ (k : ℕ). length (asked_for k before)) seat in
-    let line : a.line ≡ b.line = fa.line ∙ sym fb.line in
-    let number : a.number ≡ b.number = fa.number ∙ ap (λ (n : ℕ). n + 1) count ∙ sym fb.number in
-    (same_job a b line seat number same_call.op, same_call.rest)
+-- a line more in front
+found_behind : (seats : ℕ) (line : List ℕ) (lines : List (List ℕ)) (at : ℕ) (jobs more : List Job) (why : BadTrace)
+    → ((rest : List (List ℕ)) → reading_from seats (line ∷ rest) at jobs ≡ reading_from seats rest (at + 1) more) → FoundBad seats lines (at + 1) more why → FoundBad seats (line ∷ lines) at jobs why
+found_behind seats line lines at jobs more why on found =
+    let place = found.place_is in
+    record {
+      before = line ∷ found.before;
+      bad = found.bad;
+      after = found.after;
+      split = ap (λ (rest : List (List ℕ)). line ∷ rest) found.split;
+      read = found.read;
+      place = found.place;
+      place_is = omega arith;
+      good = on found.before ∙ found.good;
+      refused = found.refused;
+    }
 
--- two traces with one text up to what is left are the same, or one of them goes on where the other ends
-compared : (seats : ℕ) (before xs ys : List Job) (r s : List ℕ) → seats < 256 → AllFollow seats before xs → AllFollow seats before ys → trace_text xs ++ r ≡ trace_text ys ++ s
-    → ((xs ≡ ys) × (r ≡ s)) ⊎ (GoesOn seats (before ++ xs) r ⊎ GoesOn seats (before ++ ys) s)
-compared seats before [] [] r s small fx fy same = inl (refl, same)
-compared seats before [] (y ∷ ys) r s small fx fy same =
-    let here : GoesOn seats before r = (y, trace_text ys ++ s, fy.0, same ∙ append_assoc (line_text y) (trace_text ys) s) in
-    inr (inl (rw (append-nil before) here))
-compared seats before (x ∷ xs) [] r s small fx fy same =
-    let here : GoesOn seats before s = (x, trace_text xs ++ r, fx.0, sym same ∙ append_assoc (line_text x) (trace_text xs) r) in
-    inr (inr (rw (append-nil before) here))
-compared seats before (x ∷ xs) (y ∷ ys) r s small fx fy same =
-    let text : line_text x ++ (trace_text xs ++ r) ≡ line_text y ++ (trace_text ys ++ s) = sym (append_assoc (line_text x) (trace_text xs) r) ∙ same ∙ append_assoc (line_text y) (trace_text ys) s in
-    let first = same_follower seats before x y (trace_text xs ++ r) (trace_text ys ++ s) small fx.0 fy.0 text in
-    let after : AllFollow seats (before ++ x ∷ []) ys = rw first.0 fy.1 in
-    let left : before ++ x ∷ [] ++ xs ≡ before ++ x ∷ xs = append_assoc before (x ∷ []) xs in
-    let right : before ++ x ∷ [] ++ ys ≡ before ++ y ∷ ys = append_assoc before (x ∷ []) ys ∙ ap (λ (z : Job). before ++ z ∷ ys) first.0 in
-    elim (compared seats (before ++ x ∷ []) xs ys r s small fx.1 after first.1) [
-      | inl all ↦ inl (ap (λ (zs : List Job). x ∷ zs) all.0 ∙ ap (λ (z : Job). z ∷ ys) first.0, all.1)
-      | inr on ↦ elim on [ inl a ↦ inr (inl (rw left at a)) | inr b ↦ inr (inr (rw right at b)) ]
-    ]
+-- the first line itself
+found_here : (seats : ℕ) (line : List ℕ) (lines : List (List ℕ)) (at : ℕ) (jobs : List Job) (why : BadTrace) → after_line Ok jobs at (line_call seats at (fields_of line)) ≡ Err why → FoundBad seats (line ∷ lines) at jobs why
+found_here seats line lines at jobs why refused = record { before = []; bad = line; after = lines; split = refl; read = jobs; place = at; place_is = omega arith; good = refl; refused = refused }
 
--- no job's line is empty
-ended : (seats : ℕ) (jobs : List Job) → GoesOn seats jobs [] → ⊥
-ended seats jobs on =
-    let none : 0 ≡ length (line_text on.0 ++ on.1) = ap length on.3 in
-    let whole = length-append (line_text on.0) on.1 in
-    let line = length-append (ask_text on.0.seat on.0.op) (codes "\n") in
-    omega (arith, none, whole, line)
+too_much : (much : Bool) (at : ℕ) (other : Result (List Job) BadTrace) → much ≡ true → (if much then Err (TooMuch at) else other) ≡ Err (TooMuch at)
+too_much true at other told = refl
+too_much false at other told = cc told
 
--- bytes that are a trace have no bad line
-no_bad_line : (seats : ℕ) (bytes : List ℕ) (jobs : List Job) (line : ℕ) → seats < 256 → IsTrace seats jobs → bytes ≡ trace_text jobs → IsFirstBadLine seats bytes line → ⊥
-no_bad_line seats bytes jobs line small good text bad =
-    elim (compared seats [] jobs bad.before [] bad.rest small good bad.good (append-nil (trace_text jobs) ∙ sym text ∙ bad.split)) [
-      | inl all ↦ let some = bad.some in let none : 0 ≡ length bad.rest = ap length all.1 in omega (arith, some, none)
-      | inr on ↦ elim on [ inl a ↦ ended seats jobs a | inr b ↦ bad.bad b ]
-    ]
+-- the cause of an answer, or this one
+abbrev why_or : BadTrace → Result (List Job) BadTrace → BadTrace
+why_or other (Ok jobs) = other
+why_or other (Err why) = why
 
-same_bad_line : (seats : ℕ) (bytes : List ℕ) (m n : ℕ) → seats < 256 → IsFirstBadLine seats bytes m → IsFirstBadLine seats bytes n → m ≡ n
-same_bad_line seats bytes m n small one other =
-    elim (compared seats [] one.before other.before one.rest other.rest small one.good other.good (sym one.split ∙ other.split)) [
-      | inl all ↦ one.place ∙ ap (λ (jobs : List Job). length jobs + 1) all.0 ∙ sym other.place
-      | inr on ↦ elim on [ inl a ↦ absurd (one.bad a) | inr b ↦ absurd (other.bad b) ]
-    ]
+find_call : (much : Bool) (seats : ℕ) (line : List ℕ) (lines : List (List ℕ)) (at : ℕ) (jobs : List Job) (why : BadTrace) (call : SeatCall)
+    → ((more : List Job) → reading_from seats lines (at + 1) more ≡ Err why → FoundBad seats lines (at + 1) more why)
+    → nat_lt reads_limit (read_total jobs + read_length call.op) ≡ much → line_call seats at (fields_of line) ≡ Ok (Some call)
+    → (if much then Err (TooMuch at) else reading_from seats lines (at + 1) (jobs ++ job_after jobs at call ∷ [])) ≡ Err why → FoundBad seats (line ∷ lines) at jobs why
+find_call true seats line lines at jobs why call deeper test is answer =
+    found_here seats line lines at jobs why (ap (after_line Ok jobs at) is ∙ too_much (nat_lt reads_limit (read_total jobs + read_length call.op)) at (Ok (jobs ++ job_after jobs at call ∷ [])) test ∙ answer)
+find_call false seats line lines at jobs why call deeper test is answer =
+    found_behind seats line lines at jobs (jobs ++ job_after jobs at call ∷ []) why
+    (λ rest. ap (after_line (reading_from seats rest (at + 1)) jobs at) is ∙ more_jobs (nat_lt reads_limit (read_total jobs + read_length call.op)) (reading_from seats rest (at + 1)) at (jobs ++ job_after jobs at call ∷ []) test)
+    (deeper (jobs ++ job_after jobs at call ∷ []) answer)
 
-same_trace : (seats : ℕ) (a b : List Job) → seats < 256 → IsTrace seats a → IsTrace seats b → trace_text a ≡ trace_text b → a ≡ b
-same_trace seats a b small good other text =
-    elim (compared seats [] a b [] [] small good other (ap (λ (xs : List ℕ). xs ++ []) text)) [
-      | inl all ↦ all.0
-      | inr on ↦ elim on [ inl x ↦ absurd (ended seats a x) | inr y ↦ absurd (ended seats b y) ]
-    ]
+find_line : (seats : ℕ) (line : List ℕ) (lines : List (List ℕ)) (at : ℕ) (jobs : List Job) (why : BadTrace) (asked : Result (Option SeatCall) BadTrace)
+    → ((more : List Job) → reading_from seats lines (at + 1) more ≡ Err why → FoundBad seats lines (at + 1) more why)
+    → line_call seats at (fields_of line) ≡ asked → after_line (reading_from seats lines (at + 1)) jobs at asked ≡ Err why → FoundBad seats (line ∷ lines) at jobs why
+find_line seats line lines at jobs why (Err cause) deeper is answer = found_here seats line lines at jobs why (ap (after_line Ok jobs at) is ∙ answer)
+find_line seats line lines at jobs why (Ok None) deeper is answer =
+    found_behind seats line lines at jobs jobs why (λ rest. ap (after_line (reading_from seats rest (at + 1)) jobs at) is) (deeper jobs answer)
+find_line seats line lines at jobs why (Ok (Some call)) deeper is answer =
+    find_call (nat_lt reads_limit (read_total jobs + read_length call.op)) seats line lines at jobs why call deeper refl is answer
 
-pub one_reading : (seats : ℕ) (bytes : List ℕ) (one other : Result (List Job) BadTrace) → seats < 256 → ReadsTrace seats bytes one → ReadsTrace seats bytes other → one ≡ other
-one_reading seats bytes (Ok a) (Ok b) small x y = ap Ok (same_trace seats a b small x.1 y.1 (sym x.2 ∙ y.2))
-one_reading seats bytes (Ok a) (Err (BadLine n)) small x y = absurd (no_bad_line seats bytes a n small x.1 x.2 y.1)
-one_reading seats bytes (Ok a) (Err TooLong) small x y = absurd (omega (arith, x.0, y))
-one_reading seats bytes (Ok a) (Err (BadSeat n seat)) small x y = absurd y
-one_reading seats bytes (Ok a) (Err (BadNumber n)) small x y = absurd y
-one_reading seats bytes (Ok a) (Err (BadHex n)) small x y = absurd y
-one_reading seats bytes (Ok a) (Err (TooMuch n)) small x y = absurd y
-one_reading seats bytes (Err (BadLine m)) (Ok b) small x y = absurd (no_bad_line seats bytes b m small y.1 y.2 x.1)
-one_reading seats bytes (Err (BadLine m)) (Err (BadLine n)) small x y = ap (λ (k : ℕ). Err (BadLine k)) (same_bad_line seats bytes m n small x.1 y.1)
-one_reading seats bytes (Err (BadLine m)) (Err TooLong) small x y = absurd (omega (arith, x.0, y))
-one_reading seats bytes (Err (BadLine m)) (Err (BadSeat n seat)) small x y = absurd y
-one_reading seats bytes (Err (BadLine m)) (Err (BadNumber n)) small x y = absurd y
-one_reading seats bytes (Err (BadLine m)) (Err (BadHex n)) small x y = absurd y
-one_reading seats bytes (Err (BadLine m)) (Err (TooMuch n)) small x y = absurd y
-one_reading seats bytes (Err TooLong) (Ok b) small x y = absurd (omega (arith, y.0, x))
-one_reading seats bytes (Err TooLong) (Err (BadLine n)) small x y = absurd (omega (arith, y.0, x))
-one_reading seats bytes (Err TooLong) (Err TooLong) small x y = refl
-one_reading seats bytes (Err TooLong) (Err (BadSeat n seat)) small x y = absurd y
-one_reading seats bytes (Err TooLong) (Err (BadNumber n)) small x y = absurd y
-one_reading seats bytes (Err TooLong) (Err (BadHex n)) small x y = absurd y
-one_reading seats bytes (Err TooLong) (Err (TooMuch n)) small x y = absurd y
-one_reading seats bytes (Err (BadSeat m seat)) other small x y = absurd x
-one_reading seats bytes (Err (BadNumber m)) other small x y = absurd x
-one_reading seats bytes (Err (BadHex m)) other small x y = absurd x
-one_reading seats bytes (Err (TooMuch m)) other small x y = absurd x
+find : (seats : ℕ) (lines : List (List ℕ)) (at : ℕ) (jobs : List Job) (why : BadTrace) → reading_from seats lines at jobs ≡ Err why → FoundBad seats lines at jobs why
+find seats [] at jobs why answer = cc answer
+find seats (line ∷ lines) at jobs why answer =
+    find_line seats line lines at jobs why (line_call seats at (fields_of line)) (λ more. λ later. find seats lines (at + 1) more why later) refl answer
+
+first_of_found : (seats : ℕ) (lines : List (List ℕ)) (why : BadTrace) → FoundBad seats lines 1 [] why → IsFirstBad seats lines why
+first_of_found seats lines why found =
+    let place = found.place_is in
+    let at : found.place ≡ length found.before + 1 = omega arith in
+    record {
+      before = found.before;
+      bad = found.bad;
+      after = found.after;
+      split = found.split;
+      jobs = found.read;
+      good = found.good;
+      refused = ap (λ (n : ℕ). after_line Ok found.read n (line_call seats n (fields_of found.bad))) (sym at) ∙ found.refused;
+    }
+
+not_long : (long : Bool) (seats : ℕ) (bytes : List ℕ) (why : BadTrace) → why ≢ TooLong → (if long then Err TooLong else reading_from seats (lines_of bytes) 1 []) ≡ Err why → reading_from seats (lines_of bytes) 1 [] ≡ Err why
+not_long true seats bytes why other answer = absurd (other (sym (ap (why_or why) answer)))
+not_long false seats bytes why other answer = answer
+
+pub first_is_refused : (seats : ℕ) (bytes : List ℕ) (why : BadTrace) → why ≢ TooLong → ReadsTrace seats bytes (Err why) → IsFirstBad seats (lines_of bytes) why
+first_is_refused seats bytes why other answer =
+    first_of_found seats (lines_of bytes) why (find seats (lines_of bytes) 1 [] why (not_long (nat_lt trace_limit (length bytes)) seats bytes why other answer))

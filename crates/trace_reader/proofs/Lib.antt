@@ -1,6 +1,9 @@
-pub mod NumberLemmas
-pub mod BytesLemmas
 pub mod LineLemmas
-pub mod FrontLemmas
+pub mod DigitLemmas
+pub mod CallLemmas
 pub mod TraceLemmas
+pub mod PrintLemmas
 pub mod LawLemmas
+pub mod TurnLemmas
+pub mod LengthLemmas
+pub mod GeneratorLemmas

@@ -1,7 +1,10 @@
 pub mod TraceText
 pub mod Trace
-pub mod Fronts
+pub mod Lines
+pub mod Calls
+pub mod Texts
 pub mod Reading
 pub mod RefusalText
+pub mod Generator
 pub mod Laws
 pub mod Rows

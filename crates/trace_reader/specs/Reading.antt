@@ -1,11 +1,13 @@
--- What reading a trace answers: the jobs whose printed text it is, or the first line at which it is no such text.
-use Rattle.std.specs.Prelude.{ℕ, ◌+◌, ◌≡◌, ◌<◌, ◌≤◌, List, ◌++◌, length, slice_index, Result, Ok, Err}
+-- What reading a trace answers: the jobs that its lines ask, or the first line that is bad and why.
+use Rattle.std.specs.Prelude.{ℕ, ◌+◌, ◌≡◌, ◌<◌, ◌≤◌, nat_lt, if◌then◌else◌, List, [], ◌∷◌, ◌++◌, length, slice_index, Option, Some, None, Result, Ok, Err}
 use Rattle.log_entry.specs.OfTrace.{asked_for}
 use Rattle.log_entry.specs.declared.calls.Job.{Job}
-use Rattle.trace_reader.specs.TraceText.{line_text, trace_text}
-use Rattle.trace_reader.specs.Trace.{Follows, IsTrace, read_total}
+use Rattle.trace_reader.specs.Lines.{lines_of, fields_of}
+use Rattle.trace_reader.specs.Calls.{line_call}
+use Rattle.trace_reader.specs.Trace.{IsTrace, read_length, read_total}
+use Rattle.trace_reader.specs.declared.lines.SeatCall.{SeatCall}
 use Rattle.trace_reader.specs.declared.refusals.BadTrace.{BadTrace}
-use Rattle.trace_reader.specs.declared.refusals.BadTrace.TheVariants.{BadLine, BadSeat, BadNumber, BadHex, TooMuch, TooLong}
+use Rattle.trace_reader.specs.declared.refusals.BadTrace.TheVariants.{TooMuch, TooLong}
 use Rattle.trace_reader.specs.declared.refusals.TraceRefusal.{TraceRefusal}
 use Rattle.trace_reader.specs.declared.refusals.TraceRefusal.TheVariants.{Bad, NoMemory}
 
@@ -13,41 +15,47 @@ use Rattle.trace_reader.specs.declared.refusals.TraceRefusal.TheVariants.{Bad, N
 abbrev pub trace_limit : ℕ
 trace_limit = 67108864
 
--- a text that begins with the line of a job that may follow these
-abbrev pub GoesOn : ℕ → List Job → List ℕ → Type 0
-GoesOn seats before text = (job : Job) × (rest : List ℕ) × Follows seats before job × (text ≡ line_text job ++ rest)
+-- the most bytes that all calls of a trace may read
+abbrev pub reads_limit : ℕ
+reads_limit = 268435456
 
--- the line is the first that is not the line of a job that may stand there
-pub record IsFirstBadLine (seats : ℕ) (bytes : List ℕ) (line : ℕ) : Type 0 where
-  pub before : List Job
-  pub rest : List ℕ
-  pub good : IsTrace seats before
-  pub split : bytes ≡ trace_text before ++ rest
-  pub place : line ≡ length before + 1
-  pub some : 0 < length rest
-  pub bad : GoesOn seats before rest → ⊥
+-- a call that the line of this number asks, as a job after these
+abbrev pub job_after : List Job → ℕ → SeatCall → Job
+job_after before at call = record { line = at; seat = call.seat; number = length (asked_for call.seat before) + 1; op = call.op }
+
+-- how reading goes on after a line: with the same jobs, or with one more, or not at all. All reads together are looked at last
+abbrev pub after_line : (List Job → Result (List Job) BadTrace) → List Job → ℕ → Result (Option SeatCall) BadTrace → Result (List Job) BadTrace
+after_line on before at (Err why) = Err why
+after_line on before at (Ok None) = on before
+after_line on before at (Ok (Some call)) =
+    if nat_lt reads_limit (read_total before + read_length call.op) then Err (TooMuch at) else on (before ++ job_after before at call ∷ [])
+
+-- what lines come to after these jobs, the first of them being the line of this number
+abbrev pub reading_from : ℕ → List (List ℕ) → ℕ → List Job → Result (List Job) BadTrace
+reading_from seats [] at before = Ok before
+reading_from seats (line ∷ lines) at before = after_line (reading_from seats lines (at + 1)) before at (line_call seats at (fields_of line))
+
+-- what a text comes to
+abbrev pub reading_of : ℕ → List ℕ → Result (List Job) BadTrace
+reading_of seats bytes = if nat_lt trace_limit (length bytes) then Err TooLong else reading_from seats (lines_of bytes) 1 []
 
 -- the answer for these bytes and so many seats
 abbrev pub ReadsTrace : ℕ → List ℕ → Result (List Job) BadTrace → Type 0
-ReadsTrace seats bytes (Ok jobs) = (length bytes ≤ trace_limit) × IsTrace seats jobs × (bytes ≡ trace_text jobs)
-ReadsTrace seats bytes (Err (BadLine line)) = (length bytes ≤ trace_limit) × IsFirstBadLine seats bytes line
-ReadsTrace seats bytes (Err TooLong) = trace_limit < length bytes
-ReadsTrace seats bytes (Err (BadSeat line seat)) = ⊥
-ReadsTrace seats bytes (Err (BadNumber line)) = ⊥
-ReadsTrace seats bytes (Err (BadHex line)) = ⊥
-ReadsTrace seats bytes (Err (TooMuch line)) = ⊥
+ReadsTrace seats bytes answer = reading_of seats bytes ≡ answer
 
 -- why these bytes gave no jobs; want of memory may come at any
 abbrev pub RefusesTrace : ℕ → List ℕ → TraceRefusal → Type 0
 RefusesTrace seats bytes (Bad why) = ReadsTrace seats bytes (Err why)
 RefusesTrace seats bytes NoMemory = Unit {0}
 
--- how far a reader has come: the jobs so far, how many calls each seat has, how many bytes they read, and the text that is left
-pub record IsReadSoFar (seats : ℕ) (bytes : List ℕ) (jobs : List Job) (counts : List ℕ) (sum : ℕ) (rest : List ℕ) : Type 0 where
-  pub short : length bytes ≤ trace_limit
+-- how far a reader has come: the jobs so far, how many calls each seat has, how many bytes they read, the number of the next line,
+-- and the text that is left
+pub record IsReadSoFar (seats : ℕ) (bytes : List ℕ) (jobs : List Job) (counts : List ℕ) (sum line : ℕ) (rest : List ℕ) : Type 0 where
+  pub goes : reading_of seats bytes ≡ reading_from seats (lines_of rest) line jobs
   pub good : IsTrace seats jobs
-  pub split : bytes ≡ trace_text jobs ++ rest
   pub seated : length counts ≡ seats
   pub counted : (seat : ℕ) → seat < seats → slice_index counts seat ≡ length (asked_for seat jobs)
   pub read : sum ≡ read_total jobs
-  pub few : sum ≤ 268435456
+  pub few : sum ≤ reads_limit
+  pub short : line + length rest ≤ trace_limit + 1
+  pub fewer : length jobs < line

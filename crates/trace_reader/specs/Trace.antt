@@ -5,14 +5,14 @@ use Rattle.log_entry.specs.declared.calls.Op.{Op}
 use Rattle.log_entry.specs.declared.calls.Op.TheVariants.{Pwrite, Append, Pread, Size, Sync, Collect}
 use Rattle.log_entry.specs.declared.calls.Job.{Job}
 
--- the calls that are read so far: a `pwrite` of bytes, and a `pread` of at most 1,048,576 bytes; both with a 64-bit offset
+-- the calls that a line may ask: offsets are below 2^64, and a read is of at most 1,048,576 bytes
 abbrev pub IsReadable : Op → Type 0
 IsReadable (Pwrite offset bytes) = (offset < 2 ^ 64) × All (λ byte. byte < 256) bytes
+IsReadable (Append bytes) = All (λ byte. byte < 256) bytes
 IsReadable (Pread offset count) = (offset < 2 ^ 64) × (count ≤ 1048576)
-IsReadable (Append bytes) = ⊥
-IsReadable Size = ⊥
-IsReadable Sync = ⊥
-IsReadable Collect = ⊥
+IsReadable Size = Unit {0}
+IsReadable Sync = Unit {0}
+IsReadable Collect = Unit {0}
 
 -- how many bytes a call asks to read
 abbrev pub read_length : Op → ℕ
@@ -28,9 +28,8 @@ abbrev pub read_total : List Job → ℕ
 read_total [] = 0
 read_total (job ∷ jobs) = read_length job.op + read_total jobs
 
--- a job that may follow these: on the next line, of a seat below `seats`, with the next number of its seat
+-- a job that may follow these: of a seat below `seats`, with the next number of its seat
 pub record Follows (seats : ℕ) (before : List Job) (job : Job) : Type 0 where
-  pub line : job.line ≡ length before + 1
   pub seat : job.seat < seats
   pub number : job.number ≡ length (asked_for job.seat before) + 1
   pub readable : IsReadable job.op
@@ -44,3 +43,8 @@ AllFollow seats before (job ∷ jobs) = Follows seats before job × AllFollow se
 -- the jobs of a trace
 abbrev pub IsTrace : ℕ → List Job → Type 0
 IsTrace seats jobs = AllFollow seats [] jobs
+
+-- the jobs stand on lines without a gap, from this one on
+abbrev pub OnLinesFrom : ℕ → List Job → Type 0
+OnLinesFrom at [] = Unit {0}
+OnLinesFrom at (job ∷ jobs) = (job.line ≡ at) × OnLinesFrom (at + 1) jobs

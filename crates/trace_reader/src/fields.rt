@@ -1,106 +1,69 @@
-//! The fields of a line, each taken off the front of a text.
+//! The lines of a text, and the fields of a line.
 
-ghost use Rattle.std.specs.Prelude.{◌≡◌, ◌↔◌, ◌<◌, ◌++◌, ℕ, List, false, length, slice_index, IsTrue, MatchOption, IfOk};
-ghost use Rattle.std.specs.Char.{is_ascii_digit, is_ascii_uppercase};
-ghost use Rattle.std.specs.List.{list_any};
-ghost use Rattle.trace_reader.specs.Fronts.{DigitsFront, NumberFront, LineFront, IsBytesText};
+ghost use Rattle.std.specs.Prelude.{◌≡◌, ◌<◌, ◌≤◌, ◌⊎◌, ◌∷◌, [], length, slice_index, false, MatchOption};
+ghost use Rattle.trace_reader.specs.Lines.{lines_of, fields_of, is_blank as is_blank_byte, without_return as said_of};
 
-use hex::FromHexError;
-use log_entry::Blob;
-use log_entry::text::read_number;
-use memchr::memchr;
-use std::alloc::{AllocError, Global};
+use memchr::{memchr, memchr2};
 
-/// The digits at the front of a text, and the rest.
-fn split_digits(text: &[u8]) -> (&[u8], &[u8])
-    ensures { DigitsFront text.now result.0.now result.1.now }
-{
-    for (count, byte) in text.iter().enumerate() {
-        if !byte.is_ascii_digit() {
-            return text.split_at(count);
-        }
-    }
-    text.split_at(text.len())
-}
-
-/// The number below 2 ^ 64 at the front of a text, without leading zeros and with the byte `end` behind it, and what follows that byte.
-pub fn number_before(text: &[u8], end: u8) -> Option<(u64, &[u8])>
-    requires { is_ascii_digit end ≡ false }
-    ensures { MatchOption result
-        ((number : ℕ) (rest : List ℕ) → NumberFront end text.now number rest → ⊥)
-        (λ found. NumberFront end text.now found.0 found.1.now) }
-{
-    let (digits, behind) = split_digits(text);
-    if has_leading_zero(digits) {
-        return None;
-    }
-    let Some(number) = read_number(digits) else {
-        return None;
-    };
-    let Some(rest) = after(behind, &[end]) else {
-        return None;
-    };
-    Some((number, rest))
-}
-
-/// Whether a text of more than one byte begins with a zero.
-fn has_leading_zero(digits: &[u8]) -> bool
-    ensures { IsTrue result ↔ ((1 < length digits.now) × (slice_index digits.now 0 ≡ 48)) }
-{
-    digits.len() > 1 && digits[0] == b'0'
-}
-
-/// What follows these bytes, where a text begins with them.
-pub fn after<'a>(text: &'a [u8], front: &[u8]) -> Option<&'a [u8]>
-    ensures { MatchOption result
-        ((rest : List ℕ) → text.now ≡ front.now ++ rest → ⊥)
-        (λ rest. text.now ≡ front.now ++ rest.now) }
-{
-    if text.len() < front.len() {
-        return None;
-    }
-    let (head, rest) = text.split_at(front.len());
-    if head == front { Some(rest) } else { None }
-}
-
-/// What stands before the first newline of a text, and what follows it.
-pub fn split_line(text: &[u8]) -> Option<(&[u8], &[u8])>
-    ensures { MatchOption result
-        ((line rest : List ℕ) → LineFront text.now line rest → ⊥)
-        (λ found. LineFront text.now found.0.now found.1.now) }
+/// The first line of a text that has bytes, without its end, and what follows it.
+pub fn split_line(text: &[u8]) -> (&[u8], &[u8])
+    requires { 0 < length text.now }
+    ensures lines { lines_of text.now ≡ result.0.now ∷ lines_of result.1.now }
+    ensures shorter { length result.1.now < length text.now }
 {
     let Some(end) = memchr(b'\n', text) else {
-        return None;
+        return text.split_at(text.len());
     };
     let (line, _) = text.split_at(end);
     let (_, rest) = text.split_at(end + 1);
-    Some((line, rest))
+    (without_return(line), rest)
 }
 
-/// The bytes that a text is: two lower-case hexadecimal digits each, or a dash for none. Only want of memory refuses a text that is one.
-pub fn read_bytes(alloc: Global, text: &[u8]) -> Result<Option<Blob>, AllocError>
-    ensures { IfOk result (λ found. MatchOption found
-        ((bytes : List ℕ) → IsBytesText text.now bytes → ⊥)
-        (λ blob. IsBytesText text.now blob)) }
+/// A line without the carriage return at its end, if one is there.
+fn without_return(line: &[u8]) -> &[u8]
+    ensures { result.now ≡ said_of line.now }
 {
-    if text == b"-".as_slice() {
-        return Ok(Some(Blob::new(Vec::new(alloc))));
+    if line.is_empty() || line[line.len() - 1] != b'\r' {
+        return line;
     }
-    if text.is_empty() || has_upper_case(text) {
-        return Ok(None);
-    }
-    match hex::decode(alloc, text) {
-        Ok(bytes) => Ok(Some(Blob::new(bytes))),
-        Err(why) => match why {
-            FromHexError::OutOfMemory => Err(AllocError),
-            _ => Ok(None),
-        },
-    }
+    let (said, _) = line.split_at(line.len() - 1);
+    said
 }
 
-/// Whether a text has a letter of upper case.
-fn has_upper_case(text: &[u8]) -> bool
-    ensures { result ≡ list_any is_ascii_uppercase text.now }
+/// The first field of a line, and what follows it. None where only blanks are left.
+pub fn next_field(text: &[u8]) -> Option<(&[u8], &[u8])>
+    ensures { MatchOption result
+        (fields_of text.now ≡ [])
+        (λ found. (fields_of text.now ≡ found.0.now ∷ fields_of found.1.now) × (0 < length found.0.now)) }
 {
-    text.iter().any(|byte| byte.is_ascii_uppercase())
+    let text = skip_blanks(text);
+    if text.is_empty() {
+        return None;
+    }
+    let Some(end) = memchr2(b' ', b'\t', text) else {
+        return Some(text.split_at(text.len()));
+    };
+    Some(text.split_at(end))
+}
+
+/// A text without the blanks at its front.
+fn skip_blanks(text: &[u8]) -> &[u8]
+    ensures same { fields_of result.now ≡ fields_of text.now }
+    ensures field { (length result.now ≡ 0) ⊎ (is_blank_byte (slice_index result.now 0) ≡ false) }
+{
+    for (count, byte) in text.iter().enumerate() {
+        if !is_blank(*byte) {
+            let (_, rest) = text.split_at(count);
+            return rest;
+        }
+    }
+    let (_, rest) = text.split_at(text.len());
+    rest
+}
+
+/// Whether a byte stands between fields: a space or a tab.
+fn is_blank(byte: u8) -> bool
+    ensures { result ≡ is_blank_byte byte }
+{
+    byte == b' ' || byte == b'\t'
 }

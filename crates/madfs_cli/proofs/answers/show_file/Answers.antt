@@ -6,7 +6,7 @@ use Rattle.madfs_cli.proofs.OutcomeLemmas.{not_made_outcome, image_not_made, not
 use Rattle.madfs_cli.proofs.answers.show_file.Goals as goal
 
 pub returns-in-Err-clause-outcome : goal.returns-in-Err-clause-outcome
-returns-in-Err-clause-outcome g c = λ trace fresh same. not_made_outcome c.law_readings.ensures.one_reading ShowFile _ c.in-Err.status (image_not_made _ trace c.in-Err.status c.in-Err.ensures.refused) (refl, same)
+returns-in-Err-clause-outcome g c = λ trace fresh same. not_made_outcome ShowFile _ c.in-Err.status (image_not_made _ trace c.in-Err.status c.in-Err.ensures.refused) (refl, same)
 
 pub returns-in-Ok-write_file-clause-outcome : goal.returns-in-Ok-write_file-clause-outcome
 returns-in-Ok-write_file-clause-outcome g c = λ trace fresh same.

@@ -10,7 +10,7 @@ returns-in-Ok-clause-outcome g c =
     (made_outcome (made_request c.in-Make.making) _ c.in-Ok.output.text.items c.in-Ok.output.image.items c.write_output.result c.in-Ok.ensures.made c.in-Ok.ensures.no_image c.in-Ok.ensures.image_good c.in-Ok.ensures.trace_good c.write_output.ensures.ends)
 
 pub returns-in-Err-clause-outcome : goal.returns-in-Err-clause-outcome
-returns-in-Err-clause-outcome g c = rw c.in-Make.is (not_made_outcome c.law_readings.ensures.one_reading (made_request c.in-Make.making) _ c.in-Err.status c.in-Err.ensures.refused (refl, refl))
+returns-in-Err-clause-outcome g c = rw c.in-Make.is (not_made_outcome (made_request c.in-Make.making) _ c.in-Err.status c.in-Err.ensures.refused (refl, refl))
 
 pub returns-in-Cat-clause-outcome : goal.returns-in-Cat-clause-outcome
 returns-in-Cat-clause-outcome g c = rw c.in-Cat.is (c.show_file.ensures.outcome _ _ refl)
