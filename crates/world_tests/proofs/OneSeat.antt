@@ -191,7 +191,7 @@ may_walk o seat s g out t h v number may left = record {
     calling = subst (λ (x : Seat). IsFree g x.calling) (sym left.left) may.free
 
 -- a write of whole blocks makes steps
-makes_steps : (block_bytes offset : ℕ) (bytes : List ℕ) → FillsBlocks block_bytes offset (length bytes) → is_quiet block_bytes (PwriteOp offset bytes) ≡ false
+pub makes_steps : (block_bytes offset : ℕ) (bytes : List ℕ) → FillsBlocks block_bytes offset (length bytes) → is_quiet block_bytes (PwriteOp offset bytes) ≡ false
 makes_steps block_bytes offset [] fills = absurd (let some = fills.some in let whole = fills.whole in none block_bytes whole some)
   where
     none : (b : ℕ) → 0 ≡ 0 / b * b → 0 < 0 / b → ⊥

@@ -19,7 +19,12 @@ use Rattle.log_blocks.proofs.WalkServes.{walks_within}
 use Rattle.write_any.specs.Composing.{IsWhole}
 use Rattle.write_any.specs.WriteWithin.{MayWrite}
 use Rattle.world_tests.specs.OneSeat.{MayPinAndWalk, MayWalkAndWrite}
-use Rattle.world_tests.proofs.OneSeat.{none_put, may_walk}
+use Rattle.asks.specs.SharedWords.{SharedWords}
+use Rattle.pmem_words.specs.Courses.{over}
+use Rattle.pmem_words.specs.Drives.{Ends}
+use Rattle.pmem_words.specs.PlainWords.{plain}
+use Rattle.log_core.specs.Alone.{IsAlone}
+use Rattle.world_tests.proofs.OneSeat.{none_put, may_walk, next_alone}
 
 -- the seat but for its pin, its walk, and what a walk may note
 abbrev IsWalkedOn : Seat → Seat → Type 0
@@ -84,3 +89,13 @@ module _ (offset : ℕ) (o : Origin) (seat : ℕ) (s : Seat) (g : Ghost) (t : Se
 pub walks_to_write : (offset : ℕ) → Promises walk_script (MayWalkAndWrite offset) (λ o seat s g out t h. HasWalkedOn s g out t h) BeginWalk
 walks_to_write offset o start seat number rest s v linked = walks_within o start seat number rest s v
     (record { unspent = linked.unspent; begins = linked.begins; number_is = linked.number_is; done = linked.done; fits = linked.fits.walk })
+
+-- over a plain memory
+module _ (offset : ℕ) (s : Seat) (p : SharedWords) where
+  pub pinned_alone : (head : Head) (t : Seat) (q : SharedWords) → ∥ IsAlone (MayWrite offset) s p ∥₁ → Ends pin_script (over pin_script plain) BeginPin s p head t q → ∥ IsAlone (MayWalkAndWrite offset) t q ∥₁
+  pinned_alone head t q alone ends = next_alone pin_script (MayWrite offset) HasPinned BeginPin (pins_to_write offset) s p (MayWalkAndWrite offset) head t q
+      (λ o seat g h v number may left same. pinned_to_write offset o seat s g t h v number head may left) alone ends
+
+  pub walked_alone : (tail : Tail) (t : Seat) (q : SharedWords) → ∥ IsAlone (MayWalkAndWrite offset) s p ∥₁ → Ends walk_script (over walk_script plain) BeginWalk s p tail t q → ∥ IsAlone (MayWrite offset) t q ∥₁
+  walked_alone tail t q alone ends = next_alone walk_script (MayWalkAndWrite offset) (λ o seat s g out t h. HasWalkedOn s g out t h) BeginWalk (walks_to_write offset) s p (MayWrite offset) tail t q
+      (λ o seat g h v number may left same. walked_to_write offset o seat s g t h v number tail may left) alone ends
