@@ -8,6 +8,7 @@ mod blocks;
 mod cells;
 mod closed;
 mod world;
+mod writes;
 
 use blocks::{fills, passes};
 use cells::drawn_steps;
@@ -18,6 +19,7 @@ use sample_machines::carry_alone;
 use std::alloc::{AllocError, Global};
 use std::io;
 use world::world_steps;
+use writes::{Rounds, Work, rounds_of};
 
 /// How many words one round carries.
 const CARRIED: u16 = 32_768;
@@ -134,11 +136,37 @@ fn answer(alloc: Global, line: &str) -> Result<u64, AllocError> {
     }
 }
 
+/// Does what a line asks whose rounds are timed one by one: `parts`, `steps`, `turns` or `walk` and a number of rounds. None for another line.
+fn timed(rt: &HostRuntime, line: &str) -> io::Result<Option<Rounds>> {
+    let (work, rounds) = match line.split_once(' ') {
+        Some(("parts", rounds)) => (Work::Parts, rounds),
+        Some(("steps", rounds)) => (Work::Steps, rounds),
+        Some(("turns", rounds)) => (Work::Turns, rounds),
+        Some(("walk", rounds)) => (Work::Walk, rounds),
+        _ => return Ok(None),
+    };
+    match rounds.parse::<u32>() {
+        Ok(rounds) => Ok(Some(rounds_of(rt, work, rounds)?)),
+        Err(_) => Ok(None),
+    }
+}
+
 fn main(rt: HostRuntime) -> io::Result<()> {
     for line in rt.lines(rt.alloc()) {
         let line = line?;
-        let sum = answer(rt.alloc(), line.as_str())?;
-        println!(rt; "{line}: {sum}")?;
+        match timed(&rt, line.as_str())? {
+            Some(rounds) => {
+                print!(rt; "{line}: {}", rounds.sum)?;
+                for took in rounds.times.iter() {
+                    print!(rt; " {took}")?;
+                }
+                println!(rt; "")?;
+            }
+            None => {
+                let sum = answer(rt.alloc(), line.as_str())?;
+                println!(rt; "{line}: {sum}")?;
+            }
+        }
     }
     Ok(())
 }
