@@ -1,13 +1,13 @@
 //! A seat writes a block to a just-made image, and walks over a full log, alone over a plain memory; and it writes one in a world. What lays the image
 //! and the seat is not timed.
 
-ghost use Rattle.std.specs.Prelude.{◌≡◌, ◌≤◌, [], length, IfOk};
-ghost use Rattle.crash_model.specs.Led.{IsResting};
+ghost use Rattle.std.specs.Prelude.{◌≡◌, ◌≤◌, ℕ, List, length, IfOk};
+ghost use Rattle.crash_model.specs.Led.{IsResting, HasNoMarks};
 ghost use Rattle.crash_model.specs.Worlds.{seat_of};
 ghost use Rattle.drive_bench.specs.declared.writes.TheConstants.{TURNS};
-ghost use Rattle.world_tests.specs.AloneSeats.{AreAlone};
 ghost use Rattle.log_core.specs.Alone.{IsAlone};
 ghost use Rattle.write_any.specs.WriteWithin.{MayWrite};
+ghost use Rattle.world_tests.specs.WriteSeats.{MayBeginWrite};
 
 use crash_model::{Choice, World};
 use image_tools::mkfs;
@@ -20,7 +20,8 @@ use std::time::Clock;
 use world_tests::one_seat::{
     alone_on, pin_alone, walk_alone, walk_before, write_by_parts, write_by_steps, writing_on,
 };
-use world_tests::write_turns::{begin_write, write_in};
+use world_tests::pair_turns::Resting;
+use world_tests::write_turns::{begin_write, end_write};
 
 /// Words of a block, and slots of a log block, which has three words before them.
 const BLOCK: u32 = 512;
@@ -33,7 +34,7 @@ const ENTRIES: u32 = 65_000;
 const LOG_BLOCKS: u32 = 128;
 
 /// More turns than a write takes.
-const TURNS: u32 = 2_000;
+const TURNS: u16 = 2_000;
 
 /// What is done in each round.
 #[derive(Clone, Copy)]
@@ -74,7 +75,8 @@ fn ready_to_write(alloc: Global, geometry: Geometry) -> Result<(SeatState, Plain
     ensures { IfOk result (λ made. ∥ IsAlone (MayWrite 0) made.0 made.1 ∥₁) }
 {
     let start = mkfs(alloc, geometry)?;
-    let (mut seat, mut memory) = writing_on(alloc, start, 0, &[7; 4096])?;
+    let bytes = vec![in alloc; 7u8; 4096]?;
+    let (mut seat, mut memory) = writing_on(alloc, start, 0, &bytes)?;
     walk_before(&mut seat, &mut memory, 0);
     Ok((seat, memory))
 }
@@ -102,10 +104,8 @@ fn one_seat_world(alloc: Global, geometry: Geometry) -> Result<World, AllocError
     ensures resting { IfOk result (λ world. IsResting world) }
     ensures room { IfOk result (λ world. TURNS ≤ world.cells.room) }
     ensures many { IfOk result (λ world. length world.seats ≡ 1) }
-    ensures alone { IfOk result (λ world. AreAlone world) }
-    ensures owned { IfOk result (λ world. (seat_of world 0).blocks.owned ≡ []) }
-    ensures contents { IfOk result (λ world. (seat_of world 0).blocks.contents ≡ []) }
-    ensures bytes { IfOk result (λ world. (seat_of world 0).geometry.block_bytes ≡ 4096) }
+    ensures may { IfOk result (λ world. (bytes : List ℕ) → length bytes ≡ 4096 → MayBeginWrite 0 bytes 0 (seat_of world 0)) }
+    ensures no_marks { IfOk result (λ world. HasNoMarks world 0) }
 {
     let start = mkfs(alloc, geometry)?;
     let mut world = World::new(alloc, start, 1)?;
@@ -119,9 +119,10 @@ fn turns_once(rt: &HostRuntime) -> io::Result<(u64, u64)> {
         return Ok((0, 0));
     };
     let mut world = one_seat_world(rt.alloc(), geometry)?;
-    let write = begin_write(&mut world, 0, 0, &[7; 4096]);
+    let bytes = vec![in rt.alloc(); 7u8; 4096]?;
+    let write = begin_write(&mut world, 0, 0, &bytes);
     let begun = nanoseconds(rt)?;
-    let ended = write_in(&mut world, 0, write, TURNS);
+    let ended = end_write(&mut world, 0, write, &Resting, TURNS);
     let took = since(rt, begun)?;
     let position = match ended {
         Ok(written) => written.position,

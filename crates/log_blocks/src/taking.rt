@@ -16,6 +16,7 @@ use log_entry::layouts::{
 use pmem_words::{KeptWord, SeatState, Task};
 
 /// The first block of the chain whose head was found last.
+#[inline]
 pub fn front_of(seat: &SeatState) -> u16
     ensures { result ≡ front seat.now }
 {
@@ -23,6 +24,7 @@ pub fn front_of(seat: &SeatState) -> u16
 }
 
 /// Keeps a word of a block. It needs a free place.
+#[inline]
 pub fn keep(seat: &mut SeatState, block: u16, slot: u16, word: u64)
     requires { length seat.old.walk.kept < kept_room seat.old.geometry }
     ensures { seat.new ≡ with_kept seat.old block slot word }
@@ -31,6 +33,7 @@ pub fn keep(seat: &mut SeatState, block: u16, slot: u16, word: u64)
 }
 
 /// Takes the kept table again, for a chain that begins at this position.
+#[inline(never)]
 pub fn keep_table(seat: &mut SeatState, base: u64)
     ensures { seat.new ≡ table_kept seat.old base }
 {
@@ -59,18 +62,29 @@ fn note_front(seat: &mut SeatState)
 }
 
 /// Notes `count` blocks from `first` on, where they are noted.
+#[inline(always)]
 pub fn note_run(seat: &mut SeatState, first: u16, count: u16)
     requires { first + count ≤ image_blocks seat.old.geometry }
     ensures { seat.new ≡ record seat.old { blocks = blocks_noted seat.old (range_with_len first count) } }
 {
     if seat.noting() {
-        for block in first..first + count {
-            seat.note(block);
-        }
+        note_each(seat, first, count);
+    }
+}
+
+/// The same one by one. Only a collection notes blocks, so this stands by itself, and other walks do not carry it.
+#[inline(never)]
+fn note_each(seat: &mut SeatState, first: u16, count: u16)
+    requires { first + count ≤ image_blocks seat.old.geometry }
+    ensures { seat.new ≡ record seat.old { blocks = blocks_noted seat.old (range_with_len first count) } }
+{
+    for block in first..first + count {
+        seat.note(block);
     }
 }
 
 /// Begins at the first log block of a chain without a snapshot.
+#[inline(never)]
 pub fn begin_log(seat: &mut SeatState, base: u64)
     requires { front seat.old < image_blocks seat.old.geometry }
     ensures { seat.new ≡ log_begun seat.old base }
@@ -91,6 +105,7 @@ pub fn begin_log(seat: &mut SeatState, base: u64)
 }
 
 /// Begins to read the snapshot of this position and size at the front of the chain.
+#[inline(never)]
 pub fn begin_snapshot(seat: &mut SeatState, base: u64, size: u64)
     requires { front seat.old < image_blocks seat.old.geometry }
     ensures { seat.new ≡ snapshot_begun seat.old base size }
@@ -111,6 +126,7 @@ pub fn begin_snapshot(seat: &mut SeatState, base: u64, size: u64)
 }
 
 /// Takes in an entry of a snapshot block.
+#[inline(never)]
 pub fn take_run(seat: &mut SeatState, word: u64)
     requires fits { IsTrue (fits (seat_shape seat.old) 256 (direct_meaning word)) }
     requires inside { seat.old.walk.reading_slot + 1 < 2 ^ 16 }
@@ -125,6 +141,7 @@ pub fn take_run(seat: &mut SeatState, word: u64)
 }
 
 /// Goes on to the next block of the snapshot.
+#[inline(never)]
 pub fn next_snapshot(seat: &mut SeatState, block: u16)
     requires place { seat.old.walk.reading_place + 1 < 2 ^ 16 }
     requires inside { block < image_blocks seat.old.geometry }
@@ -138,6 +155,7 @@ pub fn next_snapshot(seat: &mut SeatState, block: u16)
 }
 
 /// The snapshot was read whole, and this log block follows it.
+#[inline(never)]
 pub fn end_reading(seat: &mut SeatState, block: u16)
     requires { block < image_blocks seat.old.geometry }
     ensures { seat.new ≡ reading_ended seat.old block }
@@ -165,6 +183,7 @@ fn end_of_reading(seat: &mut SeatState)
 }
 
 /// Takes in the direct entry at the tail's slot.
+#[inline(always)]
 pub fn take_direct(seat: &mut SeatState, word: u64)
     requires fits { IsTrue (fits (seat_shape seat.old) 256 (direct_meaning word)) }
     requires room { HasRoom seat.old.walk }
@@ -180,6 +199,7 @@ pub fn take_direct(seat: &mut SeatState, word: u64)
 }
 
 /// Takes in the indirect entry at the tail's slot. The words of its block, this one, are kept behind its own.
+#[inline(never)]
 pub fn take_indirect(seat: &mut SeatState, block: u16)
     requires whole { length (kept_words seat.old) ≡ words_in (seat_shape seat.old) }
     requires runs { IsTrue (is_indirect_block (seat_shape seat.old) (kept_words seat.old)) }
@@ -206,6 +226,7 @@ pub fn take_indirect(seat: &mut SeatState, block: u16)
 
 /// The entry of these virtual blocks is in the table: the size and the tail go past it, and partly touched blocks that it
 /// touches are to be read again.
+#[inline(always)]
 fn pass_entry(seat: &mut SeatState, virt: u64, count: u64, leftover: u64)
     requires inside { virt + count ≤ 65536 }
     requires room { HasRoom seat.old.walk }
@@ -223,19 +244,31 @@ fn pass_entry(seat: &mut SeatState, virt: u64, count: u64, leftover: u64)
 }
 
 /// Drops the partly touched block at this place where it is one of these virtual blocks.
+#[inline(always)]
 fn drop_touched(seat: &mut SeatState, place: u8, virt: u64, count: u64)
     requires { virt + count ≤ 65536 }
     ensures { seat.new ≡ dropped virt count place seat.old }
 {
-    if let Some(base) = seat.bases().get(place as usize) {
-        let base = u64::from(*base);
-        if virt <= base && base < virt + count {
-            seat.drop_base(place);
-        }
+    if (place as usize) < seat.bases().len() {
+        drop_at(seat, place, virt, count);
+    }
+}
+
+/// The same where a block was touched partly. Most walks have none, and do not carry it.
+#[inline(never)]
+fn drop_at(seat: &mut SeatState, place: u8, virt: u64, count: u64)
+    requires inside { virt + count ≤ 65536 }
+    requires there { place < length seat.old.calling.bases }
+    ensures { seat.new ≡ dropped virt count place seat.old }
+{
+    let base = u64::from(seat.bases()[place as usize]);
+    if virt <= base && base < virt + count {
+        seat.drop_base(place);
     }
 }
 
 /// Goes over the seal at the tail's slot, to the end of its block.
+#[inline]
 pub fn take_seal(seat: &mut SeatState)
     ensures { seat.new ≡ seal_taken seat.old }
 {
@@ -244,6 +277,7 @@ pub fn take_seal(seat: &mut SeatState)
 }
 
 /// Follows the link at the end of the tail's block, to this block.
+#[inline]
 pub fn follow(seat: &mut SeatState, block: u16)
     requires { block < image_blocks seat.old.geometry }
     ensures { seat.new ≡ followed seat.old block }
@@ -256,6 +290,7 @@ pub fn follow(seat: &mut SeatState, block: u16)
 }
 
 /// The word at the tail was found empty.
+#[inline]
 pub fn find_tail(seat: &mut SeatState)
     ensures { seat.new ≡ tail_found seat.old }
 {

@@ -66,6 +66,7 @@ impl Walk {
     }
 
     /// Takes the second word of the chain's first block.
+    #[inline(never)]
     fn tell_front(&mut self, seat: &mut SeatState, answer: u64)
         requires begin { self.old ≡ Begin }
         requires room { length seat.old.walk.kept < kept_room seat.old.geometry }
@@ -86,6 +87,7 @@ impl Walk {
     }
 
     /// Takes the word at the tail of a seat that is ready.
+    #[inline(always)]
     fn tell_tail(&mut self, seat: &mut SeatState, answer: u64) -> Turn<Tail>
         requires begin { self.old ≡ Begin }
         requires room { length seat.old.walk.kept < kept_room seat.old.geometry }
@@ -122,6 +124,7 @@ impl Walk {
     }
 
     /// The block whose word is to be loaded.
+    #[inline(always)]
     fn block(&self, seat: &SeatState) -> u16
         ensures { result ≡ block_at self.now seat.now }
     {
@@ -140,6 +143,7 @@ impl Walk {
     }
 
     /// The number of that word in the block.
+    #[inline(always)]
     fn word(&self, seat: &SeatState) -> u16
         ensures { result ≡ word_at self.now seat.now }
     {
@@ -169,11 +173,13 @@ impl Machine for Walk {
 
     ghost script = { walk_script };
 
+    #[inline(always)]
     fn ask(&self, seat: &SeatState) -> Ask {
         let place = u32::from(self.block(seat)) * seat.geometry().q() + u32::from(self.word(seat));
         Ask::Load(Place::Image(place))
     }
 
+    #[inline(always)]
     fn tell(&mut self, seat: &mut SeatState, answer: u64) -> Turn<Tail> {
         match *self {
             Walk::Begin => {

@@ -6,14 +6,18 @@ ghost use Rattle.madfs_cli.specs.Commands.{IsCommand};
 
 mod image_file;
 mod new_image;
+mod progress;
 
 use crate::image_file::{ImageFile, NO_FILE};
 use crate::new_image::NewImage;
+use crate::progress::{ASKED_BY, Counted, Progress};
 use io_ends::{FromRead, ToWrite, Words};
 use madfs_cli::{Status, run};
 use std::alloc::{AllocError, Global};
 use std::process::ExitCode;
+use std::io::{Eprint, IsTerminal};
 use std::rt::{Env, Files};
+use std::time::Clock;
 use std::{env, io};
 
 /// What `--help` prints.
@@ -70,7 +74,11 @@ Exit status, where it is not 0 with one line on standard error:
 6: the report or the new image could not be written; check the disk's room.
    Or another run is or was at work on the image: run again. Or one that was
    killed left its file with .new: see that no run is at work, and remove it
-7: no memory";
+7: no memory
+
+A run of more than a second says on standard error how far it is, on a line
+that it wipes in the end, where that is a terminal, or where the environment
+has MADFS_PROGRESS.";
 
 /// What `--version` prints.
 const VERSION: &str = "madfs 0.1.0";
@@ -131,17 +139,24 @@ fn new_name(alloc: Global, image: &str) -> Result<Option<String>, AllocError>
 
 /// Runs a command on the image of this name, standard input and standard output. Where it is done and made a new image, that takes
 /// the image's place, and where that fails it is a write fault. Where it is not done, the image is as before.
-fn run_command<R: Input + Print + Files + AllocGlobal>(rt: &R, image: &str, words: &Words) -> Status
+fn run_command<R: Input + Print + Eprint + Files + Clock + AllocGlobal>(
+    rt: &R,
+    image: &str,
+    words: &Words,
+    shown: bool,
+) -> Status
     ensures { result ≡ Status.Usage → IsCommand words.now → ⊥ }
 {
     let alloc: Global = rt.alloc();
     let Ok(name) = new_name(alloc, image) else {
         return Status::NoMemory;
     };
-    let mut source = ImageFile::new(rt, image);
-    let mut fresh = NewImage::new(rt, name.as_ref().map(|name| name.as_str()));
-    let mut trace = FromRead::new(rt.reader());
-    let mut report = ToWrite::new(io::writer(rt));
+    let progress = Progress::new(rt, shown);
+    let mut source = Counted::new(ImageFile::new(rt, image), &progress);
+    let fresh = NewImage::new(rt, name.as_ref().map(|name| name.as_str()));
+    let mut fresh = Counted::new(fresh, &progress);
+    let mut trace = Counted::new(FromRead::new(rt.reader()), &progress);
+    let mut report = Counted::new(ToWrite::new(io::writer(rt)), &progress);
     let status = run(
         alloc,
         words,
@@ -149,13 +164,20 @@ fn run_command<R: Input + Print + Files + AllocGlobal>(rt: &R, image: &str, word
         &mut trace,
         &mut report,
         &mut fresh,
+        &progress,
     );
+    progress.wipe();
     if status != Status::Done {
-        fresh.remove();
-    } else if !fresh.replace(&source) {
+        fresh.inner().remove();
+    } else if !fresh.inner().replace(source.inner()) {
         return Status::WriteFault;
     }
     status
+}
+
+/// Whether a run is to say how far it is: standard error is a terminal, or the environment asks for it.
+fn shows_progress<R: Env + AllocGlobal>(rt: &R, error: &impl IsTerminal) -> bool {
+    error.is_terminal() || env::var(rt, ASKED_BY).is_ok()
 }
 
 /// Prints a text of the program's own. A write that fails is the program's write fault.
@@ -172,7 +194,10 @@ fn main(rt: HostRuntime) -> ExitCode {
     let status = match read_arguments(&rt) {
         Ok(Invocation::Help) => print_text(&rt, HELP),
         Ok(Invocation::Version) => print_text(&rt, VERSION),
-        Ok(Invocation::Command { image, words }) => run_command(&rt, image.as_str(), &words),
+        Ok(Invocation::Command { image, words }) => {
+            let shown = shows_progress(&rt, &rt.stderr());
+            run_command(&rt, image.as_str(), &words, shown)
+        }
         Err(status) => status,
     };
     if status != Status::Done {

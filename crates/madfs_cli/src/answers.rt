@@ -17,6 +17,7 @@ use crate::images::open_image;
 use crate::outputs::Output;
 use crate::replays::{note_range, replay_trace, try_trace};
 use crate::statuses::Status;
+use crate::watch::Watch;
 use crate::work::Work;
 use image_tools::{dump, mkfs, write_file};
 use io_ends::{Sink, Source, WriteAll};
@@ -124,11 +125,12 @@ fn show_image<I: Source>(alloc: Global, image: &mut I) -> Result<Output, Status>
 }
 
 /// What is made of the image and the trace that it takes, each read to its end.
-pub fn output_of<I: Source, T: Source>(
+pub fn output_of<I: Source, T: Source, W: Watch>(
     alloc: Global,
     making: Making,
     image: &mut I,
     trace: &mut T,
+    watch: &W,
 ) -> Result<Output, Status>
     ensures made { IfOk result (λ output. IsOutputOf (made_request making)
         (record { left = I.left image.old; faults_before = I.faults image.old; faults_after = I.faults image.new })
@@ -154,8 +156,8 @@ pub fn output_of<I: Source, T: Source>(
             Ok(output) => Ok(output),
             Err(_) => Err(Status::NoMemory),
         },
-        Making::Try { shape } => try_trace(alloc, shape, trace),
-        Making::Replay => replay_trace(alloc, image, trace),
+        Making::Try { shape } => try_trace(alloc, shape, trace, watch),
+        Making::Replay => replay_trace(alloc, image, trace, watch),
         Making::Dump => show_image(alloc, image),
         Making::Generate { work } => match make_trace(alloc, work) {
             Ok(output) => Ok(output),

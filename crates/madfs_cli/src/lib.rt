@@ -11,7 +11,9 @@ pub mod statuses;
 mod tests;
 pub mod top;
 pub mod traces;
+pub mod watch;
 mod work;
 
 pub use statuses::Status;
 pub use top::run;
+pub use watch::{Unwatched, Watch};

@@ -1,6 +1,6 @@
 //! Each command once, words that are none, and faults of what is read and written.
 
-use crate::{Status, run};
+use crate::{Status, Unwatched, run};
 use io_ends::{Bytes, FailingBytes, FailingGathered, Gathered, Sink, Source, Words};
 use opening_rules::BadImage;
 use std::alloc::{AllocError, Global};
@@ -25,7 +25,15 @@ fn run_line<I: Source, T: Source, O: Sink, N: Sink>(
     for word in line.split_whitespace() {
         words.push(word)?;
     }
-    Ok(run(alloc, &words, image, trace, report, fresh))
+    Ok(run(
+        alloc,
+        &words,
+        image,
+        trace,
+        report,
+        fresh,
+        &Unwatched,
+    ))
 }
 
 /// How a command ended, and what it wrote.

@@ -12,17 +12,19 @@ use crate::answers::{output_of, show_file};
 use crate::commands::{Command, read_command};
 use crate::outputs::write_output;
 use crate::statuses::Status;
+use crate::watch::Watch;
 use io_ends::{Sink, Source, Words};
 use std::alloc::Global;
 
 /// Runs a command, and says how it ended.
-fn run_command<I: Source, T: Source, O: Sink, N: Sink>(
+fn run_command<I: Source, T: Source, O: Sink, N: Sink, W: Watch>(
     alloc: Global,
     command: Command,
     image: &mut I,
     trace: &mut T,
     report: &mut O,
     fresh: &mut N,
+    watch: &W,
 ) -> Status
     ensures not_usage { result ≢ Status.Usage }
     ensures image_kept { reads_image (request_of command) ≡ false → image.new ≡ image.old }
@@ -68,7 +70,7 @@ fn run_command<I: Source, T: Source, O: Sink, N: Sink>(
         Command::Make(making) => making,
         Command::Cat => return show_file(alloc, image, report),
     };
-    match output_of(alloc, making, image, trace) {
+    match output_of(alloc, making, image, trace, watch) {
         Ok(output) => write_output(&output, report, fresh),
         Err(status) => status,
     }
@@ -83,13 +85,15 @@ fn run_command<I: Source, T: Source, O: Sink, N: Sink>(
 /// `generate` reads nothing and writes the trace of a number. The image
 /// that `mkfs` or `replay` writes opens, to the empty file at position 0 or to what the run leaves.
 /// Of a source or a sink that does not tell its bytes, the clauses say what is kept, and the causes.
-pub fn run<I: Source, T: Source, O: Sink, N: Sink>(
+/// After each call of a trace it tells `watch` how many are made; no clause depends on that.
+pub fn run<I: Source, T: Source, O: Sink, N: Sink, W: Watch>(
     alloc: Global,
     words: &Words,
     image: &mut I,
     trace: &mut T,
     report: &mut O,
     fresh: &mut N,
+    watch: &W,
 ) -> Status
     // The words alone decide whether there is a command, and without one nothing is read or written.
     ensures usage { (result ≡ Status.Usage) ↔ (IsCommand words.now → ⊥) }
@@ -149,6 +153,6 @@ pub fn run<I: Source, T: Source, O: Sink, N: Sink>(
 {
     match read_command(words) {
         None => Status::Usage,
-        Some(command) => run_command(alloc, command, image, trace, report, fresh),
+        Some(command) => run_command(alloc, command, image, trace, report, fresh, watch),
     }
 }

@@ -5,10 +5,8 @@ pub mod bitmap;
 pub mod engine;
 mod fresh;
 pub mod laws;
-pub mod replays;
 pub mod stores;
 #[cfg(test)]
 mod tests;
 
 pub use engine::PlainEngine;
-pub use replays::replay_all;

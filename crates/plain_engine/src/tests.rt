@@ -4,8 +4,8 @@ ghost use Rattle.std.specs.Prelude.{◌≡◌, ◌∷◌, [], IfOk};
 ghost use Rattle.log_entry.specs.Geometry.{HasShape};
 ghost use Rattle.log_image.specs.Rows.{two_blocks};
 
-use crate::{PlainEngine, replay_all};
-use log_entry::{Blob, Geometry, Job, Op, Reply};
+use crate::PlainEngine;
+use log_entry::{Blob, Geometry, Op, Reply};
 use log_image::Start;
 use std::alloc::{AllocError, Global};
 use std::test::Fail;
@@ -44,18 +44,12 @@ fn calls_on_a_just_made_image(rt: HostRuntime) -> Result<(), Fail> {
     };
     let reply = engine.answer(alloc, &write)?;
     assert_eq!(rt; matches!(&reply, Reply::Wrote { length: 1 }), true);
-    let read = Job {
-        line: 1,
-        seat: 0,
-        number: 1,
-        op: Op::Pread {
-            offset: 61,
-            length: 9,
-        },
+    let read = Op::Pread {
+        offset: 61,
+        length: 9,
     };
-    let calls = replay_all(alloc, &mut engine, vec![in alloc; read]?)?;
-    assert_eq!(rt; calls.len(), 1);
-    if let Reply::Bytes(bytes) = &calls[0].reply {
+    let reply = engine.answer(alloc, &read)?;
+    if let Reply::Bytes(bytes) = &reply {
         assert_eq!(rt; bytes.bytes(), b"\0\xaa".as_slice());
     } else {
         assert_eq!(rt; true, false);

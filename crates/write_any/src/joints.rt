@@ -26,6 +26,7 @@ use pmem_words::{SeatState, Written};
 const LAST_POSITION: u64 = 1_099_511_627_775;
 
 /// Goes on from the tail: it offers its entry, or needs a log block at a block's end.
+#[inline(never)]
 pub fn at_tail(target: Target, seat: &SeatState) -> Stage
     requires { HasBlocks (offset_of target) seat.now }
     ensures { result ≡ tail_stage target seat.now }
@@ -46,6 +47,7 @@ pub fn offering(target: Target, seat: &SeatState) -> Stage
 }
 
 /// The tail was found. The first time it has no blocks yet.
+#[inline(never)]
 pub fn walked(target: Target, seat: &SeatState) -> Stage
     requires { CanGoOn (offset_of target) seat.now }
     ensures { result ≡ walked_by (seat.now.walk.position == last_position) (length seat.now.blocks.owned == 0) target seat.now }
@@ -60,6 +62,7 @@ pub fn walked(target: Target, seat: &SeatState) -> Stage
 }
 
 /// Data blocks were taken, one for each virtual block, or too few were free.
+#[inline(never)]
 pub fn taken(target: Target, out: Taken, seat: &mut SeatState) -> Stage
     requires { out ≡ HasTaken → HasBlocks (offset_of target) seat.old }
     ensures { taken_so target out seat.old ≡ Into (at_stage target result) seat.new }
@@ -72,6 +75,7 @@ pub fn taken(target: Target, out: Taken, seat: &mut SeatState) -> Stage
 }
 
 /// One more was taken for their runs, or none was free.
+#[inline(never)]
 pub fn taken_runs(target: Target, out: Taken, seat: &mut SeatState) -> Stage
     requires { out ≡ HasTaken → HasBlocks (offset_of target) seat.old }
     ensures { taken_runs_so target out seat.old ≡ Into (at_stage target result) seat.new }
@@ -83,6 +87,7 @@ pub fn taken_runs(target: Target, out: Taken, seat: &mut SeatState) -> Stage
 }
 
 /// All blocks are there.
+#[inline(never)]
 pub fn filling(target: Target, seat: &mut SeatState) -> Stage
     requires { HasBlocks (offset_of target) seat.old }
     ensures stage { result ≡ filling seat.old }
@@ -94,6 +99,7 @@ pub fn filling(target: Target, seat: &mut SeatState) -> Stage
 }
 
 /// A log block was taken, or none was free.
+#[inline(never)]
 pub fn taken_log(target: Target, out: Taken, seat: &mut SeatState) -> Stage
     requires { out ≡ HasTaken → HasLogBlock seat.old }
     ensures { taken_log_so target out seat.old ≡ Into (at_stage target result) seat.new }
@@ -109,6 +115,7 @@ pub fn taken_log(target: Target, out: Taken, seat: &mut SeatState) -> Stage
 }
 
 /// The log block was linked, or another one was first.
+#[inline(never)]
 pub fn grown(target: Target, out: Grown, seat: &SeatState) -> Stage
     requires linked { out ≡ Linked → HasBlocks (offset_of target) seat.now }
     requires overtaken { (block : ℕ) → out ≡ OvertakenBy block → HasLast seat.now }
@@ -121,6 +128,7 @@ pub fn grown(target: Target, out: Grown, seat: &SeatState) -> Stage
 }
 
 /// The entry was put in, or another one was first.
+#[inline(never)]
 pub fn offered(out: Offered) -> Stage
     ensures { (target : Target) (s : Seat) → offered_so target out s ≡ Into (at_stage target result) s }
 {
@@ -131,6 +139,7 @@ pub fn offered(out: Offered) -> Stage
 }
 
 /// The pin was given up: it goes on where it owns blocks that it did not put into the log, and has ended where it owns none.
+#[inline(never)]
 pub fn unpinned(refusal: Option<WriteRefusal>, seat: &SeatState) -> Option<Stage>
     ensures { result ≡ still_giving (length seat.now.blocks.owned == 0) refusal }
 {
@@ -142,12 +151,14 @@ pub fn unpinned(refusal: Option<WriteRefusal>, seat: &SeatState) -> Option<Stage
 }
 
 /// The write is done, or refused.
+#[inline(never)]
 pub fn ended(refusal: Option<WriteRefusal>) -> Stage
     ensures { result ≡ ended refusal }
 {
     Stage::Unpinning(refusal, Unpin::new())
 }
 
+#[inline(never)]
 pub fn written(target: Target, refusal: Option<WriteRefusal>, seat: &SeatState) -> Written
     ensures { result ≡ written target refusal seat.now }
 {

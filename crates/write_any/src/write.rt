@@ -23,8 +23,9 @@ pub struct Write {
 }
 
 impl Write {
-    ghost use Rattle.std.specs.Prelude.{◌≡◌};
-    ghost use Rattle.write_any.specs.Writing.{write_of};
+    ghost use Rattle.std.specs.Prelude.{◌≡◌, ◌≢◌};
+    ghost use Rattle.write_any.specs.declared.stage.Stage.TheVariants.{Filling};
+    ghost use Rattle.write_any.specs.Writing.{write_of, write_script};
 
     /// A write that has not begun.
     pub fn new(target: Target) -> Write
@@ -35,33 +36,16 @@ impl Write {
             stage: Stage::Pinning(Pin::new()),
         }
     }
-}
 
-impl Machine for Write {
-    ghost use Rattle.write_any.specs.Writing.{write_script, write_lowers};
-
-    /// How it ended.
-    type Out = Written;
-
-    ghost script = { write_script };
-
-    fn ask(&self, seat: &SeatState) -> Ask {
-        match &self.stage {
-            Stage::Pinning(part) => part.ask(seat),
-            Stage::Walking(part) => part.ask(seat),
-            Stage::Taking(part) | Stage::TakingRuns(part) | Stage::TakingLog(part) => part.ask(
-                seat,
-            ),
-            Stage::Filling(part) | Stage::FillingLog(part) => part.ask(seat),
-            Stage::Growing(part) => part.ask(seat),
-            Stage::GivingLog(part) => part.ask(seat),
-            Stage::Offering(part) => part.ask(seat),
-            Stage::Unpinning(_, part) => part.ask(seat),
-            Stage::Giving(_, part) => part.ask(seat),
-        }
-    }
-
-    fn tell(&mut self, seat: &mut SeatState, answer: u64) -> Turn<Written> {
+    /// Takes the answer to an ask of any part but the filling of the data blocks.
+    #[inline(never)]
+    fn tell_part(&mut self, seat: &mut SeatState, answer: u64) -> Turn<Written>
+        requires part { (p : _) → self.old.stage ≢ Filling p }
+        requires admits { write_script.admits self.old seat.old answer }
+        ensures machine { self.new ≡ (write_script.after self.old seat.old answer).machine }
+        ensures seat { seat.new ≡ (write_script.after self.old seat.old answer).seat }
+        ensures turn { result ≡ (write_script.after self.old seat.old answer).turn }
+    {
         match &mut self.stage {
             Stage::Pinning(part) => match part.tell(seat, answer) {
                 Turn::Go => {}
@@ -79,10 +63,7 @@ impl Machine for Write {
                 Turn::Go => {}
                 Turn::Done(out) => self.stage = taken_runs(self.target, out, seat),
             },
-            Stage::Filling(part) => match part.tell(seat, answer) {
-                Turn::Go => {}
-                Turn::Done(()) => self.stage = at_tail(self.target, seat),
-            },
+            Stage::Filling(_) => {}
             Stage::TakingLog(part) => match part.tell(seat, answer) {
                 Turn::Go => {}
                 Turn::Done(out) => self.stage = taken_log(self.target, out, seat),
@@ -114,6 +95,45 @@ impl Machine for Write {
                 Turn::Go => {}
                 Turn::Done(_) => return Turn::Done(written(self.target, *refusal, seat)),
             },
+        }
+        Turn::Go
+    }
+}
+
+impl Machine for Write {
+    ghost use Rattle.write_any.specs.Writing.{write_script, write_lowers};
+
+    /// How it ended.
+    type Out = Written;
+
+    ghost script = { write_script };
+
+    #[inline(always)]
+    fn ask(&self, seat: &SeatState) -> Ask {
+        match &self.stage {
+            Stage::Pinning(part) => part.ask(seat),
+            Stage::Walking(part) => part.ask(seat),
+            Stage::Taking(part) | Stage::TakingRuns(part) | Stage::TakingLog(part) => part.ask(
+                seat,
+            ),
+            Stage::Filling(part) | Stage::FillingLog(part) => part.ask(seat),
+            Stage::Growing(part) => part.ask(seat),
+            Stage::GivingLog(part) => part.ask(seat),
+            Stage::Offering(part) => part.ask(seat),
+            Stage::Unpinning(_, part) => part.ask(seat),
+            Stage::Giving(_, part) => part.ask(seat),
+        }
+    }
+
+    // most steps of a write fill its blocks: those stand here, and all others in a function of their own
+    #[inline(always)]
+    fn tell(&mut self, seat: &mut SeatState, answer: u64) -> Turn<Written> {
+        match &mut self.stage {
+            Stage::Filling(part) => match part.tell(seat, answer) {
+                Turn::Go => {}
+                Turn::Done(()) => self.stage = at_tail(self.target, seat),
+            },
+            _ => return self.tell_part(seat, answer),
         }
         Turn::Go
     }

@@ -6,7 +6,7 @@ use Rattle.log_entry.proofs.HistoryLemmas.{Mirrors, Mirrors-push}
 use Rattle.log_entry.specs.declared.calls.Call.{Call}
 use Rattle.log_entry.specs.declared.calls.Job.{Job}
 use Rattle.plain_engine.proofs.ReplayLemmas.{SoFar, SoFar-none, SoFar-push, record_of, Replays-all}
-use Rattle.plain_engine.proofs.replays.replay_all.Goals as goal
+use Rattle.madfs_cli.proofs.replays.make_calls.Goals as goal
 
 pub loop-job-init : goal.loop-job-init
 loop-job-init c = record {

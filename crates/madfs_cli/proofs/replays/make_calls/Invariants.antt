@@ -2,7 +2,7 @@ use Rattle.std.proofs.Common.{ℕ, List}
 use Rattle.log_entry.proofs.HistoryLemmas.{Mirrors}
 use Rattle.plain_engine.specs.Engine.{Running}
 use Rattle.plain_engine.proofs.ReplayLemmas.{SoFar}
-use Rattle.plain_engine.proofs.replays.replay_all.Given as goal
+use Rattle.madfs_cli.proofs.replays.make_calls.Given as goal
 
 abbrev pub invariant-loop-job : goal.invariant-loop-job
 invariant-loop-job l = record {

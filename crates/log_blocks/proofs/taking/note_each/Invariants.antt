@@ -1,7 +1,7 @@
 use Rattle.std.proofs.Common.{◌≡◌, ◌-◌, ◌≤◌}
 use Rattle.std.specs.List.{range_with_len}
 use Rattle.log_core.specs.Works.{blocks_noted}
-use Rattle.log_blocks.proofs.taking.note_run.Given as goal
+use Rattle.log_blocks.proofs.taking.note_each.Given as goal
 
 abbrev pub invariant-loop-block : goal.invariant-loop-block
 invariant-loop-block l = record {

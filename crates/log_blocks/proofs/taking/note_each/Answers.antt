@@ -1,7 +1,7 @@
 use Rattle.std.proofs.Common.{ℕ, List, ap, arith}
 use Rattle.pmem_words.specs.Seats.{Seat}
 use Rattle.log_blocks.proofs.EntryMaps.{run_noted}
-use Rattle.log_blocks.proofs.taking.note_run.Goals as goal
+use Rattle.log_blocks.proofs.taking.note_each.Goals as goal
 
 pub loop-block-preserved : goal.loop-block-preserved
 loop-block-preserved c =
