@@ -69,14 +69,25 @@ fn nanoseconds(rt: &HostRuntime) -> io::Result<u64> {
         .wrapping_add(u64::from(time.subsec_nanos())))
 }
 
+/// The bytes of a block, each of them 7.
+fn block_of_sevens(alloc: Global) -> Result<Vec<u8>, AllocError>
+    ensures { IfOk result (λ bytes. length bytes.items ≡ 4096) }
+{
+    vec![in alloc; 7u8; 4096]
+}
+
 /// A seat that is to write a block to a just-made image, and has walked to its tail.
-fn ready_to_write(alloc: Global, geometry: Geometry) -> Result<(SeatState, Plain), AllocError>
-    requires { geometry.block_bytes ≡ 4096 }
+fn ready_to_write(
+    alloc: Global,
+    geometry: Geometry,
+    bytes: &[u8],
+) -> Result<(SeatState, Plain), AllocError>
+    requires shape { geometry.block_bytes ≡ 4096 }
+    requires bytes { length bytes.now ≡ 4096 }
     ensures { IfOk result (λ made. ∥ IsAlone (MayWrite 0) made.0 made.1 ∥₁) }
 {
     let start = mkfs(alloc, geometry)?;
-    let bytes = vec![in alloc; 7u8; 4096]?;
-    let (mut seat, mut memory) = writing_on(alloc, start, 0, &bytes)?;
+    let (mut seat, mut memory) = writing_on(alloc, start, 0, bytes)?;
     walk_before(&mut seat, &mut memory, 0);
     Ok((seat, memory))
 }
@@ -86,7 +97,8 @@ fn write_once(rt: &HostRuntime, by_parts: bool) -> io::Result<(u64, u64)> {
     let Ok(geometry) = Geometry::new(2, 1, 4096) else {
         return Ok((0, 0));
     };
-    let (mut seat, mut memory) = ready_to_write(rt.alloc(), geometry)?;
+    let bytes = block_of_sevens(rt.alloc())?;
+    let (mut seat, mut memory) = ready_to_write(rt.alloc(), geometry, &bytes)?;
     let begun = nanoseconds(rt)?;
     let written = if by_parts {
         write_by_parts(&mut seat, &mut memory, 0)
@@ -119,7 +131,7 @@ fn turns_once(rt: &HostRuntime) -> io::Result<(u64, u64)> {
         return Ok((0, 0));
     };
     let mut world = one_seat_world(rt.alloc(), geometry)?;
-    let bytes = vec![in rt.alloc(); 7u8; 4096]?;
+    let bytes = block_of_sevens(rt.alloc())?;
     let write = begin_write(&mut world, 0, 0, &bytes);
     let begun = nanoseconds(rt)?;
     let ended = end_write(&mut world, 0, write, &Resting, TURNS);

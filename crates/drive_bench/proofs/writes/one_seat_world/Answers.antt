@@ -5,4 +5,4 @@ use Rattle.crash_model.proofs.Resting.{rests_room}
 use Rattle.drive_bench.proofs.writes.one_seat_world.Goals as goal
 
 pub returns-clause-resting : goal.returns-clause-resting
-returns-clause-resting c = subst (λ (w : WorldNow). IsResting w) (sym c.in_ok-reserve.ensures.ok) (rests_room c.in_ok-world.world (max c.in_ok-world.world.cells.room 2000) c.in_ok-world.ensures.rests)
+returns-clause-resting c = subst (λ (w : WorldNow). IsResting w) (sym c.in_ok-reserve.ensures.ok) (rests_room c.in_ok-world.world (max c.in_ok-world.world.cells.room c.from.result) c.in_ok-world.ensures.rests)
