@@ -38,3 +38,9 @@ pub mod ComposedSteps
 pub mod ComposedBlocks
 pub mod TakenBlocks
 pub mod TakeStages
+pub mod AloneBits
+pub mod AloneStanding
+pub mod OpenTail
+pub mod Riding
+pub mod SameNumbers
+pub mod AloneSteps
