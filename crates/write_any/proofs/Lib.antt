@@ -44,3 +44,4 @@ pub mod OpenTail
 pub mod Riding
 pub mod SameNumbers
 pub mod AloneSteps
+pub mod AloneSpace
