@@ -45,3 +45,5 @@ pub mod Riding
 pub mod SameNumbers
 pub mod AloneSteps
 pub mod AloneSpace
+pub mod AloneMoves
+pub mod AloneTakes

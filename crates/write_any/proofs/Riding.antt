@@ -51,6 +51,11 @@ pub record StepsOn {M Out : Type 0} (o : Origin) (seat number : ℕ) (script : S
   pub knows : Knows o c seat s (ghost_on seat number c s) pin began
   pub may : May o c (ghost_on seat number c s) s (kind_of_ask (q_of_origin o) seat (script.asks m s))
 
+-- what is found there
+pub found_of : {M Out : Type 0} (o : Origin) (seat number : ℕ) (script : Script M Out) (m : M) (s : Seat) (c : Core) → StepsOn o seat number script m s c →
+    IsFound o seat s (ghost_on seat number c s) (script.asks m s) (found_answer c.memory (script.asks m s))
+found_of o seat number script m s c st = record { core = c; pin = st.pin; began = st.began; holds = st.holds; unspent = st.unspent; knows = st.knows; is = refl }
+
 module _ (o : Origin) (start : Invariant o (first_core o)) (seat number : ℕ) {M Out : Type 0} (script : Script M Out) (P : M → Seat → Ghost → Type 0) (R : Out → Seat → Ghost → Type 0)
     (serves : Serves o seat script no_record P R) (F : M → Seat → Core → Type 0) (E : Out → Seat → Core → Type 0) where
   abbrev pub found_on : M → Seat → Core → ℕ
@@ -90,7 +95,7 @@ module _ (o : Origin) (start : Invariant o (first_core o)) (seat number : ℕ) {
     }
 
     found : IsFound o seat s g (script.asks m s) f
-    found = (let st = steps in record { core = c; pin = st.pin; began = st.began; holds = st.holds; unspent = st.unspent; knows = st.knows; is = refl })
+    found = found_of o seat number script m s c steps
 
     -- the view after a step of these records
     abbrev view_next : List Call → View
