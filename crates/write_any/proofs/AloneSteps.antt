@@ -3,11 +3,13 @@ use Rattle.std.proofs.Common.{◌≡◌, ◌⊎◌, inl, inr, ℕ, ◌<◌, ◌-
 use Rattle.pmem_words.specs.Seats.{Seat}
 use Rattle.asks.specs.declared.ask.Ask.{Ask}
 use Rattle.persistence.specs.Memory.{found, found_answer}
-use Rattle.log_core.specs.Views.{Ghost, view_of}
+use Rattle.log_core.specs.Views.{MarkedWord, Ghost, view_of}
+use Rattle.log_core.specs.Owners.{SeatOwns}
+use Rattle.block_bitmap.proofs.TakeEffects.{effect_is}
 use Rattle.log_core.specs.Origin.{Origin, Owner, q_of_origin}
 use Rattle.log_core.specs.Files.{Write}
 use Rattle.log_core.specs.Cores.{Core}
-use Rattle.log_core.specs.Steps.{Note, Does, Kind, LoadsHead, StoresOwnPin, LoadsPinWord, LoadsImageWord, LoadsBitmapWord, SetsBits, ClearsBits, StoresWord, ExchangesSlot, ExchangesLink, ExchangesHead, MarksWord, Fences, NoKind, kind_of_ask}
+use Rattle.log_core.specs.Steps.{Note, Does, Kind, LoadsHead, StoresOwnPin, LoadsPinWord, LoadsImageWord, LoadsBitmapWord, SetsBits, ClearsBits, StoresWord, ExchangesSlot, ExchangesLink, ExchangesHead, MarksWord, Fences, NoKind, kind_of_ask, effect}
 use Rattle.log_core.specs.After.{after, history_after, logs_after, owner_after}
 use Rattle.log_core.specs.May.{May}
 use Rattle.log_core.specs.Invariant.{Invariant}
@@ -127,3 +129,10 @@ module _ (o : Origin) (c : Core) (seat : ℕ) (s : Seat) (g : Ghost) (pin began 
   pub take_history : (known : Option ℕ) (p : Take) → ((after o c (Does seat (asks_at known p s) note)).history ≡ c.history) × ((after o c (Does seat (asks_at known p s) note)).logs ≡ c.logs)
   take_history None p = (refl, refl)
   take_history (Some known) p = (refl, refl)
+
+-- what a seat owns after such a step
+pub take_owns : (known : Option ℕ) (marks : List MarkedWord) (owner : ℕ → Owner) (q seat : ℕ) (p : Take) (s : Seat) (f : ℕ) → SeatOwns owner seat (effect marks s (kind_of_ask q seat (asks_at known p s)) f) → SeatOwns owner seat (after_at known p s f).seat
+take_owns None marks owner q seat p s f owns = subst (λ (u : Seat). SeatOwns owner seat u) (sym (settled_seat (open_at p (with_found (word_of p s) f s) f) p (with_found (word_of p s) f s) f)) owns
+take_owns (Some known) marks owner q seat p s f owns =
+    subst (λ (u : Seat). SeatOwns owner seat u) (sym (ended_seat (p.count - length (gained_at p s known f) == 0) (less p (length (gained_at p s known f))) (seat_set p s known f) (known_set p s known f)))
+    (subst (λ (u : Seat). SeatOwns owner seat u) (effect_is p s known marks f) owns)

@@ -43,7 +43,8 @@ use Rattle.write_any.proofs.AloneBits.{KnowsBits}
 use Rattle.write_any.proofs.AloneMoves.{FitsOn, MovesTo, moves_onward, open_moves}
 use Rattle.write_any.proofs.AloneSpace.{one_run_numbers, few_clear, one_run_clear, apart_clear, more_clear, no_more_clear, log_clear, no_log_clear}
 use Rattle.write_any.proofs.AloneStanding.{IsFor, NoData, NoLog, HasApart, IsUnput, IsAtLogEnd, IsTakingMore, HasData, HasBoth, IsEnded, EndsAlone, WriteStandsAlone}
-use Rattle.write_any.proofs.AloneSteps.{take_bits, take_history}
+use Rattle.log_core.specs.Owners.{SeatOwns}
+use Rattle.write_any.proofs.AloneSteps.{take_bits, take_history, take_owns}
 use Rattle.write_any.proofs.Composed.{bare, composed_bare}
 use Rattle.write_any.proofs.ComposedBlocks.{OwnsZeros}
 use Rattle.write_any.proofs.LimitLaw.{taking_log_law}
@@ -110,7 +111,10 @@ module _ (offset : ℕ) (o : Origin) (seat number : ℕ) (s0 : Seat) (g0 : Ghost
     abbrev e : Core
     e = next_core o seat number write_script (at_stage t (Taking p)) s c
 
-    module _ (stepped : HasStepped o seat v e) where
+    module _ (stepped : HasStepped o seat number write_script (at_stage t (Taking p)) s c e) where
+      mine : SeatOwns e.owner seat v
+      mine = take_owns p.known (view_of c.views seat).ghost.marks e.owner (q_of_origin o) seat p s a stepped.owns
+
       told : Told (ordered_law Data (block_count s0)) o seat (BeforeTake offset o seat s0 g0) p s (ghost_on seat number c s) at a
       told = told_so (ordered_law Data (block_count s0)) o seat (BeforeTake offset o seat s0 g0) p s (ghost_on seat number c s) a at (found_of o seat number write_script (at_stage t (Taking p)) s c st)
 
@@ -140,7 +144,7 @@ module _ (offset : ℕ) (o : Origin) (seat number : ℕ) (s0 : Seat) (g0 : Ghost
           let long = length-map v.blocks.owned (λ (b : OwnedBlock). b.block) in
           record {
             at_end = composed_end (offset_of t) v e now;
-            data_space = one_run_clear offset o seat number s0 c0 inv0 shape_is none_mine v e.owner now.unput.bits stepped.owns (same_image HasTaken done) (owns HasTaken done).numbers (owns HasTaken done).once all
+            data_space = one_run_clear offset o seat number s0 c0 inv0 shape_is none_mine v e.owner now.unput.bits mine (same_image HasTaken done) (owns HasTaken done).numbers (owns HasTaken done).once all
                 (one_run_numbers v.blocks.owned (omega (arith, all, some, long)) one);
           })
       taken_by false done apart =
@@ -148,7 +152,7 @@ module _ (offset : ℕ) (o : Origin) (seat number : ℕ) (s0 : Seat) (g0 : Ghost
           let rises = (told.ends HasTaken done).1.rises at.before.owns.owned in
           record {
             at_end = now;
-            apart = apart_clear offset o seat number s0 c0 inv0 shape_is none_mine v e.owner now.unput.bits stepped.owns (same_image HasTaken done) (owns HasTaken done).numbers (owns HasTaken done).once all
+            apart = apart_clear offset o seat number s0 c0 inv0 shape_is none_mine v e.owner now.unput.bits mine (same_image HasTaken done) (owns HasTaken done).numbers (owns HasTaken done).once all
                 (false_from_ne_true (is_one_run (owned_numbers v.blocks.owned)) (λ one. (let both : true ≡ false = sym (one_run_in_order v.blocks.owned rises one) ∙ apart in cc)));
           })
 
@@ -160,7 +164,7 @@ module _ (offset : ℕ) (o : Origin) (seat number : ℕ) (s0 : Seat) (g0 : Ghost
           let fewer = none.1 in
           subst (λ (which : Area). IsEnded offset o seat number s0 c0 (Some (RefusesSpace which)) v e) (sym none.0)
           (refused Data v e now (position (NoSpace area) done,
-          few_clear offset o seat number s0 c0 inv0 shape_is none_mine v e.owner now.unput.bits stepped.owns (same_image (NoSpace area) done) (owns (NoSpace area) done).numbers (owns (NoSpace area) done).once (omega (arith, all, fewer)) none.2)))
+          few_clear offset o seat number s0 c0 inv0 shape_is none_mine v e.owner now.unput.bits mine (same_image (NoSpace area) done) (owns (NoSpace area) done).numbers (owns (NoSpace area) done).once (omega (arith, all, fewer)) none.2)))
 
       pub taking_moves : MovesTo (λ m w. WriteStandsAlone offset o seat number s0 c0 m w e) (λ out w. EndsAlone offset o seat number s0 c0 out w e) (stage_after t (Taking p) s a)
       taking_moves = moves_onward (λ m w. WriteStandsAlone offset o seat number s0 c0 m w e) (λ out w. EndsAlone offset o seat number s0 c0 out w e) (λ n. at_stage t (Taking n)) (taken_so t) (take_script.after p s a) (λ go. now) by
@@ -177,7 +181,10 @@ module _ (offset : ℕ) (o : Origin) (seat number : ℕ) (s0 : Seat) (g0 : Ghost
     abbrev e2 : Core
     e2 = next_core o seat number write_script (at_stage t (TakingRuns p)) s c
 
-    module _ (stepped : HasStepped o seat v2 e2) where
+    module _ (stepped : HasStepped o seat number write_script (at_stage t (TakingRuns p)) s c e2) where
+      mine2 : SeatOwns e2.owner seat v2
+      mine2 = take_owns p.known (view_of c.views seat).ghost.marks e2.owner (q_of_origin o) seat p s a2 stepped.owns
+
       told_more : Told (taking_law Data 1) o seat (BeforeTakeRuns offset o seat s0 g0) p s (ghost_on seat number c s) at a2
       told_more = told_so (taking_law Data 1) o seat (BeforeTakeRuns offset o seat s0 g0) p s (ghost_on seat number c s) a2 at (found_of o seat number write_script (at_stage t (TakingRuns p)) s c st)
 
@@ -206,7 +213,7 @@ module _ (offset : ℕ) (o : Origin) (seat number : ℕ) (s0 : Seat) (g0 : Ghost
           let one = (one_more HasTaken done).taken refl in
           record {
             at_end = composed_end (offset_of t) v2 e2 now_more;
-            data_space = more_clear offset o seat number s0 c0 inv0 shape_is none_mine v2 e2.owner now_more.unput.bits stepped.owns (image_now HasTaken done) (owns_now HasTaken done).numbers (owns_now HasTaken done).once (omega (arith, all, one));
+            data_space = more_clear offset o seat number s0 c0 inv0 shape_is none_mine v2 e2.owner now_more.unput.bits mine2 (image_now HasTaken done) (owns_now HasTaken done).numbers (owns_now HasTaken done).once (omega (arith, all, one));
           })
       by_more (NoSpace area) done =
           (let none = (one_more (NoSpace area) done).no_space area refl in
@@ -214,7 +221,7 @@ module _ (offset : ℕ) (o : Origin) (seat number : ℕ) (s0 : Seat) (g0 : Ghost
           let fewer = none.1 in
           subst (λ (which : Area). IsEnded offset o seat number s0 c0 (Some (RefusesSpace which)) v2 e2) (sym none.0)
           (refused Data v2 e2 now_more (position_now (NoSpace area) done,
-          no_more_clear offset o seat number s0 c0 inv0 shape_is none_mine v2 e2.owner now_more.unput.bits stepped.owns (image_now (NoSpace area) done) (owns_now (NoSpace area) done).numbers (owns_now (NoSpace area) done).once (omega (arith, all, fewer)) none.2 x.apart)))
+          no_more_clear offset o seat number s0 c0 inv0 shape_is none_mine v2 e2.owner now_more.unput.bits mine2 (image_now (NoSpace area) done) (owns_now (NoSpace area) done).numbers (owns_now (NoSpace area) done).once (omega (arith, all, fewer)) none.2 x.apart)))
 
       pub taking_runs_moves : MovesTo (λ m w. WriteStandsAlone offset o seat number s0 c0 m w e2) (λ out w. EndsAlone offset o seat number s0 c0 out w e2) (stage_after t (TakingRuns p) s a2)
       taking_runs_moves = moves_onward (λ m w. WriteStandsAlone offset o seat number s0 c0 m w e2) (λ out w. EndsAlone offset o seat number s0 c0 out w e2) (λ n. at_stage t (TakingRuns n)) (taken_runs_so t) (take_script.after p s a2)
@@ -236,7 +243,10 @@ module _ (offset : ℕ) (o : Origin) (seat number : ℕ) (s0 : Seat) (g0 : Ghost
     abbrev e3 : Core
     e3 = next_core o seat number write_script (at_stage t (TakingLog p)) s c
 
-    module _ (stepped : HasStepped o seat v3 e3) where
+    module _ (stepped : HasStepped o seat number write_script (at_stage t (TakingLog p)) s c e3) where
+      mine3 : SeatOwns e3.owner seat v3
+      mine3 = take_owns p.known (view_of c.views seat).ghost.marks e3.owner (q_of_origin o) seat p s a3 stepped.owns
+
       told_log : Told taking_log_law o seat (AtEnd offset o seat s0 g0) p s (ghost_on seat number c s) at a3
       told_log = told_so taking_log_law o seat (AtEnd offset o seat s0 g0) p s (ghost_on seat number c s) a3 at (found_of o seat number write_script (at_stage t (TakingLog p)) s c st)
 
@@ -278,7 +288,7 @@ module _ (offset : ℕ) (o : Origin) (seat number : ℕ) (s0 : Seat) (g0 : Ghost
           record {
             at_end = record { unput = record { history = now_log.unput.history; logs = now_log.unput.logs; none_lost = now_log.unput.none_lost; bits = now_log.unput.bits }; opens = now_log.opens };
             data_space = x.data_space;
-            log_space = log_clear offset o seat number s0 c0 inv0 shape_is none_mine v3 e3.owner now_log.unput.bits stepped.owns (log_image HasTaken done) (slice_index blocks 0) listed;
+            log_space = log_clear offset o seat number s0 c0 inv0 shape_is none_mine v3 e3.owner now_log.unput.bits mine3 (log_image HasTaken done) (slice_index blocks 0) listed;
           })
       by_log (NoSpace area) done =
           (let none = (log_ended (NoSpace area) done).no_space area refl in
@@ -287,7 +297,7 @@ module _ (offset : ℕ) (o : Origin) (seat number : ℕ) (s0 : Seat) (g0 : Ghost
           subst (λ (which : Area). IsEnded offset o seat number s0 c0 (Some (RefusesSpace which)) v3 e3) (sym none.0)
           (refused Log v3 e3 now_log (log_position (NoSpace area) done, x.data_space, record {
             full = subst (λ (l : List LogBlock). is_full (shape o) (last_of l).slots ≡ true) now_log.unput.logs (now_log.opens.closes (at_block_end (NoSpace area) done));
-            none_clear = no_log_clear offset o seat number s0 c0 inv0 shape_is none_mine v3 e3.owner now_log.unput.bits stepped.owns (log_image (NoSpace area) done) none_owned none.2;
+            none_clear = no_log_clear offset o seat number s0 c0 inv0 shape_is none_mine v3 e3.owner now_log.unput.bits mine3 (log_image (NoSpace area) done) none_owned none.2;
           })))
 
       pub taking_log_moves : MovesTo (λ m w. WriteStandsAlone offset o seat number s0 c0 m w e3) (λ out w. EndsAlone offset o seat number s0 c0 out w e3) (stage_after t (TakingLog p) s a3)

@@ -47,3 +47,5 @@ pub mod AloneSteps
 pub mod AloneSpace
 pub mod AloneMoves
 pub mod AloneTakes
+pub mod AlonePuts
+pub mod AloneStages

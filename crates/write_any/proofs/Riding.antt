@@ -24,14 +24,14 @@ use Rattle.log_core.specs.Answers.{Enters}
 use Rattle.log_core.specs.Within.{no_record, adds_at, seat_found, ghost_found, note_with, IsFound, Lawful, Serves, HasGoneOn}
 use Rattle.log_core.proofs.machines.Entering.{none_at}
 use Rattle.log_core.proofs.machines.Agreeing.{reached_next}
-use Rattle.log_core.proofs.machines.GoneOn.{begun_on, knows_on}
+use Rattle.log_core.proofs.machines.GoneOn.{begun_on}
 use Rattle.log_core.proofs.machines.OnCore.{alone, step_on, IsReadyOn}
 use Rattle.log_core.proofs.machines.Serving.{reached_keeps, knows_here}
 
--- the core after a step that a run reaches, and what the seat owns in it
-pub record HasStepped (o : Origin) (seat : ℕ) (t : Seat) (d : Core) : Type 0 where
+-- the core after a step holds, and the seat owns in it what the step has made its own
+pub record HasStepped {M Out : Type 0} (o : Origin) (seat number : ℕ) (script : Script M Out) (m : M) (s : Seat) (c : Core) (d : Core) : Type 0 where
   pub holds : Invariant o d
-  pub owns : SeatOwns d.owner seat t
+  pub owns : SeatOwns d.owner seat (seat_found o seat (script.asks m s) s (view_of c.views seat).ghost (found_answer c.memory (script.asks m s)))
 
 -- the core after the step that a machine's ask is
 abbrev pub next_core : {M Out : Type 0} → Origin → (seat number : ℕ) → Script M Out → M → Seat → Core → Core
@@ -119,17 +119,17 @@ module _ (o : Origin) (start : Invariant o (first_core o)) (seat number : ℕ) {
       next_reached : IsReached o (next_core o seat number script m s c)
       next_reached = reached_next o c (step_on o seat number script no_record m s c) ready.reached ready.allowed
 
-      stepped : HasStepped o seat (script.after m s f).seat (next_core o seat number script m s c)
+      stepped : HasStepped o seat number script m s c (next_core o seat number script m s c)
       stepped = (let inv = reached_keeps o start (next_core o seat number script m s c) next_reached in record {
         holds = inv;
-        owns = (knows_on o (next_core o seat number script m s c) seat inv (view_next []) view_is ready.allowed.unspent (script.after m s f).seat gone).owns;
+        owns = subst (λ (u : View). SeatOwns (next_core o seat number script m s c).owner seat u.seat) view_is (inv.owners.seats seat);
       })
 
       stands_next : (script.after m s f).turn ≡ Go → P (script.after m s f).machine (script.after m s f).seat (ghost_on seat number (next_core o seat number script m s c) (script.after m s f).seat)
       stands_next go = subst (λ (u : View). P (script.after m s f).machine (script.after m s f).seat (ghost_begun u.ghost u.seat (script.after m s f).seat number)) (sym view_is)
           (subst (λ (h : Ghost). P (script.after m s f).machine (script.after m s f).seat h) (sym (begun_on (view_next []) (script.after m s f).seat number gone)) (laws.goes f found ready.admitted go))
 
-  module _ (rides : (m : M) (s : Seat) (c : Core) → P m s (ghost_on seat number c s) → StepsOn o seat number script m s c → HasStepped o seat (script.after m s (found_on m s c)).seat (next_core o seat number script m s c) → F m s c → Rides m s c) where
+  module _ (rides : (m : M) (s : Seat) (c : Core) → P m s (ghost_on seat number c s) → StepsOn o seat number script m s c → HasStepped o seat number script m s c (next_core o seat number script m s c) → F m s c → Rides m s c) where
     pub rides_along : (Q : Out → Seat → Core → Type 0) (m : M) (s : Seat) (c : Core) → P m s (ghost_on seat number c s) → F m s c → Leads script (alone o seat number script no_record) Q m s c →
         Leads script (alone o seat number script no_record) (λ out t d. Q out t d × E out t d) m s c
     rides_along Q m s c stands fact leads = leads_with script (alone o seat number script no_record) Both Q E
