@@ -49,3 +49,5 @@ pub mod AloneMoves
 pub mod AloneTakes
 pub mod AlonePuts
 pub mod AloneStages
+pub mod AloneLeads
+pub mod AloneAnswers
