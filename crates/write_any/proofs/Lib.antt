@@ -51,3 +51,5 @@ pub mod AlonePuts
 pub mod AloneStages
 pub mod AloneLeads
 pub mod AloneAnswers
+pub mod WritesAlone
+pub mod ClosedSlots
