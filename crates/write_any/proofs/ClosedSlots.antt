@@ -1,5 +1,5 @@
 -- Whether the last log block of a chain is closed, by its used slots.
-use Rattle.std.proofs.Common.{◌≡◌, ◌≢◌, ◌⊎◌, inl, inr, ℕ, zero, suc, ◌+◌, ◌<◌, ◌≤◌, ◌==◌, ◌||◌, ◌&&◌, not, if◌then◌else◌, Bool, true, false, List, [], ◌∷◌, length, slice_index, refl, sym, ap, subst, ◌∙◌, arith}
+use Rattle.std.proofs.Common.{◌≡◌, ◌≢◌, ◌⊎◌, inl, inr, ℕ, zero, suc, ◌+◌, ◌-◌, ◌<◌, ◌≤◌, ◌==◌, ◌||◌, ◌&&◌, not, if◌then◌else◌, Bool, true, false, List, [], ◌∷◌, length, slice_index, refl, sym, ap, subst, ◌∙◌, arith}
 use Rattle.std.proofs.lemmas.Bool.{eqb-true, eqb-false, eq-eqb, ne_eqb, or_left, or_right, or_cases}
 use Rattle.std.proofs.lemmas.List.{get_or_past}
 use Rattle.log_entry.specs.declared.layouts.TheConstants.{EMPTY, SEAL}
@@ -63,6 +63,9 @@ unlinked : (closed : Bool) → (closed && false) ≡ false
 unlinked true = refl
 unlinked false = refl
 
+later_last : (log next : LogBlock) (logs : List LogBlock) → last_of (log ∷ next ∷ logs) ≡ last_of (next ∷ logs)
+later_last log next logs = ap (λ (k : ℕ). nth_log (log ∷ next ∷ logs) k) (let e : suc (suc (length logs)) - 1 ≡ suc (suc (length logs) - 1) = omega arith in e)
+
 module _ (words : List ℕ) (image : Shape) (upto : ℕ) where
   abbrev left : ℕ → List ℕ
   left block = block_words words image block
@@ -87,4 +90,5 @@ module _ (words : List ℕ) (image : Shape) (upto : ℕ) where
       (let here = present 0 (omega arith) in
       let same : r ≡ next.block = sym leads.1 ∙ here.link in
       let more = tail_closed next logs rest is.4 (λ number inside. present (suc number) (omega (arith, inside))) (subst (λ (b : ℕ). LeadsAlong words image b rest) same leads.2) in
+      subst (λ (l : LogBlock). (last_block r rest ≡ l.block) × (is_closed (slots_of (left l.block)) ≡ (is_sealed l.slots || (length l.slots == length (slots_of (left l.block)))))) (sym (later_last log next logs))
       (ap (λ (b : ℕ). last_block b rest) same ∙ more.0, more.1))

@@ -53,3 +53,5 @@ pub mod AloneLeads
 pub mod AloneAnswers
 pub mod WritesAlone
 pub mod ClosedSlots
+pub mod TailOfWords
+pub mod LacksExactly
