@@ -1,10 +1,9 @@
 -- What a write that alone makes steps comes to: the reply is the legal one, and the words stand for the file after it.
-use Rattle.std.proofs.Common.{◌≡◌, ◌≢◌, ◌⊎◌, inl, inr, ℕ, ◌+◌, ◌*◌, ◌<◌, ◌≤◌, ◌==◌, nat_lt, Bool, true, false, if◌then◌else◌, List, [], ◌∷◌, ◌++◌, length, length-append, take, Option, Some, None, refl, sym, ap, subst, ◌∙◌, arith, mul-le-mul_right}
+use Rattle.std.proofs.Common.{◌≡◌, ◌≢◌, inl, inr, ℕ, ◌+◌, ◌*◌, ◌<◌, ◌≤◌, ◌==◌, nat_lt, Bool, true, false, if◌then◌else◌, List, [], ◌∷◌, ◌++◌, length, length-append, Option, Some, None, refl, sym, ap, subst, ◌∙◌, arith, mul-le-mul_right}
 use Rattle.std.proofs.lemmas.Bool.{le-ltb, eq-eqb, ne_eqb}
 use Rattle.std.proofs.lemmas.List.{take_all}
-use Rattle.log_entry.specs.Legal.{Answers, AnswersWrite, AnswersPwrite, write_refusal, touched_blocks, last_position, file_after, position_after, is_write, is_some_bytes}
+use Rattle.log_entry.specs.Legal.{Answers, AnswersWrite, AnswersPwrite, write_refusal, touched_blocks, last_position, file_after, position_after, is_some_bytes}
 use Rattle.log_entry.specs.Shape.{longest_of, limit_of}
-use Rattle.log_entry.specs.declared.shapes.Area.{Area}
 use Rattle.log_entry.specs.declared.shapes.Area.TheVariants.{Data, Log, Spare}
 use Rattle.log_entry.specs.declared.calls.Reply.{Reply}
 use Rattle.log_entry.specs.declared.calls.Reply.TheVariants.{Wrote, NotWritten}
@@ -15,7 +14,7 @@ use Rattle.log_image.proofs.OneChain.{one_meaning}
 use Rattle.asks.specs.SharedWords.{SharedWords}
 use Rattle.pmem_words.specs.declared.written.Written.{Written}
 use Rattle.pmem_words.specs.Seats.{Seat}
-use Rattle.log_core.specs.Origin.{Origin, first_position}
+use Rattle.log_core.specs.Origin.{Origin}
 use Rattle.log_core.specs.Files.{Write as WriteOf, accepted_reply, file_after_writes, end_of}
 use Rattle.log_core.specs.Cores.{Core}
 use Rattle.log_core.specs.Crashes.{file_after_first}
@@ -25,7 +24,7 @@ use Rattle.log_core.specs.Starts.{IsStart}
 use Rattle.log_core.proofs.crashes.Recovered.{present_words_have_all}
 use Rattle.write_any.specs.Composing.{block_count, virt_at, IsWhole}
 use Rattle.write_any.specs.WriteAlone.{op_at, reply_by, reply_to, write_at_end, HasAdded, IsAnswered}
-use Rattle.write_any.proofs.AloneStanding.{IsFor, HasPut, IsRefusedFor, EndsBy}
+use Rattle.write_any.proofs.AloneStanding.{IsFor, EndsBy}
 use Rattle.write_any.proofs.Lacks.{some_bytes, touched_count}
 
 -- the words of a core that a run reaches stand for the file after its history

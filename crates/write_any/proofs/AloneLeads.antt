@@ -1,5 +1,5 @@
 -- A write that alone makes steps comes to its end over a memory of one caller, with what it has made of the core.
-use Rattle.std.proofs.Common.{◌≡◌, ◌≢◌, ◌<◌, inl, ℕ, false, true, List, [], slice_index, refl, sym, ap, ◌∙◌, arith}
+use Rattle.std.proofs.Common.{◌≡◌, ◌≢◌, inl, ℕ, false, true, List, slice_index, refl, sym, ap, ◌∙◌, arith}
 use Rattle.log_image.specs.Image.{shape_by}
 use Rattle.log_image.specs.Chains.{is_listed}
 use Rattle.asks.specs.SharedWords.{SharedWords}
@@ -21,12 +21,12 @@ use Rattle.log_core.specs.Knows.{Knows}
 use Rattle.log_core.specs.Within.{no_record, IsLeft}
 use Rattle.log_core.specs.Promising.{Promises}
 use Rattle.log_core.specs.Alone.{IsAlone}
-use Rattle.log_core.proofs.machines.OnCore.{alone, EndsOnCore, EndsOver, leads_alone, alone_plain}
+use Rattle.log_core.proofs.machines.OnCore.{EndsOnCore, EndsOver, leads_alone, alone_plain}
 use Rattle.log_core.proofs.machines.Serving.{reached_keeps, knows_here}
 use Rattle.log_core.proofs.starts.StartMeets.{start_meets}
 use Rattle.write_any.specs.declared.stage.Target.TheVariants.{At}
 use Rattle.write_any.specs.Writing.{write_of, write_script}
-use Rattle.write_any.specs.WriteWithin.{MayWrite, HasWritten}
+use Rattle.write_any.specs.WriteWithin.{HasWritten}
 use Rattle.write_any.specs.WriteAlone.{BeginsWrite}
 use Rattle.write_any.proofs.AloneStages.{stage_moves}
 use Rattle.write_any.proofs.AloneStanding.{IsStarting, EndsAlone, WriteStandsAlone}

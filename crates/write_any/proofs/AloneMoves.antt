@@ -1,19 +1,17 @@
 -- What a write keeps where it alone makes steps, from one step to the next.
-use Rattle.std.proofs.Common.{◌≡◌, ◌≢◌, ℕ, ◌+◌, ◌==◌, nat_lt, Bool, true, false, List, [], length, Option, Some, None, refl, sym, ap, subst, ◌∙◌}
-use Rattle.std.proofs.lemmas.Bool.{eqb-true, eqb-false}
+use Rattle.std.proofs.Common.{◌≡◌, ℕ, ◌+◌, ◌==◌, nat_lt, Bool, true, false, List, Option, Some, None, refl, sym, ap, subst, ◌∙◌}
+use Rattle.std.proofs.lemmas.Bool.{eqb-true}
 use Rattle.log_entry.specs.Fields.{field}
 use Rattle.log_entry.specs.declared.layouts.TheConstants.{BLOCK_BASE, BLOCK_KIND, EMPTY, ENTRY_KIND, INDIRECT, SEAL, SNAPSHOT}
 use Rattle.log_entry.specs.declared.calls.WriteRefusal.{WriteRefusal}
-use Rattle.log_image.specs.Image.{words_in}
 use Rattle.pmem_words.specs.Scripts.{After}
 use Rattle.pmem_words.specs.Parts.{Next, Into, End, moved, onward_at, onward}
 use Rattle.pmem_words.specs.declared.machine.Turn.{Turn}
 use Rattle.pmem_words.specs.declared.machine.Turn.TheVariants.{Go, Done}
-use Rattle.pmem_words.specs.declared.owned.OwnedBlock.{OwnedBlock}
 use Rattle.pmem_words.specs.Seats.{Seat, Walk as WalkState}
-use Rattle.log_core.specs.Origin.{Origin, shape, LogBlock}
-use Rattle.log_core.specs.Files.{Write as WriteOf, end_of}
-use Rattle.log_core.specs.Cores.{Core, is_full}
+use Rattle.log_core.specs.Origin.{Origin, LogBlock}
+use Rattle.log_core.specs.Files.{Write as WriteOf}
+use Rattle.log_core.specs.Cores.{Core}
 use Rattle.log_core.specs.Works.{words_of}
 use Rattle.pins.specs.declared.pin.Pin.{Pin}
 use Rattle.pins.specs.declared.pin.Pin.TheVariants.{Begin as BeginPin, Publish, Confirm}
@@ -24,10 +22,9 @@ use Rattle.log_blocks.specs.declared.walk.Walk.TheVariants.{Begin, Size, Run, Li
 use Rattle.log_blocks.specs.Taking.{with_kept, tail_found}
 use Rattle.log_blocks.specs.Walking.{walk_after, keeps_table, front_after, run_after, next_after, slot_after, tail_after, begin_after, indirect_after}
 use Rattle.write_any.specs.WriteAlone.{HasAdded}
-use Rattle.write_any.proofs.AloneBits.{KnowsBits, IsTakenSince}
-use Rattle.write_any.proofs.AloneStanding.{IsUnput, IsAtLogEnd, HasPut, IsRefusedFor, EndsBy}
+use Rattle.write_any.proofs.AloneStanding.{IsUnput, IsAtLogEnd, EndsBy}
 use Rattle.write_any.proofs.AloneSteps.{Stays, bits_same}
-use Rattle.write_any.proofs.OpenTail.{last_of, IsOpenTail}
+use Rattle.write_any.proofs.OpenTail.{IsOpenTail}
 
 -- what is to hold where the whole goes on, and where it ends with an outcome
 module _ {C Out : Type 0} (K : C → Seat → Type 0) (E : Out → Seat → Type 0) where

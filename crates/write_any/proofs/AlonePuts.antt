@@ -1,23 +1,21 @@
 -- The stages of a write that put a word into the log, where it alone makes steps: the word found is 0, so none is lost.
-use Rattle.std.proofs.Common.{◌≡◌, ◌≢◌, ℕ, ◌+◌, ◌-◌, ◌<◌, ◌≤◌, ◌==◌, ◌&&◌, ◌||◌, not, Bool, true, false, List, [], ◌∷◌, ◌++◌, length, Option, Some, None, refl, sym, ap, subst, ◌∙◌, arith}
-use Rattle.std.proofs.lemmas.Bool.{eqb-true, eqb-false, eq-eqb, ne_eqb}
-use Rattle.log_entry.specs.Legal.{last_position}
+use Rattle.std.proofs.Common.{◌≡◌, ◌≢◌, ℕ, ◌+◌, ◌<◌, ◌≤◌, ◌==◌, ◌&&◌, not, Bool, true, false, List, [], ◌∷◌, ◌++◌, length, refl, sym, ap, subst, ◌∙◌, arith}
+use Rattle.std.proofs.lemmas.Bool.{eqb-false, eq-eqb, ne_eqb}
 use Rattle.log_entry.specs.declared.calls.Op.{Op}
 use Rattle.log_entry.specs.declared.layouts.TheConstants.{EMPTY, SEAL}
-use Rattle.log_image.specs.Image.{shape_by, words_in}
+use Rattle.log_image.specs.Image.{words_in}
 use Rattle.pmem_words.specs.Parts.{onward}
 use Rattle.pmem_words.specs.declared.keeps.Task.{Task}
-use Rattle.pmem_words.specs.declared.machine.Turn.TheVariants.{Go, Done}
 use Rattle.pmem_words.specs.Seats.{Seat}
 use Rattle.persistence.specs.Memory.{found_answer}
 use Rattle.log_core.specs.Entries.{LogEntry, place_in}
 use Rattle.log_core.specs.Views.{Ghost, view_of, op_of, op_in}
-use Rattle.log_core.specs.Origin.{Origin, shape, q_of_origin, start_base, LogBlock}
+use Rattle.log_core.specs.Origin.{Origin, shape, q_of_origin, LogBlock}
 use Rattle.log_core.specs.Files.{Write as WriteOf, entries, end_of, file_at, history_size_at}
 use Rattle.log_core.specs.Cores.{Core, is_full}
 use Rattle.log_core.specs.Within.{no_record, note_of}
 use Rattle.log_core.specs.Steps.{Note, Kind, ExchangesLink, ExchangesSlot, kind_of_ask, new_meaning}
-use Rattle.log_core.specs.After.{history_after, history_if, logs_after, log_if, op_or_size, write_of}
+use Rattle.log_core.specs.After.{history_after, history_if, logs_after, log_if, op_or_size}
 use Rattle.log_core.specs.May.{May, MayExchangeSlot}
 use Rattle.log_core.specs.Works.{seat_shape, words_of}
 use Rattle.log_core.proofs.machines.MachineLaws.{HasBegun}
@@ -27,7 +25,6 @@ use Rattle.log_blocks.specs.declared.grow.Grow.{Grow}
 use Rattle.log_blocks.specs.declared.offer.Offer.{Offer}
 use Rattle.log_blocks.specs.Growing.{grow_script, grow_after, linked}
 use Rattle.log_blocks.specs.Offering.{offer_script, offer_after}
-use Rattle.log_blocks.specs.Committing.{committed}
 use Rattle.log_blocks.proofs.GrowWithin.{grow_law}
 use Rattle.log_blocks.proofs.TailExchange.{wide, kind_at, kind_at_slot}
 use Rattle.write_any.specs.declared.stage.Target.{Target}
@@ -38,9 +35,9 @@ use Rattle.write_any.specs.declared.write.Write.{Write}
 use Rattle.pmem_words.specs.declared.written.Written.{Written}
 use Rattle.pmem_words.specs.declared.keeps.Task.TheVariants.{Pwrite}
 use Rattle.log_entry.specs.declared.calls.Op.TheVariants.{Pwrite as PwriteOp}
-use Rattle.write_any.specs.WriteAlone.{HasAdded, write_at_end}
+use Rattle.write_any.specs.WriteAlone.{write_at_end}
 use Rattle.write_any.proofs.AloneMoves.{MovesTo}
-use Rattle.write_any.proofs.AloneStanding.{HasBoth, IsToOffer, IsEnded, EndsAlone, HasPut, WriteStandsAlone}
+use Rattle.write_any.proofs.AloneStanding.{HasBoth, IsToOffer, EndsAlone, WriteStandsAlone}
 use Rattle.write_any.proofs.OfferLaw.{offering_law}
 use Rattle.write_any.proofs.OpenTail.{last_of, IsOpenTail, slot_empty, link_empty, last_more}
 use Rattle.write_any.proofs.Riding.{StepsOn, next_core, ghost_on}

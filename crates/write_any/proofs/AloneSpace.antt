@@ -1,5 +1,5 @@
 -- How many blocks are clear where a write begins that alone makes steps, by what it has taken and found taken.
-use Rattle.std.proofs.Common.{◌≡◌, ◌≢◌, ◌⊎◌, inl, inr, ℕ, ◌+◌, ◌-◌, ◌<◌, ◌≤◌, ◌/◌, ◌%◌, ◌==◌, ◌||◌, not, Bool, true, false, List, [], ◌∷◌, length, filter, slice_index, refl, sym, ap, subst, ◌∙◌, arith}
+use Rattle.std.proofs.Common.{◌≡◌, ◌≢◌, inl, inr, ℕ, ◌+◌, ◌-◌, ◌<◌, ◌≤◌, ◌/◌, ◌%◌, ◌==◌, ◌||◌, not, Bool, true, false, List, [], ◌∷◌, length, slice_index, refl, sym, ap, subst, ◌∙◌, arith}
 use Rattle.std.specs.Int.{bit_at}
 use Rattle.std.specs.List.{range_with_len}
 use Rattle.std.proofs.lemmas.Bool.{eqb-true, eq-eqb, and_parts, and_from, or_left, false_from_ne_true}
@@ -14,7 +14,7 @@ use Rattle.log_image.proofs.NameLemmas.{range_different}
 use Rattle.pmem_words.specs.Owned.{owned_at}
 use Rattle.pmem_words.specs.declared.owned.OwnedBlock.{OwnedBlock}
 use Rattle.pmem_words.specs.Seats.{Seat}
-use Rattle.log_core.specs.Origin.{Origin, shape, Owner, Free, OwnedBy}
+use Rattle.log_core.specs.Origin.{Origin, shape, Owner, OwnedBy}
 use Rattle.log_core.specs.Cores.{Core}
 use Rattle.log_core.specs.Needs.{is_in_area, is_one_run, is_found_taken, owned_numbers, owned_in}
 use Rattle.log_core.specs.Owners.{SeatOwns}
@@ -26,11 +26,10 @@ use Rattle.log_core.proofs.clauses.Others.{owned_listed}
 use Rattle.block_bitmap.specs.TakeAlone.{free_blocks}
 use Rattle.block_bitmap.proofs.TakeWords.{area_from, area_at}
 use Rattle.write_any.specs.Composing.{block_count, are_one_run}
-use Rattle.write_any.specs.LackingAlone.{LacksData}
 use Rattle.write_any.proofs.AloneBits.{IsTakenSince, KnowsBits, clear_free, free_clear}
 use Rattle.write_any.proofs.AloneStanding.{NoData, NoLog, HasApart}
 use Rattle.write_any.proofs.ComposedBlocks.{one_run_each}
-use Rattle.write_any.proofs.RisingNumbers.{Rises, range_bounds, each_in, one_run_in_order}
+use Rattle.write_any.proofs.RisingNumbers.{range_bounds, each_in}
 use Rattle.write_any.proofs.SameNumbers.{AreIn, no_more_in, all_in, same_run, one_run_from}
 
 -- blocks that are one run in the order of their list are one run

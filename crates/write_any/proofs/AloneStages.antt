@@ -1,15 +1,13 @@
 -- Each step of a write keeps where it stands, where it alone makes steps.
-use Rattle.std.proofs.Common.{◌≡◌, ◌≢◌, ◌⊎◌, inl, inr, ℕ, ◌+◌, ◌-◌, ◌<◌, ◌==◌, Bool, true, false, if◌then◌else◌, List, [], length, slice_index, Option, Some, None, refl, sym, ap, subst, ◌∙◌, arith}
+use Rattle.std.proofs.Common.{◌≡◌, ◌≢◌, inl, inr, ℕ, ◌==◌, Bool, true, false, if◌then◌else◌, List, length, slice_index, Option, refl, sym, ap, subst, ◌∙◌, arith}
 use Rattle.std.proofs.lemmas.Bool.{eqb-true, eqb-false}
 use Rattle.log_entry.specs.Legal.{last_position}
 use Rattle.log_entry.specs.declared.calls.WriteRefusal.{WriteRefusal}
-use Rattle.log_entry.specs.declared.calls.WriteRefusal.TheVariants.{PositionLimit}
 use Rattle.log_entry.specs.declared.layouts.TheConstants.{EMPTY}
 use Rattle.log_image.specs.Image.{shape_by, words_in}
-use Rattle.pmem_words.specs.declared.machine.Turn.TheVariants.{Go, Done}
 use Rattle.pmem_words.specs.declared.owned.OwnedBlock.{OwnedBlock}
 use Rattle.pmem_words.specs.declared.written.Written.{Written}
-use Rattle.pmem_words.specs.Seats.{Seat, q_of, Walk as WalkState}
+use Rattle.pmem_words.specs.Seats.{Seat, q_of}
 use Rattle.persistence.specs.Memory.{found_answer}
 use Rattle.log_core.specs.Entries.{place_in}
 use Rattle.log_core.specs.Origin.{Origin, shape, q_of_origin, OwnedBy}
@@ -29,24 +27,20 @@ use Rattle.block_bitmap.specs.declared.fill.Fill.{Fill}
 use Rattle.block_bitmap.specs.declared.give.Give.{Give}
 use Rattle.block_bitmap.specs.Filling.{fill_script}
 use Rattle.block_bitmap.specs.Giving.{give_script}
-use Rattle.log_blocks.specs.declared.walk.Tail.{Tail}
 use Rattle.log_blocks.specs.declared.walk.Walk.{Walk}
 use Rattle.log_blocks.specs.declared.walk.Walk.TheVariants.{Begin}
-use Rattle.log_blocks.specs.Walking.{walk_script, walk_asks, walk_after, block_at, word_at}
-use Rattle.log_blocks.specs.Taking.{tail_found}
+use Rattle.log_blocks.specs.Walking.{walk_script, walk_asks, walk_after}
 use Rattle.write_any.specs.declared.stage.Target.{Target}
 use Rattle.write_any.specs.declared.stage.Stage.{Stage}
 use Rattle.write_any.specs.declared.stage.Stage.TheVariants.{Pinning, Walking, Taking, TakingRuns, Filling, TakingLog, FillingLog, Growing, GivingLog, Offering, Unpinning, Giving}
 use Rattle.write_any.specs.declared.write.Write.{Write}
-use Rattle.write_any.specs.Composing.{last_block}
 use Rattle.write_any.specs.Writing.{at_stage, pinned_so, walked_by, walked_so, tail_by, filled_so, filled_log_so, unpinned_by, unpinned_so, given_so, stage_after, write_script}
 use Rattle.write_any.specs.WriteWithin.{MayWrite}
 use Rattle.write_any.proofs.AloneMoves.{FitsOn, MovesTo, moves_onward, IsAside, pin_aside, walk_aside, IsWalkEnd, walk_end, open_moves, unput_stays, at_end_stays, ends_stay}
 use Rattle.write_any.proofs.AlonePuts.{growing_moves, offering_moves}
-use Rattle.write_any.proofs.AloneStanding.{IsStarting, IsAtLogEnd, HasData, HasBoth, IsToOffer, IsEnded, EndsAlone, StageAlone, WriteStandsAlone}
+use Rattle.write_any.proofs.AloneStanding.{IsStarting, IsAtLogEnd, HasData, HasBoth, IsEnded, EndsAlone, StageAlone, WriteStandsAlone}
 use Rattle.write_any.proofs.AloneSteps.{Stays, plain_stays, pin_plain, unpin_plain, walk_plain, fill_plain}
 use Rattle.write_any.proofs.AloneTakes.{taking_moves, taking_runs_moves, taking_log_moves}
-use Rattle.write_any.proofs.Composed.{bare}
 use Rattle.write_any.proofs.OpenTail.{last_of, IsOpenTail, open_at_slot, open_at_link}
 use Rattle.write_any.proofs.Riding.{StepsOn, HasStepped, next_core, ghost_on}
 use Rattle.write_any.proofs.RoundFalls.{fill_bare}

@@ -1,14 +1,13 @@
 -- Where a write that alone makes steps stands, stage by stage: what it has made of the core since it began.
-use Rattle.std.proofs.Common.{◌≡◌, ◌≢◌, ℕ, ◌+◌, ◌<◌, ◌≤◌, true, false, List, [], ◌∷◌, ◌++◌, length, Option, Some, None}
+use Rattle.std.proofs.Common.{◌≡◌, ◌≢◌, ℕ, ◌+◌, ◌≤◌, true, false, List, [], length, Option, Some, None}
 use Rattle.log_entry.specs.Legal.{last_position}
 use Rattle.log_entry.specs.declared.shapes.Area.TheVariants.{Data, Log}
 use Rattle.log_entry.specs.declared.calls.WriteRefusal.{WriteRefusal}
 use Rattle.log_entry.specs.declared.calls.WriteRefusal.TheVariants.{NoSpace, PositionLimit}
-use Rattle.log_image.specs.Image.{words_in}
 use Rattle.pmem_words.specs.declared.written.Written.{Written}
-use Rattle.pmem_words.specs.Seats.{Seat, Calling}
+use Rattle.pmem_words.specs.Seats.{Seat}
 use Rattle.log_core.specs.Origin.{Origin, shape}
-use Rattle.log_core.specs.Files.{Write, end_of}
+use Rattle.log_core.specs.Files.{end_of}
 use Rattle.log_core.specs.Cores.{Core, is_full}
 use Rattle.log_core.specs.Needs.{is_one_run}
 use Rattle.block_bitmap.specs.TakeAlone.{free_blocks}

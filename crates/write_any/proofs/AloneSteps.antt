@@ -1,5 +1,5 @@
 -- What a step that is no exchange leaves of the core's history, log and owners, and what taking blocks makes of the bits that a seat knows.
-use Rattle.std.proofs.Common.{◌≡◌, ◌⊎◌, inl, inr, ℕ, ◌<◌, ◌-◌, ◌==◌, ◌≢◌, [], Bool, true, false, List, length, slice_index, slice_set, bit_or, if◌then◌else◌, Option, Some, None, refl, sym, ap, subst, ◌∙◌}
+use Rattle.std.proofs.Common.{◌≡◌, ℕ, ◌-◌, ◌==◌, ◌≢◌, [], Bool, true, false, List, length, slice_index, if◌then◌else◌, Option, Some, None, refl, sym, ap, subst, ◌∙◌}
 use Rattle.pmem_words.specs.Seats.{Seat}
 use Rattle.asks.specs.declared.ask.Ask.{Ask}
 use Rattle.persistence.specs.Memory.{found, found_answer}
@@ -7,7 +7,6 @@ use Rattle.log_core.specs.Views.{MarkedWord, Ghost, view_of}
 use Rattle.log_core.specs.Owners.{SeatOwns}
 use Rattle.block_bitmap.proofs.TakeEffects.{effect_is}
 use Rattle.log_core.specs.Origin.{Origin, Owner, q_of_origin}
-use Rattle.log_core.specs.Files.{Write}
 use Rattle.log_core.specs.Cores.{Core}
 use Rattle.log_core.specs.Steps.{Note, Does, Kind, LoadsHead, StoresOwnPin, LoadsPinWord, LoadsImageWord, LoadsBitmapWord, SetsBits, ClearsBits, StoresWord, ExchangesSlot, ExchangesLink, ExchangesHead, MarksWord, Fences, NoKind, kind_of_ask, effect}
 use Rattle.log_core.specs.After.{after, history_after, logs_after, owner_after}
@@ -24,7 +23,7 @@ use Rattle.pins.specs.Steps.{generation_in}
 use Rattle.block_bitmap.specs.declared.take.Take.{Take}
 use Rattle.block_bitmap.specs.declared.fill.Fill.{Fill}
 use Rattle.block_bitmap.specs.declared.fill.Fill.TheVariants.{Store, Mark, Fence}
-use Rattle.block_bitmap.specs.TakeScript.{take_script, asks_at, after_at, word_of, wanted_at, gained_at, open_at, less, known_set, seat_set, with_found}
+use Rattle.block_bitmap.specs.TakeScript.{asks_at, after_at, word_of, wanted_at, gained_at, open_at, less, known_set, seat_set, with_found}
 use Rattle.block_bitmap.specs.TakeBits.{bits_of}
 use Rattle.block_bitmap.specs.Filling.{fill_asks}
 use Rattle.log_blocks.specs.declared.walk.Walk.{Walk}

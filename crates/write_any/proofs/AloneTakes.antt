@@ -1,5 +1,5 @@
 -- The stages of a write that take blocks, where it alone makes steps: it is refused exactly where too few were clear at first.
-use Rattle.std.proofs.Common.{◌≡◌, ◌≢◌, ℕ, ◌+◌, ◌-◌, ◌<◌, ◌==◌, Bool, true, false, List, [], ◌∷◌, ◌++◌, length, slice_index, Some, refl, sym, ap, subst, ◌∙◌, arith}
+use Rattle.std.proofs.Common.{◌≡◌, ◌≢◌, ℕ, ◌+◌, ◌-◌, ◌==◌, Bool, true, false, List, [], ◌∷◌, ◌++◌, length, slice_index, Some, refl, sym, ap, subst, ◌∙◌, arith}
 use Rattle.std.proofs.lemmas.Bool.{false_from_ne_true, eq-eqb, or_left, or_right}
 use Rattle.std.proofs.lemmas.List.{length-map, nil_from_length}
 use Rattle.log_entry.specs.Legal.{last_position}
@@ -9,7 +9,7 @@ use Rattle.log_entry.specs.declared.calls.WriteRefusal.TheVariants.{NoSpace as R
 use Rattle.log_image.specs.Image.{shape_by, words_in}
 use Rattle.log_image.specs.Chains.{is_listed}
 use Rattle.pmem_words.specs.declared.keeps.Task.{Task}
-use Rattle.pmem_words.specs.declared.machine.Turn.TheVariants.{Go, Done}
+use Rattle.pmem_words.specs.declared.machine.Turn.TheVariants.{Done}
 use Rattle.pmem_words.specs.declared.owned.OwnedBlock.{OwnedBlock}
 use Rattle.pmem_words.specs.Seats.{Seat, Walk as WalkState}
 use Rattle.persistence.specs.Memory.{found_answer}
@@ -17,7 +17,7 @@ use Rattle.log_core.specs.Views.{Ghost, view_of}
 use Rattle.log_core.specs.Origin.{Origin, shape, q_of_origin, OwnedBy, LogBlock}
 use Rattle.log_core.specs.Files.{end_of}
 use Rattle.log_core.specs.Cores.{Core, is_full}
-use Rattle.log_core.specs.Needs.{is_one_run, is_found_taken, owned_numbers, owned_in, lacking}
+use Rattle.log_core.specs.Needs.{is_one_run, owned_numbers, owned_in, lacking}
 use Rattle.log_core.specs.Steps.{Note, Does, kind_of_ask}
 use Rattle.log_core.specs.May.{May}
 use Rattle.log_core.specs.Knows.{Knows}
@@ -34,7 +34,6 @@ use Rattle.block_bitmap.specs.TakeWithin.{HasEnded}
 use Rattle.block_bitmap.proofs.TakeMarks.{has_both}
 use Rattle.write_any.specs.declared.stage.Target.{Target}
 use Rattle.write_any.specs.declared.stage.Stage.TheVariants.{Taking, TakingRuns, TakingLog}
-use Rattle.write_any.specs.declared.write.Write.{Write}
 use Rattle.write_any.specs.Composing.{block_count, are_one_run, composed}
 use Rattle.write_any.specs.Writing.{at_stage, offset_of, taken_stage, taken_seat, taken_so, taken_runs_so, taken_log_so, stage_after, write_script}
 use Rattle.write_any.specs.WriteWithin.{MayWrite, unwritten}
@@ -42,10 +41,10 @@ use Rattle.pmem_words.specs.Parts.{Into}
 use Rattle.write_any.proofs.AloneBits.{KnowsBits}
 use Rattle.write_any.proofs.AloneMoves.{FitsOn, MovesTo, moves_onward, open_moves}
 use Rattle.write_any.proofs.AloneSpace.{one_run_numbers, few_clear, one_run_clear, apart_clear, more_clear, no_more_clear, log_clear, no_log_clear}
-use Rattle.write_any.proofs.AloneStanding.{IsFor, NoData, NoLog, HasApart, IsUnput, IsAtLogEnd, IsTakingMore, HasData, HasBoth, IsEnded, EndsAlone, WriteStandsAlone}
+use Rattle.write_any.proofs.AloneStanding.{IsFor, IsAtLogEnd, IsTakingMore, HasData, IsEnded, EndsAlone, WriteStandsAlone}
 use Rattle.log_core.specs.Owners.{SeatOwns}
 use Rattle.write_any.proofs.AloneSteps.{take_bits, take_history, take_owns}
-use Rattle.write_any.proofs.Composed.{bare, composed_bare}
+use Rattle.write_any.proofs.Composed.{composed_bare}
 use Rattle.write_any.proofs.ComposedBlocks.{OwnsZeros}
 use Rattle.write_any.proofs.LimitLaw.{taking_log_law}
 use Rattle.write_any.proofs.LostStages.{told_so}
@@ -163,8 +162,10 @@ module _ (offset : ℕ) (o : Origin) (seat number : ℕ) (s0 : Seat) (g0 : Ghost
           let all = many (NoSpace area) done in
           let fewer = none.1 in
           subst (λ (which : Area). IsEnded offset o seat number s0 c0 (Some (RefusesSpace which)) v e) (sym none.0)
-          (refused Data v e now (position (NoSpace area) done,
-          few_clear offset o seat number s0 c0 inv0 shape_is none_mine v e.owner now.unput.bits mine (same_image (NoSpace area) done) (owns (NoSpace area) done).numbers (owns (NoSpace area) done).once (omega (arith, all, fewer)) none.2)))
+          (refused Data v e now (
+            position (NoSpace area) done,
+            few_clear offset o seat number s0 c0 inv0 shape_is none_mine v e.owner now.unput.bits mine (same_image (NoSpace area) done) (owns (NoSpace area) done).numbers (owns (NoSpace area) done).once (omega (arith, all, fewer)) none.2,
+          )))
 
       pub taking_moves : MovesTo (λ m w. WriteStandsAlone offset o seat number s0 c0 m w e) (λ out w. EndsAlone offset o seat number s0 c0 out w e) (stage_after t (Taking p) s a)
       taking_moves = moves_onward (λ m w. WriteStandsAlone offset o seat number s0 c0 m w e) (λ out w. EndsAlone offset o seat number s0 c0 out w e) (λ n. at_stage t (Taking n)) (taken_so t) (take_script.after p s a) (λ go. now) by
@@ -220,8 +221,10 @@ module _ (offset : ℕ) (o : Origin) (seat number : ℕ) (s0 : Seat) (g0 : Ghost
           let all = many_now (NoSpace area) done in
           let fewer = none.1 in
           subst (λ (which : Area). IsEnded offset o seat number s0 c0 (Some (RefusesSpace which)) v2 e2) (sym none.0)
-          (refused Data v2 e2 now_more (position_now (NoSpace area) done,
-          no_more_clear offset o seat number s0 c0 inv0 shape_is none_mine v2 e2.owner now_more.unput.bits mine2 (image_now (NoSpace area) done) (owns_now (NoSpace area) done).numbers (owns_now (NoSpace area) done).once (omega (arith, all, fewer)) none.2 x.apart)))
+          (refused Data v2 e2 now_more (
+            position_now (NoSpace area) done,
+            no_more_clear offset o seat number s0 c0 inv0 shape_is none_mine v2 e2.owner now_more.unput.bits mine2 (image_now (NoSpace area) done) (owns_now (NoSpace area) done).numbers (owns_now (NoSpace area) done).once (omega (arith, all, fewer)) none.2 x.apart,
+          )))
 
       pub taking_runs_moves : MovesTo (λ m w. WriteStandsAlone offset o seat number s0 c0 m w e2) (λ out w. EndsAlone offset o seat number s0 c0 out w e2) (stage_after t (TakingRuns p) s a2)
       taking_runs_moves = moves_onward (λ m w. WriteStandsAlone offset o seat number s0 c0 m w e2) (λ out w. EndsAlone offset o seat number s0 c0 out w e2) (λ n. at_stage t (TakingRuns n)) (taken_runs_so t) (take_script.after p s a2)
@@ -295,10 +298,14 @@ module _ (offset : ℕ) (o : Origin) (seat number : ℕ) (s0 : Seat) (g0 : Ghost
           let no_blocks : (log_ended (NoSpace area) done).blocks ≡ [] = nil_from_length (log_ended (NoSpace area) done).blocks (let fewer = none.1 in omega (arith, fewer)) in
           let none_owned : owned_in v3 Log ≡ [] = (log_ended (NoSpace area) done).grown.more ∙ (ap (λ (l : List ℕ). l ++ (log_ended (NoSpace area) done).blocks) (none_before (NoSpace area) done) ∙ no_blocks) in
           subst (λ (which : Area). IsEnded offset o seat number s0 c0 (Some (RefusesSpace which)) v3 e3) (sym none.0)
-          (refused Log v3 e3 now_log (log_position (NoSpace area) done, x.data_space, record {
-            full = subst (λ (l : List LogBlock). is_full (shape o) (last_of l).slots ≡ true) now_log.unput.logs (now_log.opens.closes (at_block_end (NoSpace area) done));
-            none_clear = no_log_clear offset o seat number s0 c0 inv0 shape_is none_mine v3 e3.owner now_log.unput.bits mine3 (log_image (NoSpace area) done) none_owned none.2;
-          })))
+          (refused Log v3 e3 now_log (
+            log_position (NoSpace area) done,
+            x.data_space,
+            record {
+              full = subst (λ (l : List LogBlock). is_full (shape o) (last_of l).slots ≡ true) now_log.unput.logs (now_log.opens.closes (at_block_end (NoSpace area) done));
+              none_clear = no_log_clear offset o seat number s0 c0 inv0 shape_is none_mine v3 e3.owner now_log.unput.bits mine3 (log_image (NoSpace area) done) none_owned none.2;
+            },
+          )))
 
       pub taking_log_moves : MovesTo (λ m w. WriteStandsAlone offset o seat number s0 c0 m w e3) (λ out w. EndsAlone offset o seat number s0 c0 out w e3) (stage_after t (TakingLog p) s a3)
       taking_log_moves = moves_onward (λ m w. WriteStandsAlone offset o seat number s0 c0 m w e3) (λ out w. EndsAlone offset o seat number s0 c0 out w e3) (λ n. at_stage t (TakingLog n)) (taken_log_so t) (take_script.after p s a3)

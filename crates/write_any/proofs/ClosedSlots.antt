@@ -1,17 +1,17 @@
 -- Whether the last log block of a chain is closed, by its used slots.
-use Rattle.std.proofs.Common.{◌≡◌, ◌≢◌, ◌⊎◌, inl, inr, ℕ, zero, suc, ◌+◌, ◌-◌, ◌<◌, ◌≤◌, ◌==◌, ◌||◌, ◌&&◌, not, if◌then◌else◌, Bool, true, false, List, [], ◌∷◌, length, slice_index, refl, sym, ap, subst, ◌∙◌, arith}
-use Rattle.std.proofs.lemmas.Bool.{eqb-true, eqb-false, eq-eqb, ne_eqb, or_left, or_right, or_cases}
+use Rattle.std.proofs.Common.{◌≡◌, ◌≢◌, ◌⊎◌, inl, inr, ℕ, zero, suc, ◌+◌, ◌-◌, ◌<◌, ◌==◌, ◌||◌, ◌&&◌, not, if◌then◌else◌, Bool, true, false, List, [], ◌∷◌, length, slice_index, refl, sym, ap, subst, ◌∙◌, arith}
+use Rattle.std.proofs.lemmas.Bool.{eqb-true, eqb-false, eq-eqb, ne_eqb}
 use Rattle.std.proofs.lemmas.List.{get_or_past}
 use Rattle.log_entry.specs.declared.layouts.TheConstants.{EMPTY, SEAL}
 use Rattle.log_image.specs.Image.{Shape, block_words}
-use Rattle.log_image.specs.Blocks.{slots_of, entry_words, is_closed, link_of, is_snapshot, leads_on}
+use Rattle.log_image.specs.Blocks.{slots_of, is_closed, link_of, is_snapshot, leads_on}
 use Rattle.log_image.specs.Chains.{LeadsAlong}
 use Rattle.log_image.specs.Tails.{last_block}
 use Rattle.log_core.specs.Origin.{LogBlock, no_log}
 use Rattle.log_core.specs.Cores.{nth_log, is_sealed}
 use Rattle.log_core.proofs.LogTails.{entries_short, sealed_at}
-use Rattle.log_core.proofs.crashes.LeftLogs.{LogLeft, LogsLeft, form}
-use Rattle.log_core.proofs.crashes.LeftSlots.{SlotsLeft, Stayed, Enough, All, stayed, SlotsStay, slots_stay}
+use Rattle.log_core.proofs.crashes.LeftLogs.{LogsLeft, form}
+use Rattle.log_core.proofs.crashes.LeftSlots.{SlotsLeft, Stayed, Enough, All, stayed, slots_stay}
 use Rattle.write_any.proofs.OpenTail.{last_of}
 
 -- slots with an empty one before any seal are not closed

@@ -1,5 +1,5 @@
 -- A write of whole blocks is refused exactly where the words that it begins at say so, where no other seat makes a step.
-use Rattle.std.proofs.Common.{◌≡◌, ◌≢◌, ◌↔◌, ℕ, Bool, true, false, List, length, Option, Some, None, refl, sym, ap, subst, ◌∙◌}
+use Rattle.std.proofs.Common.{◌≡◌, ◌≢◌, ◌↔◌, ℕ, List, length, Option, Some, None, refl, sym, ap, subst, ◌∙◌}
 use Rattle.log_entry.specs.Legal.{last_position}
 use Rattle.log_entry.specs.declared.shapes.Area.TheVariants.{Data, Log, Spare}
 use Rattle.log_entry.specs.declared.calls.WriteRefusal.{WriteRefusal}

@@ -1,5 +1,5 @@
 -- Where a seat stands at the end of the log, and no other seat makes a step: its tail's slot is empty, and its tail's link is 0.
-use Rattle.std.proofs.Common.{◌≡◌, ◌≢◌, ◌<◌, ◌≤◌, ◌+◌, ◌-◌, ◌==◌, ◌||◌, ℕ, Bool, true, false, List, [], ◌∷◌, ◌++◌, length, length-append, refl, sym, ◌∙◌, ap, subst, arith, slice_index}
+use Rattle.std.proofs.Common.{◌≡◌, ◌≢◌, ◌<◌, ◌+◌, ◌-◌, ◌==◌, ℕ, true, false, List, [], ◌∷◌, ◌++◌, length, length-append, refl, sym, ◌∙◌, ap, arith, slice_index}
 use Rattle.std.proofs.lemmas.Bool.{ne_eqb, or_from}
 use Rattle.std.proofs.lemmas.List.{get_or_past}
 use Rattle.log_image.specs.Image.{Shape, words_in}
@@ -11,12 +11,12 @@ use Rattle.log_core.specs.Origin.{Origin, shape, LogBlock, no_log}
 use Rattle.log_core.specs.Files.{Write, end_of}
 use Rattle.log_core.specs.Cores.{Core, nth_log, number_at, is_sealed, is_full, entries_used}
 use Rattle.log_core.specs.Order.{nth_generation, LogStands}
-use Rattle.log_core.specs.Works.{seat_shape, words_of, tail_index}
+use Rattle.log_core.specs.Works.{seat_shape, words_of}
 use Rattle.log_core.specs.Invariant.{Invariant}
 use Rattle.log_core.specs.Knows.{Knows}
 use Rattle.log_core.proofs.LogTails.{TailLog, unsealed, number_again}
 use Rattle.log_core.proofs.PinnedChains.{place, kept}
-use Rattle.log_core.proofs.TailEnds.{IsLastTail, same_shape, same_words, walked, tail, slot_last, last_long, last_used, link_last, last_full}
+use Rattle.log_core.proofs.TailEnds.{same_shape, same_words, walked, tail, slot_last, last_long, last_used, link_last, last_full}
 
 -- the last of the log blocks
 abbrev pub last_of : List LogBlock → LogBlock

@@ -1,7 +1,7 @@
 -- Lists of different numbers, compared by what they have.
-use Rattle.std.proofs.Common.{◌≡◌, ◌≢◌, ◌⊎◌, inl, inr, ℕ, zero, suc, ◌+◌, ◌<◌, ◌≤◌, ◌==◌, ◌&&◌, ◌||◌, not, Bool, true, false, List, [], ◌∷◌, length, filter, if◌then◌else◌, refl, sym, ap, ◌∙◌, arith}
+use Rattle.std.proofs.Common.{◌≡◌, ◌⊎◌, inl, inr, ℕ, zero, suc, ◌+◌, ◌<◌, ◌≤◌, ◌==◌, ◌||◌, not, Bool, true, false, List, [], ◌∷◌, length, filter, if◌then◌else◌, refl, sym, ap, ◌∙◌, arith}
 use Rattle.std.specs.List.{range_with_len, list_any, list_all}
-use Rattle.std.proofs.lemmas.Bool.{eqb-true, eqb-false, eq-eqb, ne_eqb, cases_eq, and_parts, and_from, or_left, or_right, or_cases, not-true, false_from_ne_true}
+use Rattle.std.proofs.lemmas.Bool.{eqb-true, eq-eqb, ne_eqb, and_parts, and_from, or_left, or_right, or_cases, not-true}
 use Rattle.log_image.specs.Chains.{all_different, is_listed}
 use Rattle.log_core.specs.Needs.{is_one_run}
 use Rattle.log_core.proofs.BlockLists.{has_filter}
@@ -39,9 +39,9 @@ no_more_in (x ∷ xs) ys once are =
     (let parts = and_parts (not (is_listed xs x)) (all_different xs) once in
     let less = one_less x ys (are x (first_in x xs)) in
     let rest = no_more_in xs (filter (λ (y : ℕ). not (y == x)) ys) parts.1 (λ z there. has_filter (λ (y : ℕ). not (y == x)) ys z
-        ∙ and_from (not (z == x)) (is_listed ys z)
-        (apart z there (not-true (is_listed xs x) parts.0))
-        (are z (or_right (x == z) (is_listed xs z) there))) in
+    ∙ and_from (not (z == x)) (is_listed ys z)
+    (apart z there (not-true (is_listed xs x) parts.0))
+    (are z (or_right (x == z) (is_listed xs z) there))) in
     omega (arith, less, rest))
   where
     apart : (z : ℕ) → is_listed xs z ≡ true → is_listed xs x ≡ false → not (z == x) ≡ true

@@ -8,7 +8,7 @@ use Rattle.log_entry.specs.declared.layouts.TheConstants.{HEAD_GENERATION}
 use Rattle.log_image.specs.Image.{Shape, words_in, total, block_words}
 use Rattle.log_image.specs.Header.{shape_of, head_block}
 use Rattle.log_image.specs.declared.header.TheConstants.{HEADER_BLOCK_POWER, HEADER_DATA, HEADER_LOG}
-use Rattle.log_image.specs.Blocks.{slots_of, is_closed, link_of}
+use Rattle.log_image.specs.Blocks.{slots_of, is_closed}
 use Rattle.log_image.specs.Chains.{IsChain}
 use Rattle.log_image.specs.Tails.{AtSlot, AtLink, tail_of, last_block}
 use Rattle.log_image.proofs.BlockLemmas.{block_inside}
@@ -16,10 +16,10 @@ use Rattle.log_image.proofs.ImageLemmas.{in_block, length_range}
 use Rattle.log_image.proofs.OneChain.{one_chain}
 use Rattle.persistence.specs.Memory.{cell}
 use Rattle.persistence.specs.Survivors.{IsPossible, Survives}
-use Rattle.log_core.specs.Entries.{head_place, place_in}
+use Rattle.log_core.specs.Entries.{head_place}
 use Rattle.log_core.specs.Origin.{Origin, shape, first_generation, Owner, Free, InChain, LeftTo, LogBlock, Generation}
 use Rattle.log_core.specs.Files.{entries, end_of}
-use Rattle.log_core.specs.Cores.{Core, nth_log, is_named, is_sealed, is_full}
+use Rattle.log_core.specs.Cores.{Core, nth_log, is_sealed, is_full}
 use Rattle.log_core.specs.Contents.{IsStillTaken}
 use Rattle.log_core.specs.Order.{nth_generation, front_of, LogStands}
 use Rattle.log_core.specs.Starts.{IsStart}

@@ -1,5 +1,5 @@
 -- A write of whole blocks serves where no other seat makes a step.
-use Rattle.std.proofs.Common.{◌≡◌, ℕ, Option, Some, None, refl, sym}
+use Rattle.std.proofs.Common.{ℕ, Option, Some, None, refl}
 use Rattle.log_entry.specs.declared.calls.WriteRefusal.{WriteRefusal}
 use Rattle.asks.specs.SharedWords.{SharedWords}
 use Rattle.pmem_words.specs.Courses.{over}
