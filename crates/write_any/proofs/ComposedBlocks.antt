@@ -85,7 +85,7 @@ run_each block (o ∷ owned) one place low = by (o.block == block + 1) refl one 
         at (suc k) inside = (let is = rest more k (omega (arith, inside)) in let first = next in omega (arith, is, first))
     by false is more rest = cc
 
-one_run_each : (owned : List OwnedBlock) → are_one_run owned ≡ true → (place : ℕ) → place < length owned → (owned_at owned place).block ≡ (owned_at owned 0).block + place
+pub one_run_each : (owned : List OwnedBlock) → are_one_run owned ≡ true → (place : ℕ) → place < length owned → (owned_at owned place).block ≡ (owned_at owned 0).block + place
 one_run_each [] one place low = absurd (omega (arith, low))
 one_run_each (o ∷ owned) one zero low = omega arith
 one_run_each (o ∷ owned) one (suc place) low = run_each o.block owned one place (omega (arith, low))

@@ -58,7 +58,7 @@ module _ (offset : ℕ) (s : Seat) (whole : IsWhole offset s) where
   some_size : 0 < s.geometry.block_bytes
   some_size = some_block_bytes s.geometry.block_bytes s.geometry.block_allowed
 
-  some_bytes : 0 < length s.calling.bytes
+  pub some_bytes : 0 < length s.calling.bytes
   some_bytes = (let all = whole.bytes in let one = whole.some in let size = some_size in
       let least : 1 * s.geometry.block_bytes ≤ block_count s * s.geometry.block_bytes = mul-le-mul_right s.geometry.block_bytes one in omega (arith, all, least, size))
 

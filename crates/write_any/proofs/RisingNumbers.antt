@@ -105,7 +105,7 @@ run_follows block (o ∷ owned) rises each =
     next = by (cases_eq o.block (block + 1))
 
 -- what a test says of each number of a range
-each_in : (p : ℕ → Bool) (first count : ℕ) → list_all p (range_with_len first count) ≡ true → (y : ℕ) → first ≤ y → y < first + count → p y ≡ true
+pub each_in : (p : ℕ → Bool) (first count : ℕ) → list_all p (range_with_len first count) ≡ true → (y : ℕ) → first ≤ y → y < first + count → p y ≡ true
 each_in p first zero all y low high = absurd (omega (arith, low, high))
 each_in p first (suc count) all y low high = by (cases_eq first y) (each_in p (first + 1) count parts.1 y)
   where
@@ -116,7 +116,7 @@ each_in p first (suc count) all y low high = by (cases_eq first y) (each_in p (f
     by (inl same) rest = ap p (sym same) ∙ parts.0
     by (inr other) rest = rest (omega (arith, low, other)) (omega (arith, high))
 
-some_passes : (p : ℕ → Bool) (xs : List ℕ) → list_any p xs ≡ true → (x : ℕ) × (p x ≡ true)
+pub some_passes : (p : ℕ → Bool) (xs : List ℕ) → list_any p xs ≡ true → (x : ℕ) × (p x ≡ true)
 some_passes p [] any = cc
 some_passes p (x ∷ xs) any = by (p x) refl any (some_passes p xs)
   where

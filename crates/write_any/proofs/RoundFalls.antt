@@ -43,11 +43,11 @@ moved_seat : (b : Bool) (m : Take) (s : Seat) → (moved_on b m s).seat ≡ s
 moved_seat true m s = refl
 moved_seat false m s = refl
 
-settled_seat : (blocks : List ℕ) (m : Take) (s : Seat) (known : ℕ) → (settled_by blocks m s known).seat ≡ s
+pub settled_seat : (blocks : List ℕ) (m : Take) (s : Seat) (known : ℕ) → (settled_by blocks m s known).seat ≡ s
 settled_seat [] m s known = moved_seat (nat_lt (word_of m s) (last_word m.area s)) m s
 settled_seat (block ∷ blocks) m s known = refl
 
-ended_seat : (b : Bool) (m : Take) (s : Seat) (known : ℕ) → (ended_or b m s known).seat ≡ s
+pub ended_seat : (b : Bool) (m : Take) (s : Seat) (known : ℕ) → (ended_or b m s known).seat ≡ s
 ended_seat true m s known = refl
 ended_seat false m s known = settled_seat (open_at m s known) m s known
 
