@@ -1,0 +1,3 @@
+pub mod NextMapped
+pub mod RangePlaces
+pub mod RangeStanding

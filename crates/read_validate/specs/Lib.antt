@@ -1,0 +1,4 @@
+pub mod LookWithin
+pub mod Looking
+pub mod RangeLowering
+pub mod Ranges
