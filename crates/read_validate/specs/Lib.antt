@@ -1,3 +1,5 @@
+pub mod LookAlone
+pub mod LookSees
 pub mod LookWithin
 pub mod Looking
 pub mod RangeLowering

@@ -1,7 +1,7 @@
 //! Looks at the file at the tail of the log.
 
+use crate::joints::{seen, walked};
 use crate::query::{Query, Seen, Stage};
-use crate::range::ReadRange;
 use log_blocks::Walk;
 use pins::{Pin, Unpin};
 use pmem_words::{Ask, Machine, SeatState, Turn};
@@ -18,8 +18,7 @@ pub struct Look {
 
 impl Look {
     ghost use Rattle.std.specs.Prelude.{◌≡◌};
-    ghost use Rattle.pmem_words.specs.Parts.{Into};
-    ghost use Rattle.read_validate.specs.Looking.{look_of, at_stage, walked_so, seen, MayReadAt};
+    ghost use Rattle.read_validate.specs.Looking.{look_of};
 
     /// A look that has not begun.
     pub fn new(query: Query) -> Look
@@ -28,37 +27,6 @@ impl Look {
         Look {
             query,
             stage: Stage::Pinning(Pin::new()),
-        }
-    }
-
-    /// The tail was found.
-    fn walked(query: Query, seat: &mut SeatState) -> Stage
-        requires { MayReadAt query seat.old }
-        ensures { walked_so query seat.old ≡ Into (at_stage query result) seat.new }
-    {
-        let Query::Range { offset, length } = query else {
-            return Stage::Unpinning(Unpin::new());
-        };
-        let count = u64::from(length).min(seat.size().saturating_sub(offset));
-        if count == 0 {
-            return Stage::Unpinning(Unpin::new());
-        }
-        match ReadRange::begin(seat, offset, offset + count) {
-            Some(range) => Stage::Reading(range),
-            None => Stage::Unpinning(Unpin::new()),
-        }
-    }
-
-    fn seen(query: Query, seat: &SeatState) -> Seen
-        ensures { result ≡ seen query seat.now }
-    {
-        let number = match query {
-            Query::Size => seat.size(),
-            Query::Range { .. } => seat.bytes().len() as u64,
-        };
-        Seen {
-            position: seat.position(),
-            number,
         }
     }
 }
@@ -88,7 +56,7 @@ impl Machine for Look {
             },
             Stage::Walking(part) => match part.tell(seat, answer) {
                 Turn::Go => {}
-                Turn::Done(_) => self.stage = Self::walked(self.query, seat),
+                Turn::Done(_) => self.stage = walked(self.query, seat),
             },
             Stage::Reading(part) => match part.tell(seat, answer) {
                 Turn::Go => {}
@@ -96,7 +64,7 @@ impl Machine for Look {
             },
             Stage::Unpinning(part) => match part.tell(seat, answer) {
                 Turn::Go => {}
-                Turn::Done(()) => return Turn::Done(Self::seen(self.query, seat)),
+                Turn::Done(()) => return Turn::Done(seen(self.query, seat)),
             },
         }
         Turn::Go
