@@ -1,4 +1,5 @@
 pub mod Embedding
+pub mod LookAlone
 pub mod LookFalls
 pub mod LookSeen
 pub mod LookServes
