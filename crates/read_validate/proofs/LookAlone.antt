@@ -1,14 +1,14 @@
 -- A look whose seat alone makes steps has seen the file at its end.
-use Rattle.std.proofs.Common.{◌≡◌, ◌≢◌, ◌+◌, ◌*◌, ◌<◌, ◌≤◌, ◌==◌, ℕ, Bool, true, false, if◌then◌else◌, List, [], refl, sym, ◌∙◌, ap, subst, arith, slice_index}
+use Rattle.std.proofs.Common.{◌≡◌, ◌≢◌, ◌+◌, ◌*◌, ◌≤◌, ◌==◌, ℕ, Bool, true, false, if◌then◌else◌, List, [], refl, sym, ◌∙◌, ap, subst, arith, slice_index}
 use Rattle.std.proofs.lemmas.Bool.{eqb-true, eqb-false, ne_eqb}
 use Rattle.std.proofs.Math.Nat.{mul-le-mul}
 use Rattle.std.proofs.lemmas.List.{set-get_or}
 use Rattle.asks.specs.declared.ask.Ask.{Ask}
-use Rattle.asks.specs.declared.ask.Ask.TheVariants.{Load, Store}
-use Rattle.asks.specs.declared.ask.Place.TheVariants.{Image, Pin as PinWord}
+use Rattle.asks.specs.declared.ask.Ask.TheVariants.{Load}
+use Rattle.asks.specs.declared.ask.Place.TheVariants.{Image}
 use Rattle.asks.specs.SharedWords.{SharedWords, words_after}
 use Rattle.pmem_words.specs.Seats.{Seat}
-use Rattle.pmem_words.specs.Scripts.{After, Script}
+use Rattle.pmem_words.specs.Scripts.{After}
 use Rattle.pmem_words.specs.Courses.{Course, over}
 use Rattle.pmem_words.specs.Leads.{Leads}
 use Rattle.pmem_words.specs.Parts.{Next, Into, End, moved, onward_at, onward}
@@ -29,7 +29,7 @@ use Rattle.log_core.specs.After.{history_after, after}
 use Rattle.log_core.specs.Invariant.{Invariant}
 use Rattle.log_core.specs.Knows.{Knows}
 use Rattle.log_core.specs.Within.{no_record, note_of, IsLeft}
-use Rattle.log_core.specs.Alone.{IsAlone, LeftAlone, ghost_alone}
+use Rattle.log_core.specs.Alone.{IsAlone, ghost_alone}
 use Rattle.log_core.proofs.BlockWords.{q_range}
 use Rattle.log_core.proofs.TailEnds.{slot_last, link_last}
 use Rattle.log_core.proofs.machines.OnCore.{IsReadyOn, alone, step_on, EndsOnCore, EndsOver, leads_alone, alone_plain}
@@ -40,7 +40,6 @@ use Rattle.pins.specs.declared.pin.Pin.TheVariants.{Begin, Publish, Confirm}
 use Rattle.pins.specs.declared.TheConstants.{HEAD_WORD}
 use Rattle.pins.specs.Steps.{generation_in}
 use Rattle.pins.specs.Pinning.{pin_script}
-use Rattle.pins.specs.Unpinning.{unpin_script}
 use Rattle.log_blocks.specs.declared.walk.Tail.{Tail}
 use Rattle.log_blocks.specs.declared.walk.Walk.{Walk}
 use Rattle.log_blocks.specs.declared.walk.Walk.TheVariants.{Begin as BeginWalk}
@@ -53,7 +52,7 @@ use Rattle.read_validate.specs.declared.query.Seen.{Seen}
 use Rattle.read_validate.specs.declared.query.Stage.{Stage}
 use Rattle.read_validate.specs.declared.query.Stage.TheVariants.{Pinning, Walking, Reading, Unpinning}
 use Rattle.read_validate.specs.declared.range.ReadRange.{ReadRange}
-use Rattle.read_validate.specs.Looking.{at_stage, look_of, count_in, pinned_so, walked_so, range_by, reading_so, read_so, unpinned_so, stage_asks, stage_after, look_script}
+use Rattle.read_validate.specs.Looking.{at_stage, look_of, count_in, pinned_so, walked_so, range_by, reading_so, read_so, stage_asks, stage_after, look_script}
 use Rattle.read_validate.specs.LookWithin.{MayLook, HasLooked}
 use Rattle.read_validate.specs.LookSees.{IsSeenIn}
 use Rattle.read_validate.specs.LookAlone.{HasLookedAlone, LooksAlone}
@@ -61,7 +60,7 @@ use Rattle.read_validate.specs.Ranges.{next_mapped, reading_at, rest_of, zeros_l
 use Rattle.read_validate.proofs.LookSeen.{looks_see}
 use Rattle.read_validate.proofs.LookServes.{looks_within}
 use Rattle.read_validate.proofs.RangeStep.{laid_seat}
-use Rattle.read_validate.proofs.WalkEnds.{IsLastStep, walk_ends}
+use Rattle.read_validate.proofs.WalkEnds.{walk_ends}
 
 -- what holds where a stage goes on, and where the whole ends with it
 abbrev On : {C Out : Type 0} → (C → Seat → Type 0) → (Seat → Type 0) → Next C Out → Type 0

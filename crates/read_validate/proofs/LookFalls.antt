@@ -1,14 +1,13 @@
 -- Each step of a look lowers its measure.
-use Rattle.std.proofs.Common.{◌≡◌, ℕ, ◌+◌, ◌-◌, ◌*◌, ◌^◌, ◌<◌, ◌≤◌, ◌==◌, Bool, true, false, refl, arith}
+use Rattle.std.proofs.Common.{◌≡◌, ℕ, ◌+◌, ◌*◌, ◌^◌, ◌<◌, ◌≤◌, ◌==◌, Bool, true, false, refl, arith}
 use Rattle.std.proofs.lemmas.Bool.{eqb-false}
 use Rattle.pmem_words.specs.Seats.{Seat}
 use Rattle.pmem_words.specs.Parts.{LowersOn, lowers_onward}
-use Rattle.pmem_words.specs.declared.machine.Turn.TheVariants.{Go, Done}
+use Rattle.pmem_words.specs.declared.machine.Turn.TheVariants.{Go}
 use Rattle.log_core.specs.Works.{words_of}
 use Rattle.pins.specs.declared.pin.Pin.{Pin}
 use Rattle.pins.specs.declared.unpin.Unpin.{Unpin}
 use Rattle.pins.specs.Pinning.{pin_script, pin_lowers}
-use Rattle.pins.specs.Unpinning.{unpin_script}
 use Rattle.log_blocks.specs.declared.walk.Tail.{Tail}
 use Rattle.log_blocks.specs.declared.walk.Walk.{Walk}
 use Rattle.log_blocks.specs.Walking.{walk_script, begin_measure, rank_by, whole_log}
@@ -17,7 +16,7 @@ use Rattle.read_validate.specs.declared.query.Query.TheVariants.{Size, Range}
 use Rattle.read_validate.specs.declared.query.Stage.{Stage}
 use Rattle.read_validate.specs.declared.query.Stage.TheVariants.{Pinning, Walking, Reading, Unpinning}
 use Rattle.read_validate.specs.declared.range.ReadRange.{ReadRange}
-use Rattle.read_validate.specs.Looking.{at_stage, count_in, pinned_so, walked_so, range_by, reading_so, read_so, unpinned_so, stage_measure, stage_after, look_measure, MayReadAt, JointAdmits}
+use Rattle.read_validate.specs.Looking.{at_stage, count_in, pinned_so, walked_so, range_by, reading_so, read_so, stage_measure, stage_after, look_measure, MayReadAt, JointAdmits}
 use Rattle.read_validate.specs.Ranges.{IsInRange, next_mapped, reading_at, zeros_laid, range_script}
 use Rattle.read_validate.specs.RangeLowering.{range_lowers}
 use Rattle.read_validate.proofs.NextMapped.{next_at_least}

@@ -4,12 +4,11 @@ use Rattle.std.proofs.lemmas.Bool.{cases_lt}
 use Rattle.std.proofs.lemmas.List.{take_all}
 use Rattle.log_entry.specs.ByteFile.{read}
 use Rattle.log_entry.specs.declared.calls.Op.{Op}
-use Rattle.log_entry.specs.declared.calls.Op.TheVariants.{Append, Pread as PreadOp, Size as SizeOp}
-use Rattle.log_entry.specs.declared.calls.Call.{Call}
+use Rattle.log_entry.specs.declared.calls.Op.TheVariants.{Pread as PreadOp}
 use Rattle.pmem_words.specs.declared.keeps.Task.{Task}
 use Rattle.pmem_words.specs.declared.keeps.Task.TheVariants.{Pread}
 use Rattle.pmem_words.specs.Seats.{Seat}
-use Rattle.log_core.specs.Views.{View, Ghost, view_of, op_in, op_of}
+use Rattle.log_core.specs.Views.{Ghost, view_of, op_in, op_of}
 use Rattle.log_core.specs.Origin.{Origin, first_position}
 use Rattle.log_core.specs.Files.{file_at, end_of, entries}
 use Rattle.log_core.specs.Cores.{Core}
@@ -18,9 +17,7 @@ use Rattle.log_core.specs.Walks.{WalkHolds, HasWalked}
 use Rattle.log_core.specs.Answers.{Fits}
 use Rattle.log_core.specs.Invariant.{Invariant, around}
 use Rattle.log_core.specs.Knows.{Knows}
-use Rattle.log_core.specs.Within.{no_record, IsLeft}
 use Rattle.log_core.proofs.HistoryFiles.{start_low}
-use Rattle.log_core.proofs.clauses.Others.{unspent_made}
 use Rattle.log_core.proofs.machines.GoneOn.{knows_on}
 use Rattle.log_core.proofs.machines.Serving.{reached_keeps}
 use Rattle.log_core.proofs.starts.StartMeets.{start_meets}
@@ -28,8 +25,8 @@ use Rattle.read_validate.specs.declared.query.Query.{Query}
 use Rattle.read_validate.specs.declared.query.Query.TheVariants.{Size, Range}
 use Rattle.read_validate.specs.declared.query.Seen.{Seen}
 use Rattle.read_validate.specs.Looking.{count_in, number_of}
-use Rattle.read_validate.specs.LookWithin.{Asks, HasLooked, HasRead}
-use Rattle.read_validate.specs.LookSees.{IsSeenIn, HasSeen, LooksSee, IsFor, reply_of, LooksRecord}
+use Rattle.read_validate.specs.LookWithin.{Asks, HasRead}
+use Rattle.read_validate.specs.LookSees.{IsSeenIn, LooksSee, IsFor, reply_of, LooksRecord}
 
 -- a read that has all bytes that there are
 read_whole : (file : List ℕ) (offset count : ℕ) → take (min count (length file - offset)) (drop offset file) ≡ read file offset count
@@ -85,6 +82,7 @@ looks_see query o start c reached seat rest s0 g0 out s asks left =
     let position : out.position ≡ s.walk.position = ap (λ (x : Seen). x.position) has.out_is in
     record {
       from_first = subst (λ (p : ℕ). first_position o ≤ p) (sym position) (from_first o c seat s _ _ _ inv f left.unspent has.at_tail);
+      begun = subst (λ (p : ℕ). slice_index c.began seat ≤ p) (sym position) (f.tail has.at_tail).begun;
       to_end = subst (λ (p : ℕ). p ≤ end_of o c.history) (sym position) (f.walk left.unspent).to_end;
       seen = subst (λ (p : ℕ). IsSeenIn query (file_at o c.history p) out s) (sym position)
           (seen_in query o c seat s _ _ _ inv f left.unspent has.at_tail s0 out asks (ap (λ (u : Seat). u.calling.job) has.rest) has.read (ap (λ (x : Seen). x.number) has.out_is));

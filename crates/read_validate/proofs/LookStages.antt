@@ -13,7 +13,7 @@ use Rattle.pins.specs.declared.pin.Pin.{Pin}
 use Rattle.pins.specs.declared.unpin.Unpin.{Unpin}
 use Rattle.pins.specs.Endings.{pinned}
 use Rattle.pins.specs.Steps.{pin_stored}
-use Rattle.pins.specs.Within.{MayPin, HasUnpinned}
+use Rattle.pins.specs.Within.{MayPin}
 use Rattle.pins.proofs.PinWithin.{pin_law, unpin_law}
 use Rattle.log_blocks.specs.declared.walk.Tail.{Tail}
 use Rattle.log_blocks.specs.declared.walk.Walk.{Walk}
@@ -25,7 +25,7 @@ use Rattle.read_validate.specs.declared.query.Query.TheVariants.{Size, Range}
 use Rattle.read_validate.specs.declared.query.Seen.{Seen}
 use Rattle.read_validate.specs.declared.query.Stage.TheVariants.{Pinning, Walking, Reading, Unpinning}
 use Rattle.read_validate.specs.declared.range.ReadRange.{ReadRange}
-use Rattle.read_validate.specs.Looking.{at_stage, count_in, seen, walked_so, range_by, reading_so, MayReadAt, JointAdmits, look_script}
+use Rattle.read_validate.specs.Looking.{at_stage, count_in, walked_so, range_by, reading_so, MayReadAt, JointAdmits, look_script}
 use Rattle.read_validate.specs.LookWithin.{Asks, MayLook, HasRead, HasLooked, unlooked}
 use Rattle.read_validate.specs.Ranges.{IsInRange, next_mapped, reading_at, zeros_laid}
 use Rattle.read_validate.proofs.Embedding.{at_pin, at_walk, at_range, at_unpin}
@@ -33,7 +33,6 @@ use Rattle.read_validate.proofs.LookFalls.{pin_falls, walk_falls, range_falls, u
 use Rattle.read_validate.proofs.LookStanding.{BeforeWalk, BeforeReading, BeforeUnpin, LookStands}
 use Rattle.read_validate.proofs.NextMapped.{next_at_most}
 use Rattle.read_validate.proofs.RangeLaw.{range_law}
-use Rattle.read_validate.proofs.RangeStanding.{unread, MayReadRange, HasReadRange}
 use Rattle.read_validate.proofs.RangeStep.{goes_at, laid_at}
 use Rattle.read_validate.proofs.WholeMaps.{mapping_law}
 use Rattle.read_validate.proofs.ZerosLaid.{HasWholeMap, may_lay_zeros}
@@ -120,17 +119,23 @@ module _ (offset count : ℕ) (o : Origin) (seat : ℕ) (s0 : Seat) (g0 : Ghost)
   )
   reading_fits some false is = (
     enters_works g s (Lays (replicate (next - offset) 0) ∷ []) (zeros some, tt) refl,
-    (refl, (record { place = next; end = end; word = Rattle.read_validate.specs.Ranges.word_at next s }, has_begun (range_law offset count (record { place = next; end = end; word = Rattle.read_validate.specs.Ranges.word_at next s })) o seat (BeforeReading s0 g0) (zeros_laid end offset s) g
-      (record { rest = at.rest; ghost = at.ghost })
-      (record {
-        valid = at.valid;
-        ready = at.ready;
-        at_tail = at.at_tail;
-        none_kept = at.none_kept;
-        job = job;
-        few = may.asks.2;
-        at = goes_at offset count end s offset starts (omega arith) refl (let other = eqb-false next end is in let most = next_at_most end offset s (omega arith) in omega (arith, other, most));
-      }))),
+    (
+      refl,
+      (
+        record { place = next; end = end; word = Rattle.read_validate.specs.Ranges.word_at next s },
+        has_begun (range_law offset count (record { place = next; end = end; word = Rattle.read_validate.specs.Ranges.word_at next s })) o seat (BeforeReading s0 g0) (zeros_laid end offset s) g
+            (record { rest = at.rest; ghost = at.ghost })
+            (record {
+              valid = at.valid;
+              ready = at.ready;
+              at_tail = at.at_tail;
+              none_kept = at.none_kept;
+              job = job;
+              few = may.asks.2;
+              at = goes_at offset count end s offset starts (omega arith) refl (let other = eqb-false next end is in let most = next_at_most end offset s (omega arith) in omega (arith, other, most));
+            }),
+      ),
+    ),
   )
 
   range_fits : (none : Bool) → (count_in offset count s == 0) ≡ none → FitsNext no_record Stands Ends s g (range_by none (Range offset count) offset end s)

@@ -1,5 +1,5 @@
 -- Where a look stands within a core, stage by stage.
-use Rattle.std.proofs.Common.{◌≡◌, ℕ, true, []}
+use Rattle.std.proofs.Common.{◌≡◌, ℕ, true}
 use Rattle.pmem_words.specs.Seats.{Seat}
 use Rattle.log_core.specs.Views.{Ghost}
 use Rattle.log_core.specs.Origin.{Origin}

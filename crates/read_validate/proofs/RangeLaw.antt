@@ -1,15 +1,14 @@
 -- The law of reading a range within a core: each word that it loads is one of a block that the pinned chain names.
-use Rattle.std.proofs.Common.{◌≡◌, ◌≢◌, ℕ, ◌+◌, ◌/◌, ◌%◌, ◌≤◌, ◌==◌, ◌++◌, Bool, true, false, [], Option, Some, refl, sym, ap, ◌∙◌, arith}
+use Rattle.std.proofs.Common.{◌≡◌, ◌≢◌, ℕ, ◌/◌, ◌%◌, ◌≤◌, ◌==◌, Bool, true, false, [], Some, refl, sym, ap, ◌∙◌, arith}
 use Rattle.std.proofs.lemmas.Bool.{eqb-true, eqb-false}
 use Rattle.asks.specs.declared.ask.Ask.TheVariants.{Load}
 use Rattle.asks.specs.declared.ask.Place.TheVariants.{Image}
 use Rattle.log_image.specs.Image.{words_in}
-use Rattle.log_image.specs.Chains.{is_listed}
 use Rattle.pmem_words.specs.Maps.{map_at}
 use Rattle.pmem_words.specs.Seats.{Seat}
 use Rattle.log_core.specs.Views.{Ghost, view_of}
 use Rattle.log_core.specs.Origin.{Origin, shape, Generation}
-use Rattle.log_core.specs.Files.{entries, history_map_at}
+use Rattle.log_core.specs.Files.{entries}
 use Rattle.log_core.specs.Cores.{Core, is_named, data_names}
 use Rattle.log_core.specs.Order.{nth_generation}
 use Rattle.log_core.specs.Walks.{WalkHolds, HasWalked}
@@ -25,8 +24,8 @@ use Rattle.read_validate.specs.declared.range.ReadRange.{ReadRange}
 use Rattle.read_validate.specs.RangeLowering.{range_lowers}
 use Rattle.read_validate.specs.Ranges.{virt_of, range_script}
 use Rattle.read_validate.proofs.RangePlaces.{in_word}
-use Rattle.read_validate.proofs.RangeStanding.{unread, MayReadRange, IsReading, HasReadRange}
-use Rattle.read_validate.proofs.RangeStep.{block, slot, told, works, computed, goes, ends}
+use Rattle.read_validate.proofs.RangeStanding.{MayReadRange, IsReading, HasReadRange}
+use Rattle.read_validate.proofs.RangeStep.{block, told, works, computed, goes, ends}
 
 -- a block that the table of a ready seat gives is one that its chain names
 module _ (o : Origin) (c : Core) (n : ℕ) (s : Seat) (g : Ghost) (pin began : ℕ) (inv : Invariant o c) (f : Knows o c n s g pin began) (unspent : (view_of c.views n).parts ≢ []) (valid : s.hold.valid ≡ true) (ready : s.walk.ready ≡ true) where
@@ -79,10 +78,13 @@ module _ (offset count : ℕ) (first : ReadRange) (o : Origin) (seat : ℕ) (s0 
       lawful_load o seat s g now.at.block (m.place % s.geometry.block_bytes / 8) now.valid word.3 named range_script (IsReading offset count s0 g0) (HasReadRange offset count s0 g0) m
       (ap (λ (k : ℕ). Load (Image k)) now.at.word)
       (works offset count o seat m s g now) (told offset count o seat m s g now) (λ f. refl)
-      (λ c pin began inv unspent knows. (now.at.low, record {
-        upto = (let low = now.at.low in omega (arith, low));
-        room = (let at = now.at.place in let end_is = now.at.end_is in let few = now.few in let low = now.at.low in omega (arith, at, end_is, few, low));
-      }))
+      (λ c pin began inv unspent knows. (
+        now.at.low,
+        record {
+          upto = (let low = now.at.low in omega (arith, low));
+          room = (let at = now.at.place in let end_is = now.at.end_is in let few = now.few in let low = now.at.low in omega (arith, at, end_is, few, low));
+        },
+      ))
       (λ f found admits. computed offset count o seat m s g now (found.knows.fits found.unspent).map f)
       (λ f found admits go. goes offset count o seat m s g now s0 g0 on.rest on.ghost f go)
       (λ f out found admits done. ends offset count o seat m s g now s0 g0 on.rest on.ghost f out done))

@@ -1,15 +1,15 @@
 -- Bytes of a range, by their blocks and words.
-use Rattle.std.proofs.Common.{◌≡◌, ◌⊎◌, inl, inr, ℕ, zero, suc, ◌+◌, ◌-◌, ◌*◌, ◌/◌, ◌%◌, ◌<◌, ◌≤◌, nat_lt, Bool, true, false, Option, Some, None, refl, sym, ap, subst, ◌∙◌, arith, mul-le-mul_right}
+use Rattle.std.proofs.Common.{◌≡◌, ◌⊎◌, inl, inr, ℕ, zero, suc, ◌+◌, ◌-◌, ◌*◌, ◌/◌, ◌%◌, ◌<◌, ◌≤◌, nat_lt, Bool, true, false, Option, Some, None, refl, ap, subst, ◌∙◌, arith}
 use Rattle.std.specs.Int.{◌∣◌}
 use Rattle.std.proofs.Math.Nat.{dvd-mul_right, mod-mod_of_dvd, div-add-mod', div-mul-le_self}
-use Rattle.std.proofs.lemmas.Bool.{ltb-true, ltb-false, cases_lt}
+use Rattle.std.proofs.lemmas.Bool.{ltb-false, cases_lt}
 use Rattle.std.proofs.lemmas.Nat.{mod_below, div-mul-add, mod-mul-add, le-div}
 use Rattle.pmem_words.specs.Maps.{map_at}
 use Rattle.pmem_words.specs.Seats.{Seat}
 use Rattle.log_core.specs.Works.{words_of}
 use Rattle.log_core.proofs.BlockWords.{q_range}
 use Rattle.log_core.proofs.WordBytesAt.{eight_words}
-use Rattle.read_validate.specs.Ranges.{virt_of, next_block, is_unmapped, further, next_from, next_mapped}
+use Rattle.read_validate.specs.Ranges.{virt_of, next_block, is_unmapped, further, next_from}
 
 -- a byte before the next block is in the same one
 same_block : (place p size : ℕ) → 0 < size → place ≤ p → p < (place / size + 1) * size → p / size ≡ place / size

@@ -1,20 +1,17 @@
 -- Where the reading of a range stands within a core, and how it goes on with a word that was loaded.
-use Rattle.std.proofs.Common.{◌≡◌, ◌⊎◌, inl, inr, ℕ, zero, suc, ◌+◌, ◌-◌, ◌*◌, ◌/◌, ◌%◌, ◌<◌, ◌≤◌, ◌==◌, ◌++◌, min, Bool, true, false, List, [], ◌∷◌, length, length-append, replicate, slice_index, Option, Some, None, refl, sym, ap, subst, ◌∙◌, arith}
-use Rattle.std.proofs.lemmas.Bool.{eqb-false}
+use Rattle.std.proofs.Common.{◌≡◌, ℕ, ◌+◌, ◌-◌, ◌/◌, ◌%◌, ◌<◌, ◌≤◌, true, [], length, length-append, replicate, Option, Some, ap, ◌∙◌, arith}
 use Rattle.std.proofs.lemmas.List.{length-replicate}
-use Rattle.log_entry.specs.WordBytes.{word_bytes}
 use Rattle.pmem_words.specs.declared.keeps.Task.TheVariants.{Pread}
 use Rattle.pmem_words.specs.declared.TheConstants.{JOB_BYTES}
 use Rattle.pmem_words.specs.Maps.{map_at}
 use Rattle.pmem_words.specs.Seats.{Seat}
 use Rattle.log_core.specs.Views.{Ghost}
-use Rattle.log_core.specs.Origin.{Origin}
 use Rattle.log_core.specs.Entries.{place_in}
 use Rattle.log_core.specs.Works.{seat_shape}
 use Rattle.read_validate.specs.declared.range.ReadRange.{ReadRange}
 use Rattle.read_validate.specs.Looking.{count_in}
 use Rattle.read_validate.specs.Ranges.{virt_of, next_mapped, reading_at, rest_of, word_at, zeros_laid, with_laid}
-use Rattle.read_validate.proofs.NextMapped.{next_at_least, next_at_most}
+use Rattle.read_validate.proofs.NextMapped.{next_at_least}
 use Rattle.read_validate.proofs.RangePlaces.{next_is_mapped}
 
 -- a seat but for the bytes that it has laid

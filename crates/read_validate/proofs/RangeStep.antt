@@ -1,6 +1,5 @@
 -- What the reading of a range makes of one word that was loaded.
-use Rattle.std.proofs.Common.{◌≡◌, ◌≢◌, ◌⊎◌, inl, inr, ℕ, ◌+◌, ◌-◌, ◌*◌, ◌/◌, ◌%◌, ◌<◌, ◌≤◌, ◌==◌, ◌||◌, ◌++◌, min, Bool, true, false, List, [], ◌∷◌, length, length-append, replicate, slice_index, Option, Some, None, refl, sym, ap, subst, ◌∙◌, arith, append_assoc}
-use Rattle.std.specs.List.{slice_range}
+use Rattle.std.proofs.Common.{◌≡◌, ◌⊎◌, inl, inr, ℕ, ◌+◌, ◌-◌, ◌/◌, ◌%◌, ◌<◌, ◌≤◌, ◌==◌, ◌||◌, ◌++◌, Bool, true, false, List, [], ◌∷◌, length, length-append, replicate, slice_index, Option, Some, None, refl, sym, ap, subst, ◌∙◌, arith, append_assoc}
 use Rattle.std.proofs.lemmas.Bool.{eqb-true, eqb-false, cases_lt}
 use Rattle.std.proofs.lemmas.List.{get_or_append_left, get_or-append-add, get_or-replicate, length-replicate}
 use Rattle.std.proofs.lemmas.Nat.{mod_below}
@@ -14,14 +13,14 @@ use Rattle.pmem_words.specs.Seats.{Seat}
 use Rattle.pmem_words.specs.Scripts.{After}
 use Rattle.log_core.specs.Views.{Ghost}
 use Rattle.log_core.specs.Origin.{Origin}
-use Rattle.log_core.specs.Works.{Work, Lays, Forgets, MayReadFile, MayLay, IsByteIn, IsByteAt, kept_at, kept_word, word_or_zero, words_of, state_after_all_work}
+use Rattle.log_core.specs.Works.{Work, Lays, Forgets, MayReadFile, MayLay, IsByteIn, IsByteAt, kept_at, word_or_zero}
 use Rattle.log_core.specs.Steps.{is_tail_found}
 use Rattle.log_blocks.proofs.Loading.{at_place, seen, IsComputed}
 use Rattle.log_blocks.proofs.KeptLists.{kept_last}
 use Rattle.read_validate.specs.declared.range.ReadRange.{ReadRange}
 use Rattle.read_validate.specs.Looking.{count_in}
-use Rattle.read_validate.specs.Ranges.{virt_of, next_mapped, reading_at, rest_of, word_at, zeros_laid, taken_of, bytes_from, word_laid, after_laid}
-use Rattle.read_validate.proofs.NextMapped.{next_at_least, next_at_most}
+use Rattle.read_validate.specs.Ranges.{next_mapped, reading_at, rest_of, word_at, zeros_laid, taken_of, bytes_from, word_laid, after_laid}
+use Rattle.read_validate.proofs.NextMapped.{next_at_most}
 use Rattle.read_validate.proofs.RangePlaces.{in_word}
 use Rattle.read_validate.proofs.RangeStanding.{unread, IsAt, MayReadRange, IsReading, HasReadRange, goes_on, all_laid}
 use Rattle.read_validate.proofs.ZerosLaid.{HasWholeMap, none_mapped, zero_at}
@@ -109,12 +108,13 @@ module _ (offset count : ℕ) (o : Origin) (seat : ℕ) (m : ReadRange) (s : Sea
             let kept : kept_at (e f).walk.kept block ((m.place + k) % s.geometry.block_bytes / 8) ≡ Some f =
             ap (λ (n : ℕ). kept_at (e f).walk.kept block n) word.1 ∙ kept_last s.walk.kept block slot f in
             subst (λ (found : Option ℕ). IsByteIn (e f) found ((m.place + k) % s.geometry.block_bytes) (slice_index (bytes_from m f ++ zeros f) k))
-            (sym (ap (λ (v : ℕ). map_at s.walk.map v) word.0 ∙ may.at.mapped))
-            ((λ none. (let both : None ≡ Some f = sym none ∙ kept in cc)),
+            (sym (ap (λ (v : ℕ). map_at s.walk.map v) word.0 ∙ may.at.mapped)) (
+              (λ none. (let both : None ≡ Some f = sym none ∙ kept in cc)),
               get_or_append_left (bytes_from m f) (zeros f) 0 k (omega (arith, here, long))
-              ∙ (in_range (word_bytes (f ∷ [])) (m.place % 8) (taken_of m) k here
-              ∙ (ap (λ (n : ℕ). slice_index (word_bytes (f ∷ [])) n) (sym word.2)
-              ∙ ap (λ (found : Option ℕ). slice_index (word_bytes (word_or_zero found ∷ [])) ((m.place + k) % s.geometry.block_bytes % 8)) (sym kept)))))
+                  ∙ (in_range (word_bytes (f ∷ [])) (m.place % 8) (taken_of m) k here
+                  ∙ (ap (λ (n : ℕ). slice_index (word_bytes (f ∷ [])) n) (sym word.2)
+                  ∙ ap (λ (found : Option ℕ). slice_index (word_bytes (word_or_zero found ∷ [])) ((m.place + k) % s.geometry.block_bytes % 8)) (sym kept))),
+            ))
         by (inr past) =
             (let long = bytes_long f in
             let all = all_long f in

@@ -1,5 +1,5 @@
 -- A look that drives its present part to the part's end.
-use Rattle.std.proofs.Common.{◌≡◌, ℕ, refl, sym, subst}
+use Rattle.std.proofs.Common.{◌≡◌, ℕ, sym, subst}
 use Rattle.pmem_words.specs.Seats.{Seat}
 use Rattle.pmem_words.specs.Scripts.{Script}
 use Rattle.pmem_words.specs.Conducts.{Conduct}
@@ -10,7 +10,6 @@ use Rattle.pmem_words.specs.declared.machine.Turn.{Turn}
 use Rattle.pmem_words.specs.declared.machine.Turn.TheVariants.{Go}
 use Rattle.pmem_words.proofs.Stages.{safe_stage, last_admitted, ran_stage, ended_stage}
 use Rattle.read_validate.specs.declared.look.Look.{Look}
-use Rattle.read_validate.specs.declared.query.Query.{Query}
 use Rattle.read_validate.specs.declared.query.Seen.{Seen}
 use Rattle.read_validate.specs.declared.query.Stage.{Stage}
 use Rattle.read_validate.specs.Looking.{LookAdmits, at_stage, look_script, look_lowers}

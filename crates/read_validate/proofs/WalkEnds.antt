@@ -1,9 +1,8 @@
 -- Where a walk ends, its last step has left its table as it was; and any step of a walk has a measure that is not small.
-use Rattle.std.proofs.Common.{◌≡◌, ℕ, ◌+◌, ◌≤◌, ◌<◌, ◌==◌, nat_lt, Bool, true, false, refl, arith}
+use Rattle.std.proofs.Common.{◌≡◌, ℕ, ◌+◌, ◌≤◌, ◌==◌, nat_lt, Bool, true, false, refl, arith}
 use Rattle.log_entry.specs.Fields.{field}
 use Rattle.log_entry.specs.declared.layouts.TheConstants.{EMPTY, ENTRY_KIND, INDIRECT, SEAL, BLOCK_BASE, BLOCK_KIND, SNAPSHOT}
 use Rattle.pmem_words.specs.Seats.{Seat}
-use Rattle.pmem_words.specs.Scripts.{After}
 use Rattle.pmem_words.specs.declared.machine.Turn.TheVariants.{Done}
 use Rattle.log_core.specs.Works.{words_of}
 use Rattle.log_blocks.specs.declared.walk.Tail.{Tail}

@@ -1,5 +1,5 @@
 -- Where a walk has ended the seat's map has a place for each virtual block.
-use Rattle.std.proofs.Common.{◌≡◌, length, ap, ◌∙◌}
+use Rattle.std.proofs.Common.{length, ap, ◌∙◌}
 use Rattle.pmem_words.specs.Seats.{Seat}
 use Rattle.log_core.specs.Within.{no_record}
 use Rattle.log_core.proofs.machines.Framing.{serves_with}

@@ -1,5 +1,5 @@
 -- Bytes of a range that are in no mapped block are laid as zeros, by the call's own rule.
-use Rattle.std.proofs.Common.{◌≡◌, ◌⊎◌, inl, inr, ℕ, ◌+◌, ◌-◌, ◌/◌, ◌%◌, ◌<◌, ◌≤◌, List, length, replicate, slice_index, Option, None, sym, ap, subst, ◌∙◌, arith}
+use Rattle.std.proofs.Common.{◌≡◌, ◌⊎◌, inl, inr, ℕ, ◌+◌, ◌-◌, ◌/◌, ◌%◌, ◌<◌, ◌≤◌, length, replicate, slice_index, Option, None, sym, subst, arith}
 use Rattle.std.proofs.lemmas.Bool.{cases_lt}
 use Rattle.std.proofs.lemmas.List.{get_or_past, get_or-replicate, length-replicate}
 use Rattle.pmem_words.specs.Maps.{map_at}
@@ -8,7 +8,7 @@ use Rattle.pmem_words.specs.declared.keeps.Task.TheVariants.{Pread}
 use Rattle.log_core.specs.Works.{MayReadFile, MayLay, IsByteIn, IsByteAt}
 use Rattle.read_validate.specs.Looking.{count_in}
 use Rattle.read_validate.specs.Ranges.{virt_of, next_mapped}
-use Rattle.read_validate.proofs.NextMapped.{next_at_least, next_at_most}
+use Rattle.read_validate.proofs.NextMapped.{next_at_most}
 use Rattle.read_validate.proofs.RangePlaces.{unmapped_between}
 
 -- a seat's map has a place for each virtual block

@@ -1,5 +1,5 @@
 -- A look whose seat alone makes steps.
-use Rattle.std.specs.Prelude.{ℕ, ◌≡◌}
+use Rattle.std.specs.Prelude.{◌≡◌}
 use Rattle.asks.specs.SharedWords.{SharedWords}
 use Rattle.pmem_words.specs.Courses.{over}
 use Rattle.pmem_words.specs.Leads.{Leads}

@@ -1,5 +1,5 @@
 -- What a look has seen is what the file has at the position that its outcome names, so its call's record may be added.
-use Rattle.std.specs.Prelude.{ℕ, ◌≤◌, ◌≡◌, ◌⊎◌, List, [], length, Some}
+use Rattle.std.specs.Prelude.{ℕ, ◌≤◌, ◌≡◌, ◌⊎◌, List, [], length, slice_index, Some}
 use Rattle.log_entry.specs.ByteFile.{read}
 use Rattle.log_entry.specs.declared.calls.Op.{Op}
 use Rattle.log_entry.specs.declared.calls.Op.TheVariants.{Append, Pread, Size as SizeOp}
@@ -25,16 +25,17 @@ abbrev pub IsSeenIn : Query → List ℕ → Seen → Seat → Type 0
 IsSeenIn Size file out s = out.number ≡ length file
 IsSeenIn (Range offset count) file out s = (s.calling.bytes ≡ read file offset count) × (out.number ≡ length s.calling.bytes)
 
--- the outcome names a position that there is, and what was seen is of the file there
-pub record HasSeen (query : Query) (o : Origin) (c : Core) (out : Seen) (s : Seat) : Type 0 where
+-- the outcome names a position that there is, and none before the end at the call's first step; what was seen is of the file there
+pub record HasSeen (query : Query) (o : Origin) (c : Core) (seat : ℕ) (out : Seen) (s : Seat) : Type 0 where
   pub from_first : first_position o ≤ out.position
+  pub begun : slice_index c.began seat ≤ out.position
   pub to_end : out.position ≤ end_of o c.history
   pub seen : IsSeenIn query (file_at o c.history out.position) out s
 
 -- so it is in each core that a run reaches in which a look has ended
 abbrev pub LooksSee : Type 0
 LooksSee = (query : Query) (o : Origin) → IsStart o → (c : Core) → IsReached o c → (seat : ℕ) (rest : List Call) (s0 : Seat) (g0 : Ghost) (out : Seen) (s : Seat) → Asks query s0 →
-    IsLeft rest no_record (HasLooked query o seat s0 g0) out s (view_of c.views seat) → HasSeen query o c out s
+    IsLeft rest no_record (HasLooked query o seat s0 g0) out s (view_of c.views seat) → HasSeen query o c seat out s
 
 -- the calls that a look answers: a size is asked by a call for it, and by an append of no bytes
 abbrev pub IsFor : Query → Op → Type 0

@@ -1,5 +1,5 @@
 -- Reading a range ends: each word that is loaded has a byte of it.
-use Rattle.std.proofs.Common.{◌≡◌, ◌⊎◌, inl, inr, ℕ, zero, suc, ◌+◌, ◌-◌, ◌*◌, ◌/◌, ◌%◌, ◌<◌, ◌≤◌, ◌==◌, nat_lt, Bool, true, false, refl, ap, arith}
+use Rattle.std.proofs.Common.{◌≡◌, ◌⊎◌, inl, inr, ℕ, zero, suc, ◌+◌, ◌-◌, ◌*◌, ◌/◌, ◌<◌, ◌≤◌, ◌==◌, nat_lt, Bool, true, false, refl, ap, arith}
 use Rattle.std.proofs.Math.Nat.{mod-eq-sub-div-mul}
 use Rattle.std.proofs.lemmas.Nat.{mod_below}
 use Rattle.std.proofs.lemmas.Bool.{le-ltb, cases_lt}
@@ -8,8 +8,7 @@ use Rattle.pmem_words.specs.Maps.{map_at}
 use Rattle.pmem_words.specs.Seats.{Seat}
 use Rattle.pmem_words.specs.Scripts.{Lowers}
 use Rattle.pmem_words.specs.declared.machine.Turn.TheVariants.{Go}
-use Rattle.read_validate.specs.declared.range.ReadRange.{ReadRange}
-use Rattle.read_validate.specs.Ranges.{virt_of, next_block, is_unmapped, further, next_from, next_mapped, reading_at, after_laid, rest_of, taken_of, word_laid, zeros_laid, range_script}
+use Rattle.read_validate.specs.Ranges.{virt_of, next_block, is_unmapped, further, next_from, next_mapped, reading_at, after_laid, taken_of, word_laid, zeros_laid, range_script}
 
 -- the next block is further on
 next_further : (block_bytes place : ℕ) → 0 < block_bytes → place < (place / block_bytes + 1) * block_bytes

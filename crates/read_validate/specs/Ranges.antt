@@ -1,12 +1,12 @@
 -- The bytes of a range of the file: those of unmapped blocks are 0, and of mapped ones in words of the image.
-use Rattle.std.specs.Prelude.{ℕ, zero, suc, ◌+◌, ◌-◌, ◌*◌, ◌/◌, ◌%◌, ◌<◌, ◌≤◌, ◌≡◌, ◌==◌, ◌++◌, min, nat_lt, Bool, true, false, List, [], ◌∷◌, length, replicate, Option, Some, None}
+use Rattle.std.specs.Prelude.{ℕ, zero, suc, ◌+◌, ◌-◌, ◌*◌, ◌/◌, ◌%◌, ◌<◌, ◌≤◌, ◌==◌, ◌++◌, min, nat_lt, Bool, true, false, List, [], ◌∷◌, length, replicate, Option, Some, None}
 use Rattle.std.specs.List.{slice_range}
 use Rattle.log_entry.specs.WordBytes.{word_bytes}
 use Rattle.asks.specs.declared.ask.Ask.TheVariants.{Load}
 use Rattle.asks.specs.declared.ask.Place.TheVariants.{Image}
 use Rattle.pmem_words.specs.Maps.{map_at}
 use Rattle.pmem_words.specs.Seats.{Seat}
-use Rattle.pmem_words.specs.Scripts.{After, Script, Lowers}
+use Rattle.pmem_words.specs.Scripts.{After, Script}
 use Rattle.pmem_words.specs.declared.TheConstants.{JOB_BYTES}
 use Rattle.pmem_words.specs.declared.machine.Turn.TheVariants.{Go, Done}
 use Rattle.log_core.specs.Works.{words_of}

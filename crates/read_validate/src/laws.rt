@@ -8,7 +8,8 @@ ghost use Rattle.read_validate.specs.LookWithin.{LooksWithin};
 ///
 /// - `looks`: each ask is a step that the core allows, each answer that comes there is admitted, and the look ends, at the tail. Its call has
 ///   read all bytes that the file has of the range, and no others; the seat has no pin then, and is else as before.
-/// - `sees`: the outcome names a position that there is. The size, or the bytes and their count, are those of the file at that position.
+/// - `sees`: the outcome names a position that there is, not before the end at the call's first step. The size, or the bytes and their
+///   count, are those of the file at that position.
 /// - `records`: the record of a call that asked so, with this position and what was seen as its reply, may be added.
 pub fn law_within()
     ensures looks { LooksWithin }

@@ -1,7 +1,6 @@
-use Rattle.std.proofs.Common.{◌≡◌, ◌-◌, ◌+◌, ◌≤◌, ◌++◌, ℕ, List, replicate, sym, ap, ◌∙◌, arith}
-use Rattle.std.proofs.lemmas.List.{replicate-append-replicate, take-replicate, append_assoc}
+use Rattle.std.proofs.Common.{◌≡◌, ◌-◌, ◌+◌, ◌++◌, ℕ, List, replicate, ap, ◌∙◌, arith}
+use Rattle.std.proofs.lemmas.List.{replicate-append-replicate, append_assoc}
 use Rattle.pmem_words.specs.Seats.{Seat}
-use Rattle.read_validate.specs.Ranges.{with_laid}
 use Rattle.read_validate.proofs.range.lay_zeros.Goals as goal
 
 pub loop-left-preserved : goal.loop-left-preserved

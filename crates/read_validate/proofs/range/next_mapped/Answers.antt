@@ -1,8 +1,7 @@
-use Rattle.std.proofs.Common.{◌≡◌, ◌+◌, ◌*◌, ◌/◌, ◌%◌, ◌<◌, ℕ, Some, None, Option, sym, ap, subst, ◌∙◌, arith}
+use Rattle.std.proofs.Common.{◌≡◌, ◌+◌, ◌*◌, ◌/◌, ◌%◌, ◌<◌, ℕ, Some, sym, ap, subst, ◌∙◌}
 use Rattle.pmem_words.specs.Maps.{map_at}
 use Rattle.log_core.specs.Works.{words_of}
 use Rattle.log_entry.specs.Shape.{words_of_block}
-use Rattle.read_validate.specs.declared.range.ReadRange.{ReadRange}
 use Rattle.read_validate.specs.Ranges.{rest_of}
 use Rattle.read_validate.proofs.NextMapped.{rest_here, rest_on, rest_past}
 use Rattle.read_validate.proofs.range.next_mapped.Goals as goal

@@ -1,4 +1,4 @@
-use Rattle.std.proofs.Common.{◌≡◌, ◌≤◌, ℕ, Option, sym, ap, ◌∙◌, arith}
+use Rattle.std.proofs.Common.{◌≡◌, ℕ, Option, sym, ap, ◌∙◌, arith}
 use Rattle.pmem_words.specs.Seats.{Seat}
 use Rattle.read_validate.specs.declared.range.ReadRange.{ReadRange}
 use Rattle.read_validate.specs.Ranges.{next_mapped}
