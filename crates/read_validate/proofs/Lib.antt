@@ -1,3 +1,4 @@
+pub mod AdmitsOnce
 pub mod Embedding
 pub mod LookAlone
 pub mod LookFalls
