@@ -55,7 +55,7 @@ module _ (w : WorldNow) (seat : ℕ) (query : Query) (may : RunsAlone seat (seat
 
 to_look : (query : Query) (seat : ℕ) (s : Seat) → RunsAlone seat s → IsShort query → IsToLook query seat (state_after_work s (Begins (task_of query) []))
 to_look Size seat s may short = record { number = may.number; asks = λ sync. cc; job = refl; none_laid = refl; no_bases = refl; not_won = refl; no_sync = refl }
-to_look (Range offset count) seat s may short = record { number = may.number; asks = (refl, (refl, short)); job = refl; none_laid = refl; no_bases = refl; not_won = refl; no_sync = refl }
+to_look (Range offset count) seat s may short = record { number = may.number; asks = (refl, refl, short); job = refl; none_laid = refl; no_bases = refl; not_won = refl; no_sync = refl }
 
 pub begun_to_look : (w : WorldNow) (seat : ℕ) (query : Query) → RunsAlone seat (seat_of w seat) → seat < length w.seats → IsShort query →
     IsToLook query seat (seat_of (set_seat w seat (state_after_work (seat_of w seat) (Begins (task_of query) []))) seat)
