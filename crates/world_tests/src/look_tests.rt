@@ -1,6 +1,6 @@
 //! A seat looks at what another has written.
 
-ghost use Rattle.std.specs.Prelude.{◌≡◌, ◌<◌, ℕ, List, length};
+ghost use Rattle.std.specs.Prelude.{◌≡◌, ◌<◌, ℕ, List, length, IfOk};
 ghost use Rattle.crash_model.specs.Worlds.{seat_of};
 ghost use Rattle.crash_model.specs.Led.{Runs, IsAmong, IsResting, HasLeft, HasNoMarks};
 ghost use Rattle.log_core.specs.Within.{no_record};
@@ -41,6 +41,7 @@ fn begin_both(world: &mut World, query: Query, bytes: &[u8]) -> (Look, Write)
 fn seen(alloc: Global, geometry: Geometry, query: Query) -> Result<(Seen, World), Fail>
     requires block { geometry.block_bytes ≡ 64 }
     requires short { IsShort query }
+    ensures many { IfOk result (λ made. length made.1.seats ≡ 2) }
 {
     let mut world = two_seats(alloc, geometry)?;
     let (look, write) = begin_both(&mut world, query, &[9; 64]);
