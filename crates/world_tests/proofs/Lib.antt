@@ -8,3 +8,4 @@ pub mod Gives
 pub mod OneSeat
 pub mod WriteAfter
 pub mod WriteLemmas
+pub mod LookLemmas

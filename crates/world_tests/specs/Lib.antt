@@ -2,3 +2,4 @@ pub mod PinSeats
 pub mod AloneSeats
 pub mod OneSeat
 pub mod WriteSeats
+pub mod LookSeats

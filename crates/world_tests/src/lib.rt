@@ -4,6 +4,9 @@
 #[cfg(test)]
 mod block_tests;
 pub mod block_turns;
+#[cfg(test)]
+mod look_tests;
+pub mod look_turns;
 pub mod one_seat;
 #[cfg(test)]
 mod one_seat_tests;

@@ -18,7 +18,7 @@ use std::test::Fail;
 use write_any::Write;
 
 /// A world of two seats on a just-made image with blocks of 64 bytes. Each seat may begin to write one block.
-fn two_seats(alloc: Global, geometry: Geometry) -> Result<World, AllocError>
+pub fn two_seats(alloc: Global, geometry: Geometry) -> Result<World, AllocError>
     requires bytes { geometry.block_bytes ≡ 64 }
     ensures resting { IfOk result (λ world. IsResting world) }
     ensures room { IfOk result (λ world. 100 ≤ world.cells.room) }

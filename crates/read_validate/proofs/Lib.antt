@@ -1,0 +1,17 @@
+pub mod AdmitsOnce
+pub mod Embedding
+pub mod LookAlone
+pub mod LookFalls
+pub mod LookSeen
+pub mod LookServes
+pub mod LookStages
+pub mod LookStanding
+pub mod NextMapped
+pub mod RangeLaw
+pub mod RangePlaces
+pub mod RangeStanding
+pub mod RangeStep
+pub mod RunParts
+pub mod WalkEnds
+pub mod WholeMaps
+pub mod ZerosLaid
