@@ -1,0 +1,5 @@
+pub mod Touching
+pub mod Bytes
+pub mod Composing
+pub mod ReadingBase
+pub mod ReadingBases
