@@ -1,1 +1,4 @@
 pub mod WordBack
+pub mod BasePlaces
+pub mod WordsLaid
+pub mod Embedding
