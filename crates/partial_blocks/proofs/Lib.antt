@@ -2,3 +2,5 @@ pub mod WordBack
 pub mod BasePlaces
 pub mod WordsLaid
 pub mod Embedding
+pub mod MappedLoads
+pub mod ReadBaseServes

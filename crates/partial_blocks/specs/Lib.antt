@@ -3,3 +3,4 @@ pub mod Bytes
 pub mod Composing
 pub mod ReadingBase
 pub mod ReadingBases
+pub mod BasesWithin

@@ -3,6 +3,7 @@
 
 mod bytes;
 mod composing;
+pub mod laws;
 mod read_base;
 mod read_bases;
 mod touching;
