@@ -4,3 +4,5 @@ pub mod WordsLaid
 pub mod Embedding
 pub mod MappedLoads
 pub mod ReadBaseServes
+pub mod TouchedBases
+pub mod ReadBasesServes

@@ -145,7 +145,7 @@ module _ (block : ℕ) (o : Origin) (seat : ℕ) (s0 : Seat) (g0 : Ghost) (may :
       (subst (λ (h : Ghost). Lawful o seat read_base_script no_record P R (record { block = block; word = length stands.words }) (with_base_words stands.words s0) h) (sym stands.ghost)
       (lawful_there stands.words stands.few)))
 
-append_none : (l : List ℕ) → l ≡ l ++ []
+pub append_none : (l : List ℕ) → l ≡ l ++ []
 append_none [] = refl
 append_none (x ∷ l) = ap (λ (rest : List ℕ). x ∷ rest) (append_none l)
 
