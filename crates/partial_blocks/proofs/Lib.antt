@@ -6,3 +6,8 @@ pub mod MappedLoads
 pub mod ReadBaseServes
 pub mod TouchedBases
 pub mod ReadBasesServes
+pub mod WordsSet
+pub mod Composed
+pub mod TouchedPlaces
+pub mod LaidBytes
+pub mod HeldPlaces

@@ -7,11 +7,8 @@ use Rattle.log_core.specs.Works.{words_of}
 use Rattle.partial_blocks.specs.Touching.{first_touched, is_in_part, base_place}
 use Rattle.partial_blocks.specs.Bytes.{laid_word}
 use Rattle.partial_blocks.specs.Composing.{base_word, new_word, word_set, words_laid, block_set, composed_by, place_composed, places_composed, HasWholeBases}
+use Rattle.partial_blocks.specs.Holding.{bare}
 use Rattle.partial_blocks.proofs.BasePlaces.{found_place}
-
--- a seat but for its owned blocks
-abbrev pub bare : Seat → Seat
-bare s = record s { blocks = record s.blocks { owned = []; contents = [] } }
 
 pub words_bare : (offset place virt count : ℕ) (s : Seat) → bare (words_laid offset place virt count s) ≡ bare s
 words_bare offset place virt zero s = refl

@@ -4,3 +4,4 @@ pub mod Composing
 pub mod ReadingBase
 pub mod ReadingBases
 pub mod BasesWithin
+pub mod Holding

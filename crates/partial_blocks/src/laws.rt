@@ -1,6 +1,7 @@
-//! What the machines promise within a core, as the contract of a function that does nothing.
+//! What the machines promise within a core, and what composed blocks hold, as the contracts of functions that do nothing.
 
 ghost use Rattle.partial_blocks.specs.BasesWithin.{ReadsBaseWithin, ReadsBasesWithin};
+ghost use Rattle.partial_blocks.specs.Holding.{ComposesPlace, ComposesWrite};
 
 /// From every start, at every seat, and whatever other seats do between its steps: each ask of the machine is a step that the core
 /// allows, each answer that comes there is admitted, and it ends. What it ends with:
@@ -11,4 +12,14 @@ ghost use Rattle.partial_blocks.specs.BasesWithin.{ReadsBaseWithin, ReadsBasesWi
 pub fn law_within()
     ensures reads_base { ReadsBaseWithin }
     ensures reads_bases { ReadsBasesWithin }
+{}
+
+/// Where a call lacks no base:
+///
+/// - `place`: a block that was composed holds the bytes of the call where they lie in its virtual block, and elsewhere the bytes that
+///   are there by the bases, or 0 where it is unmapped. Nothing else of the seat has changed but the block's marks.
+/// - `write`: so do the first blocks of the list, one for each touched virtual block, and those behind them are as before.
+pub fn law_composed()
+    ensures place { ComposesPlace }
+    ensures write { ComposesWrite }
 {}
