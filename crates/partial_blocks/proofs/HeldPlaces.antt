@@ -35,8 +35,41 @@ pub by_blocks : (s t : Seat) → bare t ≡ bare s → t ≡ record s { blocks =
 by_blocks s t same = ap (λ (u : Seat). record u { blocks = t.blocks }) same
 
 -- a byte of a virtual block as it was read, 0 where it has no base
-abbrev old_byte : Seat → ℕ → ℕ → ℕ
+abbrev pub old_byte : Seat → ℕ → ℕ → ℕ
 old_byte s virt at = byte_of (base_word s (base_place s.calling.bases virt) (at / 8)) (at % 8)
+
+-- it is an old byte of a virtual block that is touched in part and not lacking
+pub old_known : (offset : ℕ) (s : Seat) (virt : ℕ) → HasWholeBases s → lacks offset s virt ≡ false → is_in_part offset s virt ≡ true → (at : ℕ) → at < s.geometry.block_bytes → IsOldByte s virt at (old_byte s virt at)
+old_known offset s virt whole no_lack part at low = go (base_place s.calling.bases virt) refl
+  where
+    all : 8 * words_of s ≡ s.geometry.block_bytes
+    all = eight_words s.geometry.block_bytes s.geometry.block_allowed
+
+    unmapped : (a : Bool) (found base : Option ℕ) → a ≡ true → base ≡ None → (a && is_some found && is_none base) ≡ false → found ≡ None
+    unmapped true None base is none lack = refl
+    unmapped true (Some block) None is none lack = cc
+    unmapped true (Some block) (Some place) is none lack = cc
+    unmapped false found base is none _ = cc
+
+    go : (found : Option ℕ) → base_place s.calling.bases virt ≡ found → IsOldByte s virt at (byte_of (base_word s found (at / 8)) (at % 8))
+    go None none = Unmapped (unmapped (is_in_part offset s virt) (map_at s.walk.map virt) (base_place s.calling.bases virt) part none no_lack) (byte_of_zero (at % 8))
+    go (Some base) is = (let eight = all in
+        let inside = base_inside s virt base (at / 8) whole is (omega (arith, eight, low)) in
+        let there = inside.1 in
+        let wide : base * s.geometry.block_bytes ≡ 8 * (base * words_of s) = ap (λ (n : ℕ). base * n) (sym eight) ∙ omega arith in
+        let far : base * s.geometry.block_bytes + at < 8 * length s.calling.base_words = omega (arith, there, wide) in
+        let word : (base * s.geometry.block_bytes + at) / 8 ≡ base * words_of s + at / 8 = omega (arith, wide) in
+        let rest : (base * s.geometry.block_bytes + at) % 8 ≡ at % 8 = omega (arith, wide) in
+        ByBase (record {
+          base = base;
+          inside = inside.0;
+          virt_is = (found_place s.calling.bases virt base is).1;
+          known = far;
+          is = sym (byte_in_word s.calling.base_words (base * s.geometry.block_bytes + at) far
+              ∙ (ap (λ (k : ℕ). slice_index (word_bytes (slice_index s.calling.base_words k ∷ [])) ((base * s.geometry.block_bytes + at) % 8)) word
+              ∙ (ap (λ (k : ℕ). slice_index (word_bytes (slice_index s.calling.base_words (base * words_of s + at / 8) ∷ [])) k) rest
+              ∙ word_byte (slice_index s.calling.base_words (base * words_of s + at / 8)) (at % 8) (omega arith))));
+        }))
 
 module _ (offset place : ℕ) (s : Seat) (ready : IsReadyToCompose offset s) (touched : place < touched_count offset s) where
   abbrev virt : ℕ
@@ -55,38 +88,12 @@ module _ (offset place : ℕ) (s : Seat) (ready : IsReadyToCompose offset s) (to
   eight = eight_words size s.geometry.block_allowed
 
   -- it is an old byte where the block is touched in part
-  old_is : (virt ≡ first_touched offset s) ⊎ (virt ≡ last_touched offset s) → is_in_part offset s virt ≡ true → (at : ℕ) → at < size → IsOldByte s virt at (old_byte s virt at)
-  old_is end part at low = go (base_place s.calling.bases virt) refl
+  old_is : is_in_part offset s virt ≡ true → (at : ℕ) → at < size → IsOldByte s virt at (old_byte s virt at)
+  old_is part at low = old_known offset s virt ready.whole (no_lack (part_at_end offset s ready.in_file place touched part)) part at low
     where
       no_lack : (virt ≡ first_touched offset s) ⊎ (virt ≡ last_touched offset s) → lacks offset s virt ≡ false
       no_lack (inl is) = ap (λ (v : ℕ). lacks offset s v) is ∙ (none_lacking offset s ready.none_lacks).0
       no_lack (inr is) = ap (λ (v : ℕ). lacks offset s v) is ∙ (none_lacking offset s ready.none_lacks).1
-
-      unmapped : (a : Bool) (found base : Option ℕ) → a ≡ true → base ≡ None → (a && is_some found && is_none base) ≡ false → found ≡ None
-      unmapped true None base is none lack = refl
-      unmapped true (Some block) None is none lack = cc
-      unmapped true (Some block) (Some place) is none lack = cc
-      unmapped false found base is none _ = cc
-
-      go : (found : Option ℕ) → base_place s.calling.bases virt ≡ found → IsOldByte s virt at (byte_of (base_word s found (at / 8)) (at % 8))
-      go None none = Unmapped (unmapped (is_in_part offset s virt) (map_at s.walk.map virt) (base_place s.calling.bases virt) part none (no_lack end)) (byte_of_zero (at % 8))
-      go (Some base) is = (let inside = base_inside s virt base (at / 8) ready.whole is (let all = eight in omega (arith, all, low)) in
-          let far : base * size + at < 8 * length s.calling.base_words = (let there = inside.1 in let all = eight in
-              let wide : base * size ≡ 8 * (base * q) = ap (λ (n : ℕ). base * n) (sym all) ∙ omega arith in omega (arith, there, wide)) in
-          let all = eight in
-          let wide : base * size ≡ 8 * (base * q) = ap (λ (n : ℕ). base * n) (sym all) ∙ omega arith in
-          let word : (base * size + at) / 8 ≡ base * q + at / 8 = omega (arith, wide) in
-          let rest : (base * size + at) % 8 ≡ at % 8 = omega (arith, wide) in
-          ByBase (record {
-            base = base;
-            inside = inside.0;
-            virt_is = (found_place s.calling.bases virt base is).1;
-            known = far;
-            is = sym (byte_in_word s.calling.base_words (base * size + at) far
-                ∙ (ap (λ (k : ℕ). slice_index (word_bytes (slice_index s.calling.base_words k ∷ [])) ((base * size + at) % 8)) word
-                ∙ (ap (λ (k : ℕ). slice_index (word_bytes (slice_index s.calling.base_words (base * q + at / 8) ∷ [])) k) rest
-                ∙ word_byte (slice_index s.calling.base_words (base * q + at / 8)) (at % 8) (omega arith))));
-          }))
 
   -- blocks whose bytes are the call's laid over the old ones hold the virtual block
   holds_by : (blocks : Blocks) → ((at : ℕ) → at < size → slice_index (word_bytes (slice_index blocks.contents (place * q + at / 8) ∷ [])) (at % 8) ≡ laid_byte offset bytes (virt * size + at) (old_byte s virt at)) →
@@ -104,7 +111,7 @@ module _ (offset place : ℕ) (s : Seat) (ready : IsReadyToCompose offset s) (to
 
     held_part : is_in_part offset s virt ≡ true → HoldsPlace offset place (words_laid offset place virt q s)
     held_part part = subst (λ (t : Seat). HoldsPlace offset place t) (sym (by_blocks s (words_laid offset place virt q s) (words_bare offset place virt q s)))
-        (holds_by (words_laid offset place virt q s).blocks each (λ at low outside. old_is (part_at_end offset s ready.in_file place touched part) part at low))
+        (holds_by (words_laid offset place virt q s).blocks each (λ at low outside. old_is part at low))
       where
         each : (at : ℕ) → at < size → slice_index (word_bytes (slice_index (words_laid offset place virt q s).blocks.contents (place * q + at / 8) ∷ [])) (at % 8) ≡ laid_byte offset bytes (virt * size + at) (old_byte s virt at)
         each at low = ap (λ (word : ℕ). slice_index (word_bytes (word ∷ [])) (at % 8)) (laid_there offset place virt s q (at / 8) room (let all = eight in omega (arith, all, low)))

@@ -11,3 +11,4 @@ pub mod Composed
 pub mod TouchedPlaces
 pub mod LaidBytes
 pub mod HeldPlaces
+pub mod KeptBytes

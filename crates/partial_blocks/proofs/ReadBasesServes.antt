@@ -75,12 +75,17 @@ module _ (offset : ℕ) (before : Seat) (looks : MayLookForBases offset before) 
     bases = record {
       once = once_push before.calling.bases virt looks.bases.once (none_place before.calling.bases virt (lacking_end offset before virt is).lacks_it.none);
       each = λ other listed. by other (each_push before.calling.bases virt other listed);
+      mapped = λ other listed. there other (each_push before.calling.bases virt other listed);
       whole = (let more = length-append before.calling.base_words words in let many = length-append before.calling.bases (virt ∷ []) in let whole = looks.bases.whole in
           let split : length (before.calling.bases ++ virt ∷ []) * words_of before ≡ length before.calling.bases * words_of before + words_of before = ap (λ (n : ℕ). n * words_of before) many ∙ omega arith in
           omega (arith, more, whole, long, split));
     };
   }
     where
+      there : (other : ℕ) → (is_listed before.calling.bases other ≡ true) ⊎ (other ≡ virt) → is_some (map_at before.walk.map other) ≡ true
+      there other (inl listed) = looks.bases.mapped other listed
+      there other (inr same) = ap (λ (v : ℕ). is_some (map_at before.walk.map v)) same ∙ (lacking_end offset before virt is).lacks_it.mapped
+
       by : (other : ℕ) → (is_listed before.calling.bases other ≡ true) ⊎ (other ≡ virt) → (other ≡ Rattle.partial_blocks.specs.Touching.first_touched offset before) ⊎ (other ≡ Rattle.partial_blocks.specs.Touching.last_touched offset before)
       by other (inl listed) = looks.bases.each other listed
       by other (inr same) = subst (λ (v : ℕ). (v ≡ Rattle.partial_blocks.specs.Touching.first_touched offset before) ⊎ (v ≡ Rattle.partial_blocks.specs.Touching.last_touched offset before)) (sym same) (lacking_end offset before virt is).end

@@ -5,3 +5,4 @@ pub mod ReadingBase
 pub mod ReadingBases
 pub mod BasesWithin
 pub mod Holding
+pub mod KeptBytes

@@ -46,8 +46,9 @@ lacks_base offset s =
     else if lacks offset s (last_touched offset s) then Some (last_touched offset s)
     else None
 
--- each base is the first touched block or the last, none stands twice, and each was read whole
+-- each base is the first touched block or the last and is mapped, none stands twice, and each was read whole
 pub record HasTouchedBases (offset : ℕ) (s : Seat) : Type 0 where
   pub once : all_different s.calling.bases ≡ true
   pub each : (virt : ℕ) → is_listed s.calling.bases virt ≡ true → (virt ≡ first_touched offset s) ⊎ (virt ≡ last_touched offset s)
+  pub mapped : (virt : ℕ) → is_listed s.calling.bases virt ≡ true → is_some (map_at s.walk.map virt) ≡ true
   pub whole : length s.calling.base_words ≡ length s.calling.bases * words_of s

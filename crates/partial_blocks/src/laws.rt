@@ -2,6 +2,7 @@
 
 ghost use Rattle.partial_blocks.specs.BasesWithin.{ReadsBaseWithin, ReadsBasesWithin};
 ghost use Rattle.partial_blocks.specs.Holding.{ComposesPlace, ComposesWrite};
+ghost use Rattle.partial_blocks.specs.KeptBytes.{TakingKeeps, KeepsPlace, ReadingKeeps};
 
 /// From every start, at every seat, and whatever other seats do between its steps: each ask of the machine is a step that the core
 /// allows, each answer that comes there is admitted, and it ends. What it ends with:
@@ -22,4 +23,15 @@ pub fn law_within()
 pub fn law_composed()
     ensures place { ComposesPlace }
     ensures write { ComposesWrite }
+{}
+
+/// Where entries of others are taken in after an exchange that was lost:
+///
+/// - `taking`: what bases are left say the same bytes, no virtual block becomes unmapped, and the bases are some of those of touched blocks.
+/// - `place`: over any number of such entries, a place whose virtual block does not lack its base holds it still, where its content is the same.
+/// - `reading`: so it does where more bases are read.
+pub fn law_kept()
+    ensures taking { TakingKeeps }
+    ensures place { KeepsPlace }
+    ensures reading { ReadingKeeps }
 {}
