@@ -12,3 +12,4 @@ pub mod TouchedPlaces
 pub mod LaidBytes
 pub mod HeldPlaces
 pub mod KeptBytes
+pub mod EntersComposed

@@ -3,7 +3,9 @@ use Rattle.std.specs.Prelude.{ℕ, ◌+◌, ◌*◌, ◌/◌, ◌%◌, ◌<◌, 
 use Rattle.log_entry.specs.WordBytes.{word_bytes}
 use Rattle.pmem_words.specs.declared.owned.OwnedBlock.{OwnedBlock}
 use Rattle.pmem_words.specs.Seats.{Seat}
+use Rattle.log_core.specs.Views.{Ghost}
 use Rattle.log_core.specs.Works.{words_of, content_word}
+use Rattle.log_core.specs.Answers.{Enters}
 use Rattle.log_core.proofs.writes.LaidWrites.{IsOldByte}
 use Rattle.partial_blocks.specs.Touching.{IsInFile, first_touched, touched_count, lacks_base}
 use Rattle.partial_blocks.specs.Composing.{HasWholeBases, place_composed, composed}
@@ -66,3 +68,8 @@ ComposesPlace = (offset place : ℕ) (s : Seat) → IsReadyToCompose offset s �
 abbrev pub ComposesWrite : Type 0
 ComposesWrite = (offset : ℕ) (s : Seat) → IsReadyToCompose offset s → touched_count offset s ≤ length s.blocks.owned →
     HoldsWrite offset (composed offset s) × ChangesOnly (λ other. other < touched_count offset s) s (composed offset s)
+
+-- and a call may compute both between two of its steps
+abbrev pub MayBeComposed : Type 0
+MayBeComposed = (offset : ℕ) (s : Seat) (g : Ghost) → AreBytes s.calling.bytes →
+    ((place : ℕ) → place < length s.blocks.owned → Enters g s (place_composed offset place s) []) × (touched_count offset s ≤ length s.blocks.owned → Enters g s (composed offset s) [])

@@ -1,7 +1,7 @@
 //! What the machines promise within a core, and what composed blocks hold, as the contracts of functions that do nothing.
 
 ghost use Rattle.partial_blocks.specs.BasesWithin.{ReadsBaseWithin, ReadsBasesWithin};
-ghost use Rattle.partial_blocks.specs.Holding.{ComposesPlace, ComposesWrite};
+ghost use Rattle.partial_blocks.specs.Holding.{ComposesPlace, ComposesWrite, MayBeComposed};
 ghost use Rattle.partial_blocks.specs.KeptBytes.{TakingKeeps, KeepsPlace, ReadingKeeps};
 
 /// From every start, at every seat, and whatever other seats do between its steps: each ask of the machine is a step that the core
@@ -20,9 +20,11 @@ pub fn law_within()
 /// - `place`: a block that was composed holds the bytes of the call where they lie in its virtual block, and elsewhere the bytes that
 ///   are there by the bases, or 0 where it is unmapped. Nothing else of the seat has changed but the block's marks.
 /// - `write`: so do the first blocks of the list, one for each touched virtual block, and those behind them are as before.
+/// - `may`: a call may compute both between two of its steps.
 pub fn law_composed()
     ensures place { ComposesPlace }
     ensures write { ComposesWrite }
+    ensures may { MayBeComposed }
 {}
 
 /// Where entries of others are taken in after an exchange that was lost:
