@@ -6,3 +6,4 @@ pub mod ReadingBases
 pub mod BasesWithin
 pub mod Holding
 pub mod KeptBytes
+pub mod Entries

@@ -3,12 +3,16 @@
 
 mod bytes;
 mod composing;
+mod entry;
 pub mod laws;
 mod read_base;
 mod read_bases;
+#[cfg(test)]
+mod tests;
 mod touching;
 
 pub use composing::{compose, compose_place};
+pub use entry::{entry_of, leftover_of};
 pub use read_base::ReadBase;
 pub use read_bases::ReadBases;
 pub use touching::{first_touched, is_in_part, lacks_base, last_touched, touched_count};
