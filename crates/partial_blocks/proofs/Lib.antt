@@ -13,3 +13,5 @@ pub mod LaidBytes
 pub mod HeldPlaces
 pub mod KeptBytes
 pub mod EntersComposed
+pub mod OwnedOnce
+pub mod Commits

@@ -7,3 +7,4 @@ pub mod BasesWithin
 pub mod Holding
 pub mod KeptBytes
 pub mod Entries
+pub mod Committing

@@ -2,6 +2,7 @@
 
 ghost use Rattle.partial_blocks.specs.BasesWithin.{ReadsBaseWithin, ReadsBasesWithin};
 ghost use Rattle.partial_blocks.specs.Holding.{ComposesPlace, ComposesWrite, MayBeComposed};
+ghost use Rattle.partial_blocks.specs.Committing.{CommitsRun, CommitsRuns};
 ghost use Rattle.partial_blocks.specs.KeptBytes.{TakingKeeps, KeepsPlace, ReadingKeeps};
 
 /// From every start, at every seat, and whatever other seats do between its steps: each ask of the machine is a step that the core
@@ -36,4 +37,14 @@ pub fn law_kept()
     ensures taking { TakingKeeps }
     ensures place { KeepsPlace }
     ensures reading { ReadingKeeps }
+{}
+
+/// Where the first owned blocks of a seat at its tail's slot are fenced and hold its write, which nothing refuses there, in each core that
+/// knows the seat so:
+///
+/// - `run`: the direct entry of blocks that are one run may be put into the slot.
+/// - `runs`: so may the indirect entry of the block behind them, if it holds the words of their runs and is fenced.
+pub fn law_commits()
+    ensures run { CommitsRun }
+    ensures runs { CommitsRuns }
 {}
