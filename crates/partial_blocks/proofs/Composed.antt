@@ -19,7 +19,7 @@ set_marked [] place o same = refl
 set_marked (x ∷ xs) zero o same = ap (λ (y : OwnedBlock). y ∷ unmarked_all xs) same
 set_marked (x ∷ xs) (suc place) o same = ap (λ (l : List OwnedBlock). unmarked x ∷ l) (set_marked xs place o same)
 
-both_marks : (owned : List OwnedBlock) (place : ℕ) → unmarked_all (with_fenced (with_filled owned place false) place false) ≡ unmarked_all owned
+pub both_marks : (owned : List OwnedBlock) (place : ℕ) → unmarked_all (with_fenced (with_filled owned place false) place false) ≡ unmarked_all owned
 both_marks owned place = set_marked (with_filled owned place false) place (record (owned_at (with_filled owned place false) place) { fenced = false }) refl
     ∙ set_marked owned place (record (owned_at owned place) { filled = false }) refl
 

@@ -15,3 +15,6 @@ pub mod KeptBytes
 pub mod EntersComposed
 pub mod OwnedOnce
 pub mod Commits
+pub mod RunsHeld
+pub mod RunsSet
+pub mod RunsChange

@@ -8,3 +8,4 @@ pub mod Holding
 pub mod KeptBytes
 pub mod Entries
 pub mod Committing
+pub mod Runs

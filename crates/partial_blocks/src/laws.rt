@@ -3,6 +3,7 @@
 ghost use Rattle.partial_blocks.specs.BasesWithin.{ReadsBaseWithin, ReadsBasesWithin};
 ghost use Rattle.partial_blocks.specs.Holding.{ComposesPlace, ComposesWrite, MayBeComposed};
 ghost use Rattle.partial_blocks.specs.Committing.{CommitsRun, CommitsRuns};
+ghost use Rattle.partial_blocks.specs.Runs.{ComposesRuns, MayComposeRuns};
 ghost use Rattle.partial_blocks.specs.KeptBytes.{TakingKeeps, KeepsPlace, ReadingKeeps};
 
 /// From every start, at every seat, and whatever other seats do between its steps: each ask of the machine is a step that the core
@@ -47,4 +48,13 @@ pub fn law_kept()
 pub fn law_commits()
     ensures run { CommitsRun }
     ensures runs { CommitsRuns }
+{}
+
+/// The block behind the first blocks of a seat's list, whose words were 0 but its first:
+///
+/// - `runs`: once their runs are composed in it, its words are those of an indirect block of them, and no other block has changed.
+/// - `may`: a call may compute that between two of its steps.
+pub fn law_runs()
+    ensures runs { ComposesRuns }
+    ensures may { MayComposeRuns }
 {}

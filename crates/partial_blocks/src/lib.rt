@@ -7,6 +7,7 @@ mod entry;
 pub mod laws;
 mod read_base;
 mod read_bases;
+mod runs;
 #[cfg(test)]
 mod tests;
 mod touching;
@@ -15,4 +16,5 @@ pub use composing::{compose, compose_place};
 pub use entry::{entry_of, leftover_of};
 pub use read_base::ReadBase;
 pub use read_bases::ReadBases;
+pub use runs::{are_one_run, compose_runs};
 pub use touching::{first_touched, is_in_part, lacks_base, last_touched, touched_count};
