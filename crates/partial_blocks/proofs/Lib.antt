@@ -18,3 +18,4 @@ pub mod Commits
 pub mod RunsHeld
 pub mod RunsSet
 pub mod RunsChange
+pub mod RunForms

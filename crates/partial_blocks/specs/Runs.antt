@@ -12,6 +12,9 @@ use Rattle.log_core.proofs.writes.RunLists.{runs_of}
 use Rattle.log_core.proofs.writes.IndirectBlocks.{indirect_content}
 use Rattle.partial_blocks.specs.Composing.{word_set}
 use Rattle.partial_blocks.specs.Holding.{ChangesOnly}
+use Rattle.partial_blocks.specs.Touching.{first_touched, touched_count}
+use Rattle.partial_blocks.specs.Entries.{leftover_of}
+use Rattle.partial_blocks.specs.Committing.{IsDataBlock, AreRunsOf}
 
 -- there is a block behind so many, and it has words for their runs
 pub record HasRuns (count leftover : ℕ) (s : Seat) : Type 0 where
@@ -71,3 +74,14 @@ ComposesRuns = (virt count leftover : ℕ) (s : Seat) → HasRuns count leftover
 abbrev pub MayComposeRuns : Type 0
 MayComposeRuns = (virt count leftover : ℕ) (s : Seat) (g : Ghost) → HasRuns count leftover s → virt < 2 ^ 16 → ((place : ℕ) → place < count → owned_block s place < 2 ^ 16) →
     Enters g s (runs_composed virt count leftover s) []
+
+-- blocks that are one run, by their places
+abbrev pub AreOneRunByPlace : Type 0
+AreOneRunByPlace = (owned : List OwnedBlock) → are_one_run owned ≡ true → (place : ℕ) → place < length owned → (owned_at owned place).block ≡ (owned_at owned 0).block + place
+
+-- and several, where the block behind them has the words
+abbrev pub AreRunsByPlace : Type 0
+AreRunsByPlace = (offset : ℕ) (s : Seat) → 0 < touched_count offset s → IsDataBlock s (touched_count offset s) →
+    ((index : ℕ) → index < words_of s →
+    content_word s (touched_count offset s) index ≡ slice_index (indirect_content (words_of s) (first_touched offset s) (leftover_of offset s) (runs_of (firsts s (touched_count offset s - 1)))) index) →
+    AreRunsOf offset s (runs_of (firsts s (touched_count offset s - 1)))

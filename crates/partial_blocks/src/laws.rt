@@ -3,7 +3,7 @@
 ghost use Rattle.partial_blocks.specs.BasesWithin.{ReadsBaseWithin, ReadsBasesWithin};
 ghost use Rattle.partial_blocks.specs.Holding.{ComposesPlace, ComposesWrite, MayBeComposed};
 ghost use Rattle.partial_blocks.specs.Committing.{CommitsRun, CommitsRuns};
-ghost use Rattle.partial_blocks.specs.Runs.{ComposesRuns, MayComposeRuns};
+ghost use Rattle.partial_blocks.specs.Runs.{ComposesRuns, MayComposeRuns, AreOneRunByPlace, AreRunsByPlace};
 ghost use Rattle.partial_blocks.specs.KeptBytes.{TakingKeeps, KeepsPlace, ReadingKeeps};
 
 /// From every start, at every seat, and whatever other seats do between its steps: each ask of the machine is a step that the core
@@ -54,7 +54,10 @@ pub fn law_commits()
 ///
 /// - `runs`: once their runs are composed in it, its words are those of an indirect block of them, and no other block has changed.
 /// - `may`: a call may compute that between two of its steps.
+/// - `one_run`, `many_runs`: what the entry of one run, and that of several, asks of the blocks follows.
 pub fn law_runs()
     ensures runs { ComposesRuns }
     ensures may { MayComposeRuns }
+    ensures one_run { AreOneRunByPlace }
+    ensures many_runs { AreRunsByPlace }
 {}
