@@ -23,6 +23,11 @@ pub both_marks : (owned : List OwnedBlock) (place : ℕ) → unmarked_all (with_
 both_marks owned place = set_marked (with_filled owned place false) place (record (owned_at (with_filled owned place false) place) { fenced = false }) refl
     ∙ set_marked owned place (record (owned_at owned place) { filled = false }) refl
 
+-- the blocks at other places keep theirs
+pub both_other : (owned : List OwnedBlock) (place other : ℕ) → other ≢ place → owned_at (with_fenced (with_filled owned place false) place false) other ≡ owned_at owned other
+both_other owned place other apart = get_or-set_other (with_filled owned place false) place other (record (owned_at (with_filled owned place false) place) { fenced = false }) _ apart
+    ∙ get_or-set_other owned place other (record (owned_at owned place) { filled = false }) _ apart
+
 -- the words of a block that is laid word by word
 module _ (offset place virt : ℕ) (s : Seat) where
   laid_wide : (count : ℕ) → words_of (words_laid offset place virt count s) ≡ words_of s
@@ -60,11 +65,16 @@ module _ (offset place virt : ℕ) (s : Seat) where
   laid_marks zero = refl
   laid_marks (suc count) = both_marks (words_laid offset place virt count s).blocks.owned place ∙ laid_marks count
 
+  laid_other : (count other : ℕ) → other ≢ place → owned_at (words_laid offset place virt count s).blocks.owned other ≡ owned_at s.blocks.owned other
+  laid_other zero other apart = refl
+  laid_other (suc count) other apart = both_other (words_laid offset place virt count s).blocks.owned place other apart ∙ laid_other count other apart
+
 -- one place
 by_only : (part : Bool) (offset place virt : ℕ) (s : Seat) → bare (composed_by part offset place virt s) ≡ bare s → ChangesOnly (λ other. other ≡ place) s (composed_by part offset place virt s)
 by_only true offset place virt s rest = record {
   rest = rest;
   owned = laid_marks offset place virt s (words_of s);
+  marks = λ other apart. laid_other offset place virt s (words_of s) other apart;
   long = laid_long offset place virt s (words_of s);
   others = λ other word apart low. ap (λ (q : ℕ). slice_index (words_laid offset place virt (words_of s) s).blocks.contents (other * q + word)) (ap words_of rest)
       ∙ laid_apart offset place virt s (words_of s) (other * words_of s + word) (words_apart (words_of s) place other word apart low);
@@ -72,6 +82,7 @@ by_only true offset place virt s rest = record {
 by_only false offset place virt s rest = record {
   rest = rest;
   owned = both_marks s.blocks.owned place;
+  marks = λ other apart. both_other s.blocks.owned place other apart;
   long = set_long _ s.blocks.contents (place * words_of s) (words_of s);
   others = λ other word apart low. set_apart _ s.blocks.contents (place * words_of s) (words_of s) (other * words_of s + word) (words_apart (words_of s) place other word apart low);
 }
@@ -81,7 +92,7 @@ place_only offset place s = by_only (is_in_part offset s (first_touched offset s
 
 -- and the first of them
 pub places_only : (offset count : ℕ) (s : Seat) → ChangesOnly (λ other. other < count) s (places_composed offset count s)
-places_only offset zero s = record { rest = refl; owned = refl; long = refl; others = λ other word apart low. refl }
+places_only offset zero s = record { rest = refl; owned = refl; marks = λ other apart. refl; long = refl; others = λ other word apart low. refl }
 places_only offset (suc count) s = more (places_only offset count s) (place_only offset count (places_composed offset count s))
   where
     more : ChangesOnly (λ other. other < count) s (places_composed offset count s) → ChangesOnly (λ other. other ≡ count) (places_composed offset count s) (places_composed offset (suc count) s) →
@@ -89,6 +100,7 @@ places_only offset (suc count) s = more (places_only offset count s) (place_only
     more first last = record {
       rest = last.rest ∙ first.rest;
       owned = last.owned ∙ first.owned;
+      marks = λ other apart. last.marks other (λ same. apart (omega (arith, same))) ∙ first.marks other (λ before. apart (omega (arith, before)));
       long = last.long ∙ first.long;
       others = λ other word apart low. last.others other word (λ same. apart (omega (arith, same))) (let wide = ap words_of first.rest in omega (arith, wide, low)) ∙ first.others other word (λ before. apart (omega (arith, before))) low;
     }

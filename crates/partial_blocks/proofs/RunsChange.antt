@@ -2,7 +2,7 @@
 use Rattle.std.proofs.Common.{◌≡◌, ◌≢◌, ◌⊎◌, inl, inr, ℕ, zero, suc, ◌+◌, ◌-◌, ◌*◌, ◌^◌, ◌<◌, ◌≤◌, false, List, [], ◌∷◌, length, slice_index, slice_set, refl, sym, ap, subst, ◌∙◌, arith, mul-le-mul_right}
 use Rattle.std.proofs.lemmas.List.{get_or-set_same, get_or-set_other, length-set}
 use Rattle.log_entry.specs.Words.{run_word, indirect_word}
-use Rattle.pmem_words.specs.Owned.{with_filled, with_fenced}
+use Rattle.pmem_words.specs.Owned.{owned_at}
 use Rattle.pmem_words.specs.Seats.{Seat}
 use Rattle.log_core.specs.Views.{Ghost}
 use Rattle.log_core.specs.Works.{words_of, owned_block, content_word}
@@ -14,7 +14,7 @@ use Rattle.log_core.proofs.writes.IndirectBlocks.{indirect_content, run_small}
 use Rattle.partial_blocks.specs.Composing.{word_set}
 use Rattle.partial_blocks.specs.Holding.{bare, unmarked_all, ChangesOnly}
 use Rattle.partial_blocks.specs.Runs.{HasRuns, run_at, runs_at, runs_set, runs_composed, firsts, ComposesRuns, MayComposeRuns}
-use Rattle.partial_blocks.proofs.Composed.{both_marks}
+use Rattle.partial_blocks.proofs.Composed.{both_marks, both_other}
 use Rattle.partial_blocks.proofs.EntersComposed.{enters_word}
 use Rattle.partial_blocks.proofs.RunsHeld.{runs_range, run_range, runs_words, runs_words_long, are_held, indirect_words}
 use Rattle.partial_blocks.proofs.WordsSet.{words_apart}
@@ -33,6 +33,10 @@ runs_long count (suc place) s = word_long count (runs_at (suc place) s) (run_wor
 runs_marks : (count place : ℕ) (s : Seat) → unmarked_all (runs_set count place s).blocks.owned ≡ unmarked_all s.blocks.owned
 runs_marks count zero s = both_marks s.blocks.owned count
 runs_marks count (suc place) s = both_marks (runs_set count place s).blocks.owned count ∙ runs_marks count place s
+
+runs_other : (count place : ℕ) (s : Seat) (other : ℕ) → other ≢ count → owned_at (runs_set count place s).blocks.owned other ≡ owned_at s.blocks.owned other
+runs_other count zero s other apart = both_other s.blocks.owned count other apart
+runs_other count (suc place) s other apart = both_other (runs_set count place s).blocks.owned count other apart ∙ runs_other count place s other apart
 
 runs_contents : (count place : ℕ) (s : Seat) → (runs_set count place s).blocks.contents ≡ runs_words s s.blocks.contents (count * words_of s) place
 runs_contents count zero s = refl
@@ -110,6 +114,7 @@ module _ (virt count leftover : ℕ) (s : Seat) (has : HasRuns count leftover s)
   only = record {
     rest = rest;
     owned = both_marks (runs_set count last s).blocks.owned count ∙ runs_marks count last s;
+    marks = λ other apart. both_other (runs_set count last s).blocks.owned count other apart ∙ runs_other count last s other apart;
     long = ap (λ (l : List ℕ). length l) whole_is ∙ (length-set (runs_words s s.blocks.contents from last) (from + 0) first ∙ runs_words_long s s.blocks.contents from last);
     others = others;
   }

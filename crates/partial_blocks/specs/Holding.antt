@@ -2,6 +2,7 @@
 use Rattle.std.specs.Prelude.{ℕ, ◌+◌, ◌*◌, ◌/◌, ◌%◌, ◌<◌, ◌≤◌, ◌≡◌, ◌≢◌, ◌⊎◌, false, List, [], ◌∷◌, length, map, slice_index, Option, None}
 use Rattle.log_entry.specs.WordBytes.{word_bytes}
 use Rattle.pmem_words.specs.declared.owned.OwnedBlock.{OwnedBlock}
+use Rattle.pmem_words.specs.Owned.{owned_at}
 use Rattle.pmem_words.specs.Seats.{Seat}
 use Rattle.log_core.specs.Views.{Ghost}
 use Rattle.log_core.specs.Works.{words_of, content_word}
@@ -52,10 +53,11 @@ unmarked block = record block { filled = false; fenced = false }
 abbrev pub unmarked_all : List OwnedBlock → List OwnedBlock
 unmarked_all owned = map unmarked owned
 
--- nothing has changed but the marks of owned blocks, and the contents of those at some places
+-- nothing has changed but the marks and the contents of the owned blocks at some places
 pub record ChangesOnly (changes : ℕ → Type 0) (s t : Seat) : Type 0 where
   pub rest : bare t ≡ bare s
   pub owned : unmarked_all t.blocks.owned ≡ unmarked_all s.blocks.owned
+  pub marks : (place : ℕ) → (changes place → ⊥) → owned_at t.blocks.owned place ≡ owned_at s.blocks.owned place
   pub long : length t.blocks.contents ≡ length s.blocks.contents
   pub others : (place word : ℕ) → (changes place → ⊥) → word < words_of s → content_word t place word ≡ content_word s place word
 

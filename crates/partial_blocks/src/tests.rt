@@ -43,3 +43,28 @@ fn a_byte_over_a_mapped_block(rt: HostRuntime) -> Result<(), Fail> {
     }
     Ok(())
 }
+
+#[test]
+fn a_byte_over_the_bytes_of_a_base(rt: HostRuntime) -> Result<(), Fail> {
+    let Ok(geometry) = Geometry::new(40, 4, 64) else {
+        return Ok(());
+    };
+    let mut seat = SeatState::new(rt.alloc(), geometry, 0, 1, 0)?;
+    seat.put_bytes([0xffu8].as_slice());
+    seat.own(3, Area::Data);
+    seat.apply(0, 9, 1);
+    seat.add_base(0);
+    seat.add_base_word(0x0807_0605_0403_0201);
+    seat.add_base_word(9);
+    seat.add_base_word(10);
+    seat.add_base_word(11);
+    seat.add_base_word(12);
+    seat.add_base_word(13);
+    seat.add_base_word(14);
+    seat.add_base_word(15);
+    assert_eq!(rt; lacks_base(&seat, 5), None);
+    compose_place(&mut seat, 5, 0);
+    let words = [0x0807_ff05_0403_0201, 9, 10, 11, 12, 13, 14, 15];
+    assert_eq!(rt; seat.contents(), words.as_slice());
+    Ok(())
+}
