@@ -1,7 +1,7 @@
 -- A write of any bytes whose blocks hold it may be committed.
-use Rattle.std.proofs.Common.{◌≡◌, ◌≢◌, ◌<◌, ◌≤◌, ◌+◌, ◌-◌, ◌*◌, ◌/◌, ◌^◌, ◌==◌, ◌||◌, ◌⊎◌, inl, inr, max, ℕ, Bool, true, false, List, [], ◌∷◌, length, slice_index, refl, sym, ap, ◌∙◌, subst, arith}
+use Rattle.std.proofs.Common.{◌≡◌, ◌≢◌, ◌<◌, ◌≤◌, ◌+◌, ◌-◌, ◌*◌, ◌^◌, ◌==◌, ◌||◌, ◌⊎◌, max, ℕ, Bool, true, false, List, [], ◌∷◌, length, slice_index, refl, sym, ap, ◌∙◌, subst, arith}
 use Rattle.std.specs.List.{range_with_len, list_all, AllByRecursion}
-use Rattle.std.proofs.lemmas.Bool.{eqb-true, eq-eqb, and_parts}
+use Rattle.std.proofs.lemmas.Bool.{eqb-true, eq-eqb}
 use Rattle.std.proofs.lemmas.Grind.{same_number_lists}
 use Rattle.std.proofs.lemmas.List.FromFn.{length-range_with_len, get_or-range_with_len}
 use Rattle.log_entry.specs.Shape.{longest_of}
@@ -19,8 +19,7 @@ use Rattle.pmem_words.specs.Seats.{Seat}
 use Rattle.log_core.specs.Views.{Ghost, view_of}
 use Rattle.log_core.specs.Origin.{Origin}
 use Rattle.log_core.specs.Cores.{Core}
-use Rattle.log_core.specs.Works.{seat_shape, words_of, owned_block, content_word}
-use Rattle.log_core.specs.Needs.{owned_numbers}
+use Rattle.log_core.specs.Works.{seat_shape, words_of, owned_block}
 use Rattle.log_core.specs.Steps.{content_of, new_meaning}
 use Rattle.log_core.specs.May.{is_fenced, is_log_entry_by, MayCommit}
 use Rattle.log_core.specs.Invariant.{Invariant}
@@ -33,7 +32,7 @@ use Rattle.log_core.proofs.writes.EntryWords.{direct_small, direct_meaning_by, d
 use Rattle.log_core.proofs.writes.OwnAreas.{owns_whole, owned_in_data}
 use Rattle.log_core.proofs.writes.OwnContents.{OwnsWhole, content_length, content_at, content_byte, fenced_at}
 use Rattle.log_core.proofs.writes.PlacedBytes.{listed_place}
-use Rattle.log_core.proofs.writes.RunLists.{blocks_of, AreRuns, IsSmallRun, few_runs, some_runs, small_runs}
+use Rattle.log_core.proofs.writes.RunLists.{blocks_of, IsSmallRun, few_runs, some_runs, small_runs}
 use Rattle.log_core.proofs.writes.IndirectBlocks.{indirect_content, indirect_says, indirect_is, indirect_long, holder_small, holder_means, holder_form}
 use Rattle.log_core.proofs.writes.RunWrites.{in_data_small}
 use Rattle.partial_blocks.specs.Touching.{first_touched, last_touched, touched_count}
@@ -174,7 +173,7 @@ module _ (o : Origin) (c : Core) (n : ℕ) (s : Seat) (g : Ghost) (pin began : �
         run_long run_at
         (direct_small (first_touched offset s) block many (leftover_of offset s) (small_virt s word offset w) small_block (some s word offset w) (short s word offset w) (small_leftover s word offset w))
         (direct_form (first_touched offset s) block many (leftover_of offset s) (small_virt s word offset w) small_block (some s word offset w) (short s word offset w) (small_leftover s word offset w) (λ b. content_of s b) (seat_shape s)
-            w.few (within s word offset w) run_in_data (low_leftover s word offset w))
+        w.few (within s word offset w) run_in_data (low_leftover s word offset w))
         (placed_fenced s word offset w owns (range_with_len block many) run_long run_at)
         (range_different block many))
 
@@ -267,9 +266,9 @@ module _ (o : Origin) (c : Core) (n : ℕ) (s : Seat) (g : Ghost) (pin began : �
         (holder_means holder small_holder (λ b. content_of s b) ∙ says) r.long r.blocks
         (holder_small holder small_holder)
         (holder_form holder small_holder (λ b. content_of s b) (seat_shape s) holder_in_data
-            (subst (λ (l : List ℕ). is_indirect_block (seat_shape s) l ≡ true) (sym content_is)
-            (indirect_is (words_of s) virt leftover (length blocks) runs low_virt small_count low_left few small_count all (seat_shape s) refl (some_runs runs some_blocks) room))
-            (ap (λ (told : Meaning). fits (seat_shape s) (longest_of s.geometry.block_bytes) told) says ∙ m_fits))
+        (subst (λ (l : List ℕ). is_indirect_block (seat_shape s) l ≡ true) (sym content_is)
+        (indirect_is (words_of s) virt leftover (length blocks) runs low_virt small_count low_left few small_count all (seat_shape s) refl (some_runs runs some_blocks) room))
+        (ap (λ (told : Meaning). fits (seat_shape s) (longest_of s.geometry.block_bytes) told) says ∙ m_fits))
         names_fenced once)
 
 pub commits_run : CommitsRun

@@ -1,18 +1,16 @@
 -- What composing leaves of contents and marks.
-use Rattle.std.proofs.Common.{◌≡◌, ◌≢◌, ◌⊎◌, inl, inr, ℕ, zero, suc, ◌+◌, ◌-◌, ◌*◌, ◌/◌, ◌<◌, ◌≤◌, Bool, true, false, List, [], ◌∷◌, length, slice_index, slice_set, refl, sym, ap, subst, ◌∙◌, arith, mul-le-mul_right}
-use Rattle.std.specs.List.{slice_range}
+use Rattle.std.proofs.Common.{◌≡◌, ◌≢◌, ◌⊎◌, inl, inr, ℕ, zero, suc, ◌+◌, ◌*◌, ◌<◌, ◌≤◌, Bool, true, false, List, [], ◌∷◌, length, slice_index, slice_set, refl, sym, ap, ◌∙◌, arith}
 use Rattle.std.proofs.lemmas.Bool.{cases_eq}
 use Rattle.std.proofs.lemmas.List.{get_or-set_same, get_or-set_other, length-set}
 use Rattle.pmem_words.specs.Owned.{owned_at, with_filled, with_fenced}
 use Rattle.pmem_words.specs.declared.owned.OwnedBlock.{OwnedBlock}
-use Rattle.pmem_words.specs.ByteWords.{words_set, word_in}
 use Rattle.pmem_words.specs.Seats.{Seat}
-use Rattle.log_core.specs.Works.{words_of, content_word}
-use Rattle.partial_blocks.specs.Touching.{first_touched, touched_count, is_in_part}
-use Rattle.partial_blocks.specs.Composing.{new_word, word_set, words_laid, block_set, composed_by, place_composed, places_composed}
+use Rattle.log_core.specs.Works.{words_of}
+use Rattle.partial_blocks.specs.Touching.{first_touched, is_in_part}
+use Rattle.partial_blocks.specs.Composing.{new_word, words_laid, composed_by, place_composed, places_composed}
 use Rattle.partial_blocks.specs.Holding.{bare, unmarked, unmarked_all, ChangesOnly}
-use Rattle.partial_blocks.proofs.WordsLaid.{words_bare, place_bare, places_bare}
-use Rattle.partial_blocks.proofs.WordsSet.{set_long, set_there, set_apart, words_apart}
+use Rattle.partial_blocks.proofs.WordsLaid.{words_bare, place_bare}
+use Rattle.partial_blocks.proofs.WordsSet.{set_long, set_apart, words_apart}
 
 set_marked : (owned : List OwnedBlock) (place : ℕ) (o : OwnedBlock) → unmarked o ≡ unmarked (owned_at owned place) → unmarked_all (slice_set owned place o) ≡ unmarked_all owned
 set_marked [] place o same = refl

@@ -1,6 +1,5 @@
 -- Composing the blocks of a write is what setting their words does, one after the other, and each may be set.
 use Rattle.std.proofs.Common.{◌≡◌, ℕ, zero, suc, ◌+◌, ◌-◌, ◌*◌, ◌^◌, ◌<◌, ◌≤◌, Bool, true, false, List, [], ◌∷◌, length, refl, sym, ap, subst, arith}
-use Rattle.std.specs.List.{slice_range}
 use Rattle.pmem_words.specs.Owned.{with_filled, with_fenced}
 use Rattle.pmem_words.specs.declared.owned.OwnedBlock.{OwnedBlock}
 use Rattle.pmem_words.specs.ByteWords.{words_set, word_in}
@@ -13,7 +12,7 @@ use Rattle.log_core.proofs.machines.Entering.{enters_same, enters_works}
 use Rattle.log_core.proofs.machines.Parts.{enters_more}
 use Rattle.block_bitmap.proofs.OwnedFlags.{unmarked_twice, unfilled_many}
 use Rattle.partial_blocks.specs.Touching.{first_touched, touched_count, is_in_part}
-use Rattle.partial_blocks.specs.Composing.{new_word, word_set, words_laid, block_set, composed_by, place_composed, places_composed, composed}
+use Rattle.partial_blocks.specs.Composing.{new_word, word_set, words_laid, composed_by, place_composed, places_composed, composed}
 use Rattle.partial_blocks.specs.Holding.{AreBytes}
 use Rattle.partial_blocks.proofs.WordsLaid.{words_bare, words_long, places_bare, places_long}
 use Rattle.partial_blocks.proofs.LaidBytes.{laid_word_small}

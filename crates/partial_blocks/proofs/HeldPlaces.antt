@@ -1,21 +1,19 @@
 -- An owned block that was composed holds its virtual block.
-use Rattle.std.proofs.Common.{◌≡◌, ◌≢◌, ◌⊎◌, inl, inr, ℕ, zero, suc, ◌+◌, ◌-◌, ◌*◌, ◌/◌, ◌%◌, ◌<◌, ◌≤◌, ◌&&◌, Bool, true, false, List, [], ◌∷◌, length, drop, slice_index, Option, Some, None, is_some, is_none, refl, sym, ap, subst, ◌∙◌, arith, mul-le-mul_right}
+use Rattle.std.proofs.Common.{◌≡◌, ◌≢◌, ◌⊎◌, inl, inr, ℕ, zero, suc, ◌+◌, ◌-◌, ◌*◌, ◌/◌, ◌%◌, ◌<◌, ◌≤◌, ◌&&◌, Bool, true, false, List, [], ◌∷◌, length, slice_index, Option, Some, None, is_some, is_none, refl, sym, ap, subst, ◌∙◌, arith, mul-le-mul_right}
 use Rattle.std.specs.List.{slice_range}
-use Rattle.std.proofs.lemmas.Bool.{cases_lt, cases_eq}
-use Rattle.byteorder.specs.Endian.{little_number}
+use Rattle.std.proofs.lemmas.Bool.{cases_eq}
 use Rattle.log_entry.specs.WordBytes.{word_bytes}
 use Rattle.log_image.proofs.ImageLemmas.{in_range, length_range}
 use Rattle.pmem_words.specs.Maps.{map_at}
 use Rattle.pmem_words.specs.Seats.{Seat, Blocks}
-use Rattle.pmem_words.specs.ByteWords.{word_in}
 use Rattle.log_core.specs.Works.{words_of, content_word}
 use Rattle.log_core.proofs.WordBytesAt.{eight_words, byte_in_word}
 use Rattle.log_core.proofs.writes.PlacedBytes.{word_has}
-use Rattle.log_core.proofs.writes.LaidWrites.{IsBaseByte, IsOldByte, ByBase, Unmapped}
-use Rattle.partial_blocks.specs.Touching.{first_touched, last_touched, touched_count, is_in_part, base_place, lacks, lacks_base}
+use Rattle.log_core.proofs.writes.LaidWrites.{IsOldByte, ByBase, Unmapped}
+use Rattle.partial_blocks.specs.Touching.{first_touched, last_touched, touched_count, is_in_part, base_place, lacks}
 use Rattle.partial_blocks.specs.Bytes.{byte_of, laid_byte}
 use Rattle.partial_blocks.specs.Composing.{base_word, new_word, words_laid, block_set, composed_by, place_composed, places_composed, composed, HasWholeBases}
-use Rattle.partial_blocks.specs.Holding.{content_byte, byte_place, HoldsPlace, HoldsWrite, IsReadyToCompose, bare, unmarked_all, ChangesOnly, ComposesPlace, ComposesWrite}
+use Rattle.partial_blocks.specs.Holding.{content_byte, HoldsPlace, HoldsWrite, IsReadyToCompose, bare, ChangesOnly, ComposesPlace, ComposesWrite}
 use Rattle.partial_blocks.proofs.WordBack.{laid_inside, laid_outside}
 use Rattle.partial_blocks.proofs.BasePlaces.{found_place}
 use Rattle.partial_blocks.proofs.WordsLaid.{words_bare, place_bare, places_bare, places_long, base_inside}

@@ -1,7 +1,7 @@
 -- What a call that lost an exchange still knows of the bytes that are there.
 use Rattle.std.proofs.Common.{◌≡◌, ◌≢◌, ◌⊎◌, inl, inr, ℕ, zero, suc, ◌+◌, ◌-◌, ◌*◌, ◌/◌, ◌%◌, ◌<◌, ◌≤◌, ◌==◌, ◌&&◌, ◌||◌, not, Bool, true, false, if◌then◌else◌, List, [], ◌∷◌, ◌++◌, length, take, drop, slice_index, Option, Some, None, is_some, refl, sym, ap, subst, ◌∙◌, arith, mul-le-mul_right, length-append}
 use Rattle.std.specs.Option.{option_or}
-use Rattle.std.proofs.lemmas.Bool.{eq-eqb, eqb-true, and_parts, cases_lt, lt-leb, le-leb, lt-ltb, le-ltb}
+use Rattle.std.proofs.lemmas.Bool.{and_parts, lt-leb}
 use Rattle.std.proofs.lemmas.List.{length-take, length-drop, take-append-drop, get_or_append_left}
 use Rattle.log_entry.specs.WordBytes.{word_bytes}
 use Rattle.log_entry.specs.declared.shapes.Geometry.{Geometry}
@@ -9,18 +9,16 @@ use Rattle.log_image.specs.Entries.{Meaning}
 use Rattle.log_image.specs.Maps.{block_in}
 use Rattle.log_image.specs.Chains.{is_listed, all_different}
 use Rattle.pmem_words.specs.Maps.{map_at}
-use Rattle.pmem_words.specs.Seats.{Seat, q_of}
-use Rattle.log_core.specs.Works.{touches, bases_left, base_words_left, with_entry, with_entry_from, words_of, content_word}
+use Rattle.pmem_words.specs.Seats.{Seat}
+use Rattle.log_core.specs.Works.{touches, bases_left, base_words_left, with_entry, with_entry_from, words_of}
 use Rattle.log_core.proofs.BaseWords.{earlier_byte, later_byte}
 use Rattle.log_core.proofs.Fronts.{not_again}
 use Rattle.log_core.proofs.WordBytesAt.{eight_words}
 use Rattle.log_core.proofs.writes.LaidWrites.{IsBaseByte, IsOldByte, ByBase, Unmapped}
-use Rattle.log_blocks.specs.Taking.{taken}
-use Rattle.partial_blocks.specs.Touching.{IsInFile, first_touched, last_touched, touched_count, is_in_part, lacks, HasTouchedBases}
-use Rattle.partial_blocks.specs.Composing.{HasWholeBases}
-use Rattle.partial_blocks.specs.Holding.{content_byte, byte_place, HoldsPlace}
+use Rattle.partial_blocks.specs.Touching.{first_touched, is_in_part, HasTouchedBases}
+use Rattle.partial_blocks.specs.Holding.{content_byte, byte_place}
 use Rattle.partial_blocks.specs.BasesWithin.{with_bases}
-use Rattle.partial_blocks.specs.KeptBytes.{OldBytesKept, IsSameWrite, TakingKeeps, KeepsPlace, ReadingKeeps}
+use Rattle.partial_blocks.specs.KeptBytes.{TakingKeeps, KeepsPlace, ReadingKeeps}
 use Rattle.partial_blocks.proofs.BasePlaces.{listed_there}
 use Rattle.partial_blocks.proofs.HeldPlaces.{old_byte, old_known}
 
@@ -109,7 +107,7 @@ module _ (q size : ℕ) (same_size : size ≡ 8 * q) (meaning : Meaning) where
     is = there.is ∙ (sym (later_byte (take q words) (drop q words) (there.base * size + at))
         ∙ (ap (λ (l : List ℕ). slice_index (word_bytes l) (8 * length (take q words) + (there.base * size + at))) (take-append-drop q words)
         ∙ ap (λ (k : ℕ). slice_index (word_bytes words) k) (let first = length-take q words in let next : suc there.base * size ≡ there.base * size + size = omega arith in
-            let same : 8 * length (take q words) + (there.base * size + at) ≡ suc there.base * size + at = omega (arith, first, long, same_size, next) in same)));
+        let same : 8 * length (take q words) + (there.base * size + at) ≡ suc there.base * size + at = omega (arith, first, long, same_size, next) in same)));
   }
 
   stood : (bases words : List ℕ) → length words ≡ length bases * q → (base at : ℕ) → base < length (bases_left meaning bases) → at < size →
@@ -147,7 +145,7 @@ module _ (q size : ℕ) (same_size : size ≡ 8 * q) (meaning : Meaning) where
       }
       go false (suc k) below each = later first bases words _ at _ long (subst (λ (byte : ℕ). StoodAt bases (drop q words) (slice_index (bases_left meaning bases) k) at byte)
           (sym (ap (λ (n : ℕ). slice_index (word_bytes (take q words ++ rest)) n) (let all = eight in let next : suc k * size ≡ k * size + size = omega arith in
-              let same : suc k * size + at ≡ 8 * length (take q words) + (k * size + at) = omega (arith, all, next) in same)
+          let same : suc k * size + at ≡ 8 * length (take q words) + (k * size + at) = omega (arith, all, next) in same)
           ∙ later_byte (take q words) rest (k * size + at)))
           (each k (omega (arith, below))))
 

@@ -1,11 +1,11 @@
 -- The bytes of a word that is set by its bytes.
-use Rattle.std.proofs.Common.{◌≡◌, ◌⊎◌, inl, inr, ℕ, zero, suc, ◌+◌, ◌-◌, ◌^◌, ◌/◌, ◌<◌, ◌≤◌, ◌&&◌, nat_le, nat_lt, ◌==◌, Bool, true, false, if◌then◌else◌, List, [], ◌∷◌, ◌++◌, length, slice_index, get_or, refl, sym, ap, subst, ◌∙◌, arith}
+use Rattle.std.proofs.Common.{◌≡◌, ℕ, zero, suc, ◌+◌, ◌-◌, ◌^◌, ◌/◌, ◌<◌, ◌&&◌, nat_le, nat_lt, ◌==◌, Bool, true, false, if◌then◌else◌, List, [], ◌∷◌, length, slice_index, get_or, refl, ap, ◌∙◌, arith}
 use Rattle.std.specs.List.{list_all}
 use Rattle.std.specs.Int.{bytes_low_first, byte_at}
 use Rattle.std.proofs.Math.Nat.{mod-lt}
 use Rattle.std.proofs.lemmas.Bool.{eqb-true}
 use Rattle.std.proofs.lemmas.List.{get_or_append_left}
-use Rattle.byteorder.specs.Endian.{little_bytes, little_number}
+use Rattle.byteorder.specs.Endian.{little_bytes}
 use Rattle.log_entry.specs.WordBytes.{word_bytes}
 use Rattle.log_entry.proofs.WordBytesLemmas.{bytes_back}
 use Rattle.log_image.proofs.HoldingLemmas.{both_left, both_right}

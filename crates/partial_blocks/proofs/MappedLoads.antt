@@ -1,17 +1,16 @@
 -- The block that the map of a seat at its tail gives a virtual block is named by the pinned generation.
-use Rattle.std.proofs.Common.{◌≡◌, ◌≢◌, ◌≤◌, ◌==◌, ℕ, Bool, true, false, [], Some, refl, sym, ◌∙◌, arith}
+use Rattle.std.proofs.Common.{◌≡◌, ◌≤◌, ◌==◌, ℕ, Bool, true, false, Some, refl, sym, ◌∙◌, arith}
 use Rattle.std.proofs.lemmas.Bool.{eqb-true, eqb-false}
 use Rattle.log_image.specs.Image.{words_in}
 use Rattle.pmem_words.specs.Maps.{map_at}
 use Rattle.pmem_words.specs.Seats.{Seat}
-use Rattle.log_core.specs.Views.{Ghost, view_of}
+use Rattle.log_core.specs.Views.{Ghost}
 use Rattle.log_core.specs.Origin.{Origin, shape, Generation}
 use Rattle.log_core.specs.Files.{entries}
-use Rattle.log_core.specs.Cores.{Core, chain_names, data_names}
+use Rattle.log_core.specs.Cores.{chain_names, data_names}
 use Rattle.log_core.specs.Order.{nth_generation}
 use Rattle.log_core.specs.Walks.{HasWalked, WalkHolds}
-use Rattle.log_core.specs.Invariant.{Invariant, around}
-use Rattle.log_core.specs.Knows.{Knows}
+use Rattle.log_core.specs.Invariant.{around}
 use Rattle.log_core.proofs.PinnedChains.{place, kept}
 use Rattle.log_core.proofs.TailEnds.{walked}
 use Rattle.log_core.proofs.MappedBlocks.{mapped_named}

@@ -2,22 +2,17 @@
 use Rattle.std.proofs.Common.{◌≡◌, ◌≢◌, ◌<◌, ◌≤◌, ◌+◌, ◌-◌, ◌*◌, ◌||◌, nat_lt, ℕ, suc, Bool, true, false, List, [], ◌∷◌, ◌++◌, length, refl, sym, ◌∙◌, ap, subst, arith, append_assoc, Option, Some, None}
 use Rattle.std.proofs.lemmas.Bool.{ltb-true, ltb-false}
 use Rattle.std.proofs.lemmas.List.{length-append}
-use Rattle.asks.specs.declared.ask.Ask.TheVariants.{Load}
-use Rattle.asks.specs.declared.ask.Place.TheVariants.{Image}
 use Rattle.pmem_words.specs.declared.keeps.KeptWord.{KeptWord}
 use Rattle.pmem_words.specs.declared.machine.Turn.TheVariants.{Go, Done}
 use Rattle.pmem_words.specs.Seats.{Seat}
-use Rattle.pmem_words.specs.Scripts.{After}
-use Rattle.persistence.specs.Memory.{found_answer}
-use Rattle.log_core.specs.Views.{Ghost, view_of}
+use Rattle.log_core.specs.Views.{Ghost}
 use Rattle.log_core.specs.Origin.{Origin}
-use Rattle.log_core.specs.Works.{Work, AddsBaseWord, Forgets, MayAddBaseWord, state_after_all_work, words_of, base_slot, base_block, word_of_block, word_or_zero, kept_at, last_or}
+use Rattle.log_core.specs.Works.{AddsBaseWord, Forgets, MayAddBaseWord, state_after_all_work, words_of, base_slot, base_block, word_of_block, word_or_zero, kept_at, last_or}
 use Rattle.log_core.specs.Steps.{is_tail_found}
 use Rattle.log_core.specs.Within.{no_record, Lawful, Serves}
 use Rattle.log_core.proofs.machines.MachineLaws.{Law, promised}
 use Rattle.log_blocks.proofs.KeptLists.{kept_last}
 use Rattle.log_blocks.proofs.Loading.{NamesAlways, at_place, seen, IsComputed, lawful_load}
-use Rattle.pmem_words.specs.Maps.{map_at}
 use Rattle.partial_blocks.specs.declared.read_base.ReadBase.{ReadBase}
 use Rattle.partial_blocks.specs.ReadingBase.{read_base_of, base_word_added, base_after, read_base_script, read_base_lowers}
 use Rattle.partial_blocks.specs.BasesWithin.{with_base_words, MayReadBase, HasReadBase, ReadsBaseWithin}

@@ -1,11 +1,11 @@
 -- A read of the bases that a call lacks is lawful within a core.
-use Rattle.std.proofs.Common.{◌≡◌, ◌≢◌, ◌<◌, ◌≤◌, ◌+◌, ◌-◌, ◌*◌, ◌⊎◌, inl, inr, nat_lt, ℕ, suc, Bool, true, false, List, [], ◌∷◌, ◌++◌, length, refl, sym, ◌∙◌, ap, subst, arith, append_assoc, Option, Some, None, is_some, unwrap_or}
+use Rattle.std.proofs.Common.{◌≡◌, ◌<◌, ◌+◌, ◌-◌, ◌*◌, ◌⊎◌, inl, inr, nat_lt, ℕ, suc, true, List, [], ◌∷◌, ◌++◌, length, refl, sym, ◌∙◌, ap, subst, arith, append_assoc, Option, Some, None, is_some, unwrap_or}
 use Rattle.std.proofs.lemmas.List.{length-append}
 use Rattle.log_image.specs.Chains.{is_listed}
 use Rattle.pmem_words.specs.Maps.{map_at}
-use Rattle.pmem_words.specs.declared.machine.Turn.TheVariants.{Go, Done}
+use Rattle.pmem_words.specs.declared.machine.Turn.TheVariants.{Done}
 use Rattle.pmem_words.specs.Seats.{Seat}
-use Rattle.pmem_words.specs.Parts.{Next, LowersOn, onward, lowers_onward}
+use Rattle.pmem_words.specs.Parts.{LowersOn, lowers_onward}
 use Rattle.log_core.specs.Views.{Ghost}
 use Rattle.log_core.specs.Origin.{Origin}
 use Rattle.log_core.specs.Answers.{Enters}
@@ -131,20 +131,26 @@ module _ (offset : ℕ) (o : Origin) (seat : ℕ) (s0 : Seat) (g0 : Ghost) where
     }
 
     on_end : (found : Option ℕ) → lacks_base offset t ≡ found → FitsNext no_record IsReadingBases R t h (next_by found offset t)
-    on_end None is = (enters_same h t t refl, record {
-      none_lacks = is;
-      bases = looks.bases;
-      more = opened.more;
-      words = opened.words ++ words;
-      left = is_more;
-      ghost = same ∙ opened.ghost_is;
-    })
-    on_end (Some virt) is = (enters_opened offset t h looks virt is, record {
-      block = unwrap_or (map_at t.walk.map virt) 0;
-      machine = refl;
-      at = has_begun (read_base_law (unwrap_or (map_at t.walk.map virt) 0)) o seat (IsOpened (unwrap_or (map_at t.walk.map virt) 0)) (base_opened virt t) h (next_is_opened virt is)
-          (part_may offset (unwrap_or (map_at t.walk.map virt) 0) o seat (base_opened virt t) h (may_begin offset o seat t h looks virt is));
-    })
+    on_end None is = (
+      enters_same h t t refl,
+      record {
+        none_lacks = is;
+        bases = looks.bases;
+        more = opened.more;
+        words = opened.words ++ words;
+        left = is_more;
+        ghost = same ∙ opened.ghost_is;
+      },
+    )
+    on_end (Some virt) is = (
+      enters_opened offset t h looks virt is,
+      record {
+        block = unwrap_or (map_at t.walk.map virt) 0;
+        machine = refl;
+        at = has_begun (read_base_law (unwrap_or (map_at t.walk.map virt) 0)) o seat (IsOpened (unwrap_or (map_at t.walk.map virt) 0)) (base_opened virt t) h (next_is_opened virt is)
+            (part_may offset (unwrap_or (map_at t.walk.map virt) 0) o seat (base_opened virt t) h (may_begin offset o seat t h looks virt is));
+      },
+    )
 
   -- each base read brings it nearer to its end
   lowers_next : (t : Seat) (bases left : ℕ) → length t.calling.bases ≡ bases → ((virt : ℕ) → lacks_base offset t ≡ Some virt → length t.calling.bases < 2) → (found : Option ℕ) → lacks_base offset t ≡ found →
@@ -162,9 +168,9 @@ module _ (offset : ℕ) (o : Origin) (seat : ℕ) (s0 : Seat) (g0 : Ghost) where
       joint = λ done. joint done;
       falls = lowers_onward (λ n. reading offset n) (λ out t. bases_next offset t) read_bases_script.measure ((2 - length s.calling.bases) * 1024 + (words_of s - m.word)) after
           (λ go. (let lower = Rattle.partial_blocks.specs.ReadingBase.read_base_lowers m s a admits go in let same = many in
-              let bases : (2 - length after.seat.calling.bases) * 1024 ≡ (2 - length s.calling.bases) * 1024 = ap (λ (n : ℕ). (2 - n) * 1024) same in omega (arith, bases, lower)))
+          let bases : (2 - length after.seat.calling.bases) * 1024 ≡ (2 - length s.calling.bases) * 1024 = ap (λ (n : ℕ). (2 - n) * 1024) same in omega (arith, bases, lower)))
           (λ out done. subst (λ (n : ℕ). LowersOn read_bases_script.measure ((2 - length s.calling.bases) * 1024 + n) (bases_next offset after.seat)) (let low = admits.inside in let some : suc (words_of s - m.word - 1) ≡ words_of s - m.word = omega (arith, low) in some)
-              (lowers_next after.seat (length s.calling.bases) (words_of s - m.word - 1) many (joint done).room (lacks_base offset after.seat) refl));
+          (lowers_next after.seat (length s.calling.bases) (words_of s - m.word - 1) many (joint done).room (lacks_base offset after.seat) refl));
     }
       where
         after : Rattle.pmem_words.specs.Scripts.After ReadBase (Unit {0})

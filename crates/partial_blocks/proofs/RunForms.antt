@@ -1,16 +1,11 @@
 -- Blocks that are one run, and those that are several, by their places.
-use Rattle.std.proofs.Common.{◌≡◌, ℕ, zero, suc, ◌+◌, ◌-◌, ◌<◌, ◌≤◌, ◌==◌, Bool, true, false, if◌then◌else◌, List, [], ◌∷◌, length, slice_index, refl, ap, ◌∙◌, arith}
+use Rattle.std.proofs.Common.{◌≡◌, ℕ, zero, suc, ◌+◌, ◌-◌, ◌<◌, ◌==◌, Bool, true, false, if◌then◌else◌, List, [], ◌∷◌, length, slice_index, refl, ap, ◌∙◌, arith}
 use Rattle.std.proofs.lemmas.Bool.{eqb-true}
 use Rattle.pmem_words.specs.Owned.{owned_at}
 use Rattle.pmem_words.specs.declared.owned.OwnedBlock.{OwnedBlock}
-use Rattle.pmem_words.specs.Seats.{Seat}
-use Rattle.log_core.specs.Works.{words_of, owned_block, content_word}
-use Rattle.log_core.proofs.writes.RunLists.{runs_of, are_runs, blocks_back}
-use Rattle.log_core.proofs.writes.IndirectBlocks.{indirect_content}
-use Rattle.partial_blocks.specs.Touching.{first_touched, touched_count}
-use Rattle.partial_blocks.specs.Entries.{leftover_of}
-use Rattle.partial_blocks.specs.Committing.{IsDataBlock, AreRunsOf}
-use Rattle.partial_blocks.specs.Runs.{follow, are_one_run, firsts, AreOneRunByPlace, AreRunsByPlace}
+use Rattle.log_core.proofs.writes.RunLists.{are_runs, blocks_back}
+use Rattle.partial_blocks.specs.Touching.{touched_count}
+use Rattle.partial_blocks.specs.Runs.{follow, firsts, AreOneRunByPlace, AreRunsByPlace}
 use Rattle.partial_blocks.proofs.RunsHeld.{firsts_long, firsts_at}
 
 run_each : (block : ℕ) (owned : List OwnedBlock) → follow block owned ≡ true → (place : ℕ) → place < length owned → (owned_at owned place).block ≡ block + suc place

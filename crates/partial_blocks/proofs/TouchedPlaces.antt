@@ -1,7 +1,7 @@
 -- Where the touched virtual blocks lie, and that none but the first and the last is touched in part.
-use Rattle.std.proofs.Common.{◌≡◌, ◌≢◌, ◌⊎◌, inl, inr, ℕ, zero, suc, ◌+◌, ◌-◌, ◌*◌, ◌/◌, ◌%◌, ◌<◌, ◌≤◌, ◌&&◌, not, nat_le, Bool, true, false, List, length, refl, sym, ap, subst, ◌∙◌, arith, mul-le-mul_right}
+use Rattle.std.proofs.Common.{◌≡◌, ◌⊎◌, inl, inr, ℕ, ◌+◌, ◌-◌, ◌*◌, ◌/◌, ◌<◌, ◌≤◌, ◌&&◌, not, nat_le, Bool, true, false, length, refl, ap, ◌∙◌, arith, mul-le-mul_right}
 use Rattle.std.proofs.Math.Nat.{div-add-mod, mod-lt, div-mul-le_self}
-use Rattle.std.proofs.lemmas.Bool.{leb-true, leb-false, cases_lt, cases_eq}
+use Rattle.std.proofs.lemmas.Bool.{leb-true, leb-false, cases_lt}
 use Rattle.pmem_words.specs.Seats.{Seat}
 use Rattle.log_core.proofs.writes.WholeWrites.{some_block_bytes}
 use Rattle.partial_blocks.specs.Touching.{IsInFile, first_touched, last_touched, touched_count, is_in_part}

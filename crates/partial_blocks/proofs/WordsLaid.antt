@@ -1,12 +1,12 @@
 -- Composing the blocks of a write changes them alone.
-use Rattle.std.proofs.Common.{◌≡◌, ◌<◌, ◌≤◌, ◌+◌, ◌-◌, ◌*◌, ℕ, zero, suc, Bool, true, false, List, [], length, slice_index, Option, Some, None, refl, sym, ap, subst, ◌∙◌, arith, mul-le-mul_right}
+use Rattle.std.proofs.Common.{◌≡◌, ◌<◌, ◌≤◌, ◌+◌, ◌*◌, ℕ, zero, suc, Bool, true, false, List, length, slice_index, Option, Some, None, refl, sym, ap, ◌∙◌, arith, mul-le-mul_right}
 use Rattle.std.proofs.lemmas.List.{length-set}
 use Rattle.log_entry.specs.declared.shapes.Geometry.{Geometry}
 use Rattle.pmem_words.specs.Seats.{Seat, Calling, q_of}
 use Rattle.log_core.specs.Works.{words_of}
 use Rattle.partial_blocks.specs.Touching.{first_touched, is_in_part, base_place}
 use Rattle.partial_blocks.specs.Bytes.{laid_word}
-use Rattle.partial_blocks.specs.Composing.{base_word, new_word, word_set, words_laid, block_set, composed_by, place_composed, places_composed, HasWholeBases}
+use Rattle.partial_blocks.specs.Composing.{base_word, new_word, word_set, words_laid, composed_by, place_composed, places_composed, HasWholeBases}
 use Rattle.partial_blocks.specs.Holding.{bare}
 use Rattle.partial_blocks.proofs.BasePlaces.{found_place}
 

@@ -1,5 +1,5 @@
 -- What the blocks of a write hold: the bytes of the call where they lie, and elsewhere the bytes that are there.
-use Rattle.std.specs.Prelude.{ℕ, zero, suc, ◌+◌, ◌-◌, ◌*◌, ◌^◌, ◌<◌, ◌≤◌, ◌≡◌, Bool, true, false, List, length, slice_index, Option, Some, None}
+use Rattle.std.specs.Prelude.{ℕ, zero, suc, ◌+◌, ◌-◌, ◌*◌, ◌^◌, ◌<◌, ◌≤◌, ◌≡◌, Bool, true, false, length, slice_index, Option, Some, None}
 use Rattle.std.specs.List.{slice_range}
 use Rattle.pmem_words.specs.Owned.{with_filled, with_fenced}
 use Rattle.pmem_words.specs.ByteWords.{words_set}

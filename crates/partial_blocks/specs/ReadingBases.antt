@@ -1,5 +1,5 @@
 -- What it means to read the virtual blocks that a write touches in part.
-use Rattle.std.specs.Prelude.{ℕ, ◌+◌, ◌-◌, ◌*◌, ◌<◌, ◌≡◌, List, [], ◌∷◌, ◌++◌, length, Option, Some, None, is_some, unwrap_or}
+use Rattle.std.specs.Prelude.{ℕ, ◌+◌, ◌-◌, ◌*◌, ◌<◌, ◌≡◌, [], ◌∷◌, ◌++◌, length, Option, Some, None, unwrap_or}
 use Rattle.pmem_words.specs.Maps.{map_at}
 use Rattle.pmem_words.specs.Seats.{Seat}
 use Rattle.pmem_words.specs.Parts.{Next, Into, End, onward}
@@ -46,7 +46,7 @@ pub record ReadBasesAdmits (m : ReadBases) (s : Seat) (f : ℕ) : Type 0 where
   pub falls : (onward (λ n. reading m.offset n) (λ out t. bases_next m.offset t) (read_base_script.after m.part s f)).turn ≡ Go →
       (2 - length (onward (λ n. reading m.offset n) (λ out t. bases_next m.offset t) (read_base_script.after m.part s f)).seat.calling.bases) * 1024
       + read_base_script.measure (onward (λ n. reading m.offset n) (λ out t. bases_next m.offset t) (read_base_script.after m.part s f)).machine.part
-        (onward (λ n. reading m.offset n) (λ out t. bases_next m.offset t) (read_base_script.after m.part s f)).seat
+      (onward (λ n. reading m.offset n) (λ out t. bases_next m.offset t) (read_base_script.after m.part s f)).seat
       < (2 - length s.calling.bases) * 1024 + read_base_script.measure m.part s
 
 abbrev pub read_bases_script : Script ReadBases (Unit {0})

@@ -1,4 +1,4 @@
-use Rattle.std.proofs.Common.{◌≡◌, ◌-◌, ℕ, List, ◌∙◌, ap, length, drop, arith}
+use Rattle.std.proofs.Common.{◌-◌, ℕ, List, ◌∙◌, ap, length, drop, arith}
 use Rattle.std.proofs.lemmas.List.{take_all, length-drop}
 use Rattle.byteorder.specs.Endian.{little_number}
 use Rattle.partial_blocks.proofs.WordBack.{whole_laid}

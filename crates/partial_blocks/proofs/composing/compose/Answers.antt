@@ -1,4 +1,4 @@
-use Rattle.std.proofs.Common.{◌≡◌, ◌+◌, ℕ, length, suc, sym, ap, ◌∙◌, arith}
+use Rattle.std.proofs.Common.{◌≡◌, ◌+◌, ℕ, length, suc, ap, ◌∙◌, arith}
 use Rattle.pmem_words.specs.Seats.{Seat}
 use Rattle.partial_blocks.specs.Composing.{place_composed, places_composed}
 use Rattle.partial_blocks.proofs.WordsLaid.{place_bare, place_long}

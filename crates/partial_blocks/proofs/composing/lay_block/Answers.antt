@@ -3,7 +3,7 @@ use Rattle.log_entry.specs.declared.shapes.Geometry.{Geometry}
 use Rattle.pmem_words.specs.Seats.{Seat, Calling, q_of}
 use Rattle.log_core.specs.Works.{words_of}
 use Rattle.partial_blocks.specs.Touching.{base_place}
-use Rattle.partial_blocks.specs.Composing.{base_word, new_word, words_laid, HasWholeBases}
+use Rattle.partial_blocks.specs.Composing.{base_word, words_laid}
 use Rattle.partial_blocks.proofs.WordsLaid.{base_inside, same_base_word, same_laid, laid_more}
 use Rattle.partial_blocks.proofs.composing.lay_block.Goals as goal
 
@@ -25,7 +25,7 @@ loop-word-preserved c =
     let s : Seat = c.args.seat.now in
     let word : ℕ = c.loop-word.word in
     let old = c.base_word-old.ensures ∙ (same_base_word s c.loop-word.seat c.base_place-base.result word i.geometry i.calling
-        ∙ ap (λ (b : Option ℕ). base_word s b word) (c.base_place-base.ensures ∙ ap (λ (l : List ℕ). base_place l c.args.virt) c.bases.ensures)) in
+    ∙ ap (λ (b : Option ℕ). base_word s b word) (c.base_place-base.ensures ∙ ap (λ (l : List ℕ). base_place l c.args.virt) c.bases.ensures)) in
     let bytes_are = c.bytes.ensures ∙ ap (λ (u : Calling). u.bytes) i.calling in
     let size = c.from-2.ensures ∙ (c.block_bytes.ensures.value ∙ ap (λ (g : Geometry). g.block_bytes) c.geometry-2.ensures) in
     let start = ap (λ (n : ℕ). n * c.from-2.result) c.from.ensures ∙ ap (λ (n : ℕ). c.args.virt * n) size in

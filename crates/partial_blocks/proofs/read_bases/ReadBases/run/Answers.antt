@@ -1,11 +1,9 @@
-use Rattle.std.proofs.Common.{◌≡◌, ◌++◌, ℕ, Option, sym, ap, subst, ◌∙◌}
+use Rattle.std.proofs.Common.{◌++◌, Option, ap, subst, ◌∙◌}
 use Rattle.pmem_words.specs.Seats.{Seat}
 use Rattle.pmem_words.specs.Courses.{over}
-use Rattle.pmem_words.specs.Drives.{Ends, RanOn}
-use Rattle.pmem_words.specs.Parts.{Into, End}
 use Rattle.pmem_words.proofs.Stages.{goes_join, ends_from, safe_from, safe_stage, last_admitted, ran_stage, ended_stage}
 use Rattle.partial_blocks.specs.declared.read_bases.ReadBases.{ReadBases}
-use Rattle.partial_blocks.specs.ReadingBases.{read_bases_script, read_bases_lowers, bases_next, went_on, MayLook}
+use Rattle.partial_blocks.specs.ReadingBases.{read_bases_script, read_bases_lowers, went_on, MayLook}
 use Rattle.partial_blocks.proofs.Embedding.{at_base}
 use Rattle.partial_blocks.proofs.read_bases.ReadBases.run.Goals as goal
 
@@ -26,8 +24,8 @@ loop-next-smaller g c = (ran_stage g.W.Memory.store (at_base c.loop-next.reading
 pub loop-next-preserved : goal.loop-next-preserved
 loop-next-preserved g c =
     let ran = ran_stage g.W.Memory.store (at_base c.loop-next.reading.offset) read_bases_lowers
-        (safe_from read_bases_script (over read_bases_script g.W.Memory.store) c.loop-next.invariant.0 _ _ _ _ _ _ c.loop-next.invariant.1 c.requires)
-        c.drive.ensures (c.begin.ensures ∙ ap (λ (r : Option ReadBases). went_on r c.begin.new.seat) c.in-Some.is) in
+    (safe_from read_bases_script (over read_bases_script g.W.Memory.store) c.loop-next.invariant.0 _ _ _ _ _ _ c.loop-next.invariant.1 c.requires)
+    c.drive.ensures (c.begin.ensures ∙ ap (λ (r : Option ReadBases). went_on r c.begin.new.seat) c.in-Some.is) in
     (c.loop-next.invariant.0 ++ ran.answers, goes_join read_bases_script (over read_bases_script g.W.Memory.store) c.loop-next.invariant.0 _ _ _ _ _ _ ran.answers _ _ _ c.loop-next.invariant.1 ran.goes)
 
 pub returns-in-None : goal.returns-in-None
