@@ -63,10 +63,11 @@ fn since(rt: &HostRuntime, begun: u64) -> io::Result<u64> {
 
 fn nanoseconds(rt: &HostRuntime) -> io::Result<u64> {
     let time = rt.monotonic()?;
-    Ok(time
-        .as_secs()
-        .wrapping_mul(1_000_000_000)
-        .wrapping_add(u64::from(time.subsec_nanos())))
+    Ok(
+        time.as_secs()
+            .wrapping_mul(1_000_000_000)
+            .wrapping_add(u64::from(time.subsec_nanos())),
+    )
 }
 
 /// The bytes of a block, each of them 7.

@@ -61,7 +61,9 @@ impl<'a, R: Clock + Eprint> Progress<'a, R> {
         self.due.set(time.saturating_add(BETWEEN));
         self.stands.set(true);
         let (read, made, written) = (self.read.get(), self.made.get(), self.written.get());
-        let _ = eprint!(self.rt; "\r\x1b[Kmadfs: {read} bytes read, {made} calls made, {written} bytes written");
+        let _ = eprint!(self.rt;
+            "\r\x1b[Kmadfs: {read} bytes read, {made} calls made, {written} bytes written"
+        );
     }
 
     /// The run has ended: a line that stands is wiped.
@@ -142,7 +144,9 @@ impl<'a, S: Sink, R: Clock + Eprint> Sink for Counted<'a, S, R> {
         let put = self.inner.write(piece);
         if let Put::Took(count) = put {
             let written = self.progress.written.get();
-            self.progress.written.set(written.saturating_add(count as u64));
+            self.progress
+                .written
+                .set(written.saturating_add(count as u64));
         }
         self.progress.show();
         put

@@ -25,15 +25,7 @@ fn run_line<I: Source, T: Source, O: Sink, N: Sink>(
     for word in line.split_whitespace() {
         words.push(word)?;
     }
-    Ok(run(
-        alloc,
-        &words,
-        image,
-        trace,
-        report,
-        fresh,
-        &Unwatched,
-    ))
+    Ok(run(alloc, &words, image, trace, report, fresh, &Unwatched))
 }
 
 /// How a command ended, and what it wrote.
