@@ -32,6 +32,7 @@ use Rattle.write_any.proofs.Composed.{bare}
 use Rattle.write_any.proofs.Embedding.{at_fill_log}
 use Rattle.write_any.proofs.FillStage.{still_writing, still_here}
 use Rattle.write_any.proofs.FirstStages.{free_so, form_many, few_count}
+use Rattle.write_any.proofs.LastLog.{behind, last_is, block_is, has_last}
 use Rattle.write_any.proofs.LastBlock.{numbers_join, apart_front}
 use Rattle.write_any.proofs.LogBehind.{at_last, filled_last, fenced_last, fenced_behind, content_last, last_fenced}
 use Rattle.write_any.proofs.Marks.{filled_seat_bare}
@@ -40,33 +41,13 @@ use Rattle.write_any.proofs.RoundFalls.{filling_log_falls}
 use Rattle.write_any.proofs.WriteStanding.{unmarked, log_content, OwnsLogBlock, BeforeFillLog, BeforeGrow, WriteStands, StageStands}
 
 module _ (offset : ℕ) (o : Origin) (seat : ℕ) (s0 : Seat) (g0 : Ghost) (may : MayWrite offset o seat s0 g0) where
-  -- the place of the block behind
-  module _ (block : ℕ) (s : Seat) (owns : OwnsLogBlock offset o seat s0 g0 block s) where
-    abbrev behind : OwnedBlock
-    behind = record { block = block; area = Log; filled = owns.filled; fenced = owns.fenced }
-
-    many : length s.blocks.owned ≡ length owns.owned + 1
-    many = (let is = ap (λ (l : List OwnedBlock). length l) owns.is in let all = length-append owns.owned (behind ∷ []) in omega (arith, is, all))
-
-    last_is : last_place s ≡ length owns.owned
-    last_is = (let all = many in omega (arith, all))
-
-    block_is : last_block s ≡ block
-    block_is = ap (λ (k : ℕ). (owned_at s.blocks.owned k).block) last_is ∙ (ap (λ (l : List OwnedBlock). (owned_at l (length owns.owned)).block) owns.is ∙ ap (λ (b : OwnedBlock). b.block) (at_last owns.owned behind))
-
-    has_last : HasLast s
-    has_last = (let all = many in
-        let few = (form_many offset o seat s0 g0 may owns.owned owns.contents owns.written).1 in
-        let count = few_count offset o seat s0 g0 may in
-        record { some = omega (arith, all); few = omega (arith, all, few, count) })
-
   -- a filled log block may be linked
   module _ (block : ℕ) (t : Seat) (h : Ghost) (before : BeforeGrow offset o seat s0 g0 block t h) where
     abbrev owns : OwnsLogBlock offset o seat s0 g0 block t
     owns = before.before.owns
 
     abbrev log : OwnedBlock
-    log = behind block t owns
+    log = behind offset o seat s0 g0 may block t owns
 
     wide : words_of t ≡ words_of s0
     wide = ap words_of before.before.writing.rest
@@ -92,13 +73,13 @@ module _ (offset : ℕ) (o : Origin) (seat : ℕ) (s0 : Seat) (g0 : Ghost) (may 
     had = before.owns
 
     abbrev last : OwnedBlock
-    last = behind block start had
+    last = behind offset o seat s0 g0 may block start had
 
     same_bare : bare t ≡ bare start
     same_bare = ap bare left.seat ∙ filled_seat_bare start place 1
 
     place_is : place ≡ length had.owned
-    place_is = sym at ∙ last_is block start had
+    place_is = sym at ∙ last_is offset o seat s0 g0 may block start had
 
     abbrev new : OwnedBlock
     new = record { block = block; area = Log; filled = true; fenced = true }
@@ -141,7 +122,7 @@ module _ (offset : ℕ) (o : Origin) (seat : ℕ) (s0 : Seat) (g0 : Ghost) (may 
     }
 
     pub grows : StageStands offset o seat s0 g0 (Growing (grow_of (last_block t))) t h
-    grows = subst (λ (b : ℕ). StageStands offset o seat s0 g0 (Growing (grow_of b)) t h) (sym (block_is block t before_grow.before.owns))
+    grows = subst (λ (b : ℕ). StageStands offset o seat s0 g0 (Growing (grow_of b)) t h) (sym (block_is offset o seat s0 g0 may block t before_grow.before.owns))
         (block, has_begun (grow_law block) o seat (BeforeGrow offset o seat s0 g0 block) t h before_grow (may_grow block t h before_grow))
 
   pub fill_log_stage : (block place : ℕ) (p : Fill) (s : Seat) (g : Ghost) → HasBegun (filling_law place 1) o seat (λ t h. BeforeFillLog offset o seat s0 g0 block t h × (last_place t ≡ place)) p s g →
@@ -150,7 +131,7 @@ module _ (offset : ℕ) (o : Origin) (seat : ℕ) (s0 : Seat) (g0 : Ghost) (may 
       (λ p t a admits. admits.part)
       (λ p t h a at told admits. record {
         part = admits;
-        joint = λ done. (let left = told.ends tt done in has_last block _ (before_grow block place at.start at.ghost _ _ at.before.0 at.before.1 left.0 left.1).before.owns);
+        joint = λ done. (let left = told.ends tt done in has_last offset o seat s0 g0 may block _ (before_grow block place at.start at.ghost _ _ at.before.0 at.before.1 left.0 left.1).before.owns);
         falls = filling_log_falls (At offset) p t a admits;
       })
       (λ p t h at. (refl, (block, place, at)))

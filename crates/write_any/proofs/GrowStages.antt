@@ -35,6 +35,7 @@ use Rattle.write_any.proofs.Embedding.{at_grow, at_give_log}
 use Rattle.write_any.proofs.GiveOne.{one_bit, give_one_law}
 use Rattle.write_any.proofs.RoundFalls.{growing_falls, giving_log_falls}
 use Rattle.write_any.proofs.OfferLaw.{offering_law}
+use Rattle.write_any.proofs.LastLog.{block_is, block_owned, has_last}
 use Rattle.write_any.proofs.LastBlock.{owned_front, contents_front, apart_front}
 use Rattle.write_any.proofs.FirstStages.{takes_in, has_blocks, few_count, form_many}
 use Rattle.write_any.proofs.WriteStanding.{unmarked, IsWriting, AreWritten, OwnsWritten, OwnsLogBlock, BeforeWalk, AtSlot, BeforeGrow, BeforeGiveLog, WriteStands, StageStands}
@@ -114,20 +115,6 @@ module _ (offset : ℕ) (o : Origin) (seat : ℕ) (s0 : Seat) (g0 : Ghost) where
         (λ p t h at. (refl, (block, at)))
         (λ start ghost out t h before may' left. (enters_same h t t refl, (refl, inl (given_fits block start ghost t h before left))))
 
-  -- the last block is the log block
-  number_last : (owned : List OwnedBlock) (last : OwnedBlock) → (owned_at (owned ++ last ∷ []) (length (owned ++ last ∷ []) - 1)).block ≡ last.block
-  number_last owned last =
-      ap (λ (k : ℕ). (owned_at (owned ++ last ∷ []) k).block) (let long = length-append owned (last ∷ []) in let same : length (owned ++ last ∷ []) - 1 ≡ length owned = omega (arith, long) in same)
-      ∙ ap (λ (b : OwnedBlock). b.block) (at_end owned)
-    where
-      at_end : (l : List OwnedBlock) → owned_at (l ++ last ∷ []) (length l) ≡ last
-      at_end [] = refl
-      at_end (x ∷ l) = at_end l
-
-  listed_last : (owned : List OwnedBlock) (last : OwnedBlock) → is_listed (owned_numbers (owned ++ last ∷ [])) last.block ≡ true
-  listed_last [] last = or_left (last.block == last.block) false (eq-eqb last.block last.block refl)
-  listed_last (x ∷ owned) last = or_right (x.block == last.block) (is_listed (owned_numbers (owned ++ last ∷ [])) last.block) (listed_last owned last)
-
   module _ (may : MayWrite offset o seat s0 g0) (block : ℕ) (start : Seat) (ghost : Ghost) (before : BeforeGrow offset o seat s0 g0 block start ghost) where
     abbrev behind : OwnsLogBlock offset o seat s0 g0 block start
     behind = before.before.owns
@@ -195,18 +182,6 @@ module _ (offset : ℕ) (o : Origin) (seat : ℕ) (s0 : Seat) (g0 : Ghost) where
         };
       }
 
-      pub last_is : last_block t ≡ block
-      last_is = ap (λ (l : List OwnedBlock). (owned_at l (length l - 1)).block) owned_now ∙ number_last behind.owned log
-
-      pub last_owned : is_listed (owned_numbers t.blocks.owned) block ≡ true
-      last_owned = ap (λ (l : List OwnedBlock). is_listed (owned_numbers l) block) owned_now ∙ listed_last behind.owned log
-
-      pub has_last : HasLast t
-      has_last = (let many = ap (λ (l : List OwnedBlock). length l) owned_now ∙ length-append behind.owned (log ∷ []) in
-          let few = (form_many offset o seat s0 g0 may behind.owned behind.contents behind.written).1 in
-          let count = few_count offset o seat s0 g0 may in
-          record { some = omega (arith, many); few = omega (arith, many, few, count) })
-
   module _ (may : MayWrite offset o seat s0 g0) (offers : (t : Seat) (h : Ghost) → AtSlot offset o seat s0 g0 t h → MayOffer (entry_for offset t) o seat t h) where
     grown_fits : (block : ℕ) (start : Seat) (ghost : Ghost) (out : Grown) (t : Seat) (h : Ghost) → BeforeGrow offset o seat s0 g0 block start ghost → HasGrown block o seat start ghost out t h →
         FitsNext no_record (WriteStands offset o seat s0 g0) (HasWritten offset o seat s0 g0) t h (grown_so (At offset) out t)
@@ -217,8 +192,8 @@ module _ (offset : ℕ) (o : Origin) (seat : ℕ) (s0 : Seat) (g0 : Ghost) where
       enters_same h t t refl,
       (
         refl,
-        subst (λ (b : ℕ). StageStands offset o seat s0 g0 (GivingLog (give_one_of b)) t h) (sym (last_is may block start ghost before other t h left))
-            (block, has_begun (give_one_law block) o seat (BeforeGiveLog offset o seat s0 g0 block) t h (followed_give may block start ghost before other t h left) (record { owned = last_owned may block start ghost before other t h left })),
+        subst (λ (b : ℕ). StageStands offset o seat s0 g0 (GivingLog (give_one_of b)) t h) (sym (block_is offset o seat s0 g0 may block t (followed_give may block start ghost before other t h left).owns))
+            (block, has_begun (give_one_law block) o seat (BeforeGiveLog offset o seat s0 g0 block) t h (followed_give may block start ghost before other t h left) (record { owned = block_owned offset o seat s0 g0 may block t (followed_give may block start ghost before other t h left).owns })),
       ),
     )
 
@@ -230,7 +205,7 @@ module _ (offset : ℕ) (o : Origin) (seat : ℕ) (s0 : Seat) (g0 : Ghost) where
           part = admits;
           joint = (
             λ done. (let slot = linked_slot may block at.start at.ghost at.before _ _ (told.ends Linked done) in has_blocks offset o seat s0 g0 may _ slot.writing.rest slot.owns),
-            λ other done. has_last may block at.start at.ghost at.before other _ _ (told.ends (OvertakenBy other) done),
+            λ other done. has_last offset o seat s0 g0 may block _ (followed_give may block at.start at.ghost at.before other _ _ (told.ends (OvertakenBy other) done)).owns,
           );
           falls = growing_falls (At offset) p t a (ap (λ (u : Seat). u.walk.tail_slot) at.stands.seat ∙ (at.before.before.at_end ∙ sym (ap words_of at.stands.seat)));
         })

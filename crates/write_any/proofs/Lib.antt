@@ -55,3 +55,4 @@ pub mod WritesAlone
 pub mod ClosedSlots
 pub mod TailOfWords
 pub mod LacksExactly
+pub mod LastLog
