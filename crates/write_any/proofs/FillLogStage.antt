@@ -1,10 +1,10 @@
 -- The stage of a write that fills its log block is lawful.
-use Rattle.std.proofs.Common.{◌≡◌, ℕ, ◌+◌, ◌*◌, true, false, List, [], ◌∷◌, ◌++◌, length, length-append, refl, sym, ap, subst, ◌∙◌, arith}
+use Rattle.std.proofs.Common.{◌≡◌, ℕ, ◌*◌, true, false, List, [], ◌∷◌, ◌++◌, length, refl, sym, ap, subst, ◌∙◌}
 use Rattle.std.proofs.lemmas.List.{length-map}
 use Rattle.log_entry.specs.declared.shapes.Area.TheVariants.{Log}
 use Rattle.log_image.specs.Image.{Shape, is_in_log}
 use Rattle.log_image.specs.Chains.{all_different}
-use Rattle.pmem_words.specs.Owned.{owned_at, with_filled, with_fenced, fenced_all}
+use Rattle.pmem_words.specs.Owned.{with_filled, with_fenced, fenced_all}
 use Rattle.pmem_words.specs.declared.owned.OwnedBlock.{OwnedBlock}
 use Rattle.pmem_words.specs.Seats.{Seat}
 use Rattle.log_core.specs.Views.{Ghost}
@@ -25,16 +25,16 @@ use Rattle.log_blocks.specs.PutWithin.{MayGrow}
 use Rattle.log_blocks.proofs.GrowWithin.{grow_law}
 use Rattle.write_any.specs.declared.stage.Target.TheVariants.{At}
 use Rattle.write_any.specs.declared.stage.Stage.TheVariants.{FillingLog, Growing}
-use Rattle.write_any.specs.Composing.{HasLast, last_place, last_block}
+use Rattle.write_any.specs.Composing.{last_place, last_block}
 use Rattle.write_any.specs.Writing.{at_stage, write_script}
 use Rattle.write_any.specs.WriteWithin.{MayWrite, HasWritten}
 use Rattle.write_any.proofs.Composed.{bare}
 use Rattle.write_any.proofs.Embedding.{at_fill_log}
 use Rattle.write_any.proofs.FillStage.{still_writing, still_here}
-use Rattle.write_any.proofs.FirstStages.{free_so, form_many, few_count}
+use Rattle.write_any.proofs.FirstStages.{free_so}
 use Rattle.write_any.proofs.LastLog.{behind, last_is, block_is, has_last}
 use Rattle.write_any.proofs.LastBlock.{numbers_join, apart_front}
-use Rattle.write_any.proofs.LogBehind.{at_last, filled_last, fenced_last, fenced_behind, content_last, last_fenced}
+use Rattle.write_any.proofs.LogBehind.{filled_last, fenced_last, fenced_behind, content_last, last_fenced}
 use Rattle.write_any.proofs.Marks.{filled_seat_bare}
 use Rattle.write_any.proofs.PartLaws.{HasSameCall, filling_law}
 use Rattle.write_any.proofs.RoundFalls.{filling_log_falls}

@@ -1,12 +1,12 @@
 -- The stages of a write that link a log block, or give it back where another seat was faster, are lawful.
-use Rattle.std.proofs.Common.{◌≡◌, ◌≢◌, inl, inr, ℕ, ◌-◌, ◌*◌, ◌/◌, ◌%◌, ◌^◌, ◌==◌, Bool, true, false, List, [], ◌∷◌, ◌++◌, length, length-append, refl, sym, ap, subst, ◌∙◌, arith}
-use Rattle.std.proofs.lemmas.Bool.{eq-eqb, ne_eqb, or_left, or_right, and_from}
+use Rattle.std.proofs.Common.{◌≡◌, ◌≢◌, inl, inr, ℕ, ◌*◌, ◌/◌, ◌%◌, ◌^◌, ◌==◌, Bool, true, false, List, [], ◌∷◌, ◌++◌, length, refl, sym, ap, subst, ◌∙◌, arith}
+use Rattle.std.proofs.lemmas.Bool.{eq-eqb, ne_eqb, and_from}
 use Rattle.std.proofs.lemmas.List.{length-map}
 use Rattle.std.specs.Int.{bit_at}
 use Rattle.std.proofs.lemmas.Nat.Bits.{bit_at-pow_same}
 use Rattle.log_image.specs.Chains.{all_different, is_listed}
 use Rattle.log_entry.specs.declared.shapes.Area.TheVariants.{Log}
-use Rattle.pmem_words.specs.Owned.{owned_at, is_among, owned_but, contents_but}
+use Rattle.pmem_words.specs.Owned.{is_among, owned_but, contents_but}
 use Rattle.pmem_words.specs.declared.owned.OwnedBlock.{OwnedBlock}
 use Rattle.pmem_words.specs.Seats.{Seat}
 use Rattle.log_core.specs.Views.{Ghost}
@@ -29,7 +29,7 @@ use Rattle.write_any.specs.declared.give_one.GiveOne.{GiveOne}
 use Rattle.write_any.specs.GivingOne.{give_one_of}
 use Rattle.write_any.specs.GiveOneWithin.{HasGivenOne}
 use Rattle.write_any.specs.Writing.{at_stage, write_script, grown_so}
-use Rattle.write_any.specs.Composing.{HasLast, last_block, entry_for}
+use Rattle.write_any.specs.Composing.{entry_for}
 use Rattle.write_any.specs.WriteWithin.{MayWrite, HasWritten, unwritten}
 use Rattle.write_any.proofs.Embedding.{at_grow, at_give_log}
 use Rattle.write_any.proofs.GiveOne.{one_bit, give_one_law}
@@ -37,7 +37,7 @@ use Rattle.write_any.proofs.RoundFalls.{growing_falls, giving_log_falls}
 use Rattle.write_any.proofs.OfferLaw.{offering_law}
 use Rattle.write_any.proofs.LastLog.{block_is, block_owned, has_last}
 use Rattle.write_any.proofs.LastBlock.{owned_front, contents_front, apart_front}
-use Rattle.write_any.proofs.FirstStages.{takes_in, has_blocks, few_count, form_many}
+use Rattle.write_any.proofs.FirstStages.{takes_in, has_blocks}
 use Rattle.write_any.proofs.WriteStanding.{unmarked, IsWriting, AreWritten, OwnsWritten, OwnsLogBlock, BeforeWalk, AtSlot, BeforeGrow, BeforeGiveLog, WriteStands, StageStands}
 
 -- a block's bit is its own, and no other's
